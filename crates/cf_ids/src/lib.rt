@@ -1,0 +1,16 @@
+//! The numbers, answers and limits of which every layer speaks, and the list that stands inside
+//! entries, answers and scripts.
+#![tactic(auto)]
+
+mod answer;
+mod limits;
+mod numbers;
+mod sequence;
+
+pub use answer::{Answer, Ended};
+pub use limits::{
+    DEFAULT_LIMIT, FIELDS, HANDLERS, LARGEST_LIMIT, MODES, NOTICES, OBJECTS, SCRIPT_BYTES, THREADS,
+    TYPES, VARIABLES,
+};
+pub use numbers::{HandlerId, Item, ItemKind, ModeId, NameId, ObjId, ThreadId, TypeId, VarId};
+pub use sequence::Seq;

@@ -1,0 +1,43 @@
+-- Who holds a reference, finer than the owners that callers see. This project's own.
+use Rattle.std.specs.Prelude.{ℕ, Bool, true, false, ◌&&◌, ◌==◌}
+use Rattle.cf_graph.specs.declared.edge.Owner.{Owner}
+use Rattle.cf_graph.specs.declared.edge.Owner.TheVariants.{Thread, Parcel, Slot, Mode, Common}
+
+-- what a variable of a thread holds
+pub data Holder : Type 0 where
+  variable : (thread var : ℕ) → Holder
+
+-- a holder as numbers, by which two of them are told apart
+pub record Code : Type 0 where
+  pub kind : ℕ
+  pub first : ℕ
+  pub second : ℕ
+
+abbrev pub code_of : Holder → Code
+code_of (variable t v) = record { kind = 0; first = t; second = v }
+
+abbrev pub same_code : Code → Code → Bool
+same_code a b = (a.kind == b.kind) && ((a.first == b.first) && (a.second == b.second))
+
+abbrev pub same_holder : Holder → Holder → Bool
+same_holder a b = same_code (code_of a) (code_of b)
+
+-- the owner that callers see
+abbrev pub owner_of : Holder → Owner
+owner_of (variable t v) = Thread t
+
+-- threads and parcels own what they hold; all others hold it for an owner
+abbrev pub is_owning : Owner → Bool
+is_owning (Thread t) = true
+is_owning (Parcel t) = true
+is_owning (Slot b) = false
+is_owning (Mode t m) = false
+is_owning (Common t) = false
+
+-- the owner is this thread
+abbrev pub is_thread : ℕ → Owner → Bool
+is_thread t (Thread u) = t == u
+is_thread t (Parcel u) = false
+is_thread t (Slot b) = false
+is_thread t (Mode u m) = false
+is_thread t (Common u) = false

@@ -1,0 +1,5 @@
+pub mod LineLaws
+pub mod OnLiterals
+pub mod OwnedLaws
+pub mod WordLaws
+pub mod Sizes

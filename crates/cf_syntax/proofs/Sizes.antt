@@ -1,0 +1,105 @@
+-- A script has no more statements than its text has bytes.
+use Rattle.std.proofs.Common.{◌≡◌, ℕ, ◌+◌, ◌≤◌, Bool, true, false, cond, List, [], ◌∷◌, ◌++◌, length, Option, Some, None, refl, ap, arith, ◌==◌}
+use Rattle.std.specs.Prelude.{Result, Ok, Err, IfOk, codes, nat_lt, ◌&&◌}
+use Rattle.std.specs.Str.{is_utf8}
+use Rattle.std.proofs.lemmas.List.{length-map, length_push}
+use Rattle.cf_syntax.specs.declared.script.Block.{Block}
+use Rattle.cf_syntax.specs.declared.refusal.Refusal.{Refusal}
+use Rattle.cf_syntax.specs.Lines.{in_first, pieces, without_return, lines}
+use Rattle.cf_syntax.specs.Words.{says_nothing, words}
+use Rattle.cf_syntax.specs.Table.{◌>>=◌, required, statement_of}
+use Rattle.cf_syntax.specs.Text.{Opened, Reading, start, is_word, is_header, ended, continued, outside, inside, placed, formed, headed, said, after_line, read_from, whole, script_of}
+
+-- how many statements blocks have, and what has been read so far
+abbrev pub statements_of : List Block → ℕ
+statements_of [] = 0
+statements_of (b ∷ bs) = length b.statements + statements_of bs
+
+abbrev open_size : Option Opened → ℕ
+open_size None = 0
+open_size (Some b) = length b.statements
+
+abbrev size : Reading → ℕ
+size r = statements_of r.blocks + open_size r.block
+
+statements_of-append : (bs cs : List Block) → statements_of (bs ++ cs) ≡ statements_of bs + statements_of cs
+statements_of-append [] cs = omega arith
+statements_of-append (b ∷ bs) cs = omega (arith, statements_of-append bs cs)
+
+-- what holds of each step's value holds of the last one's
+bind_fine : {A B : Type 0} (r : Result A Refusal) (f : A → Result B Refusal) (P : B → Type 0) → ((x : A) → IfOk (f x) P) → IfOk (r >>= f) P
+bind_fine (Ok x) f P h = h x
+bind_fine (Err e) f P h = tt
+
+bind_kept : {A B : Type 0} (r : Result A Refusal) (f : A → Result B Refusal) (Q : A → Type 0) (P : B → Type 0) → IfOk r Q → ((x : A) → Q x → IfOk (f x) P) → IfOk (r >>= f) P
+bind_kept (Ok x) f Q P q h = h x q
+bind_kept (Err e) f Q P q h = tt
+
+cond_fine : {A : Type 0} (b : Bool) (x y : Result A Refusal) (P : A → Type 0) → IfOk x P → IfOk y P → IfOk (cond b x y) P
+cond_fine true x y P p q = p
+cond_fine false x y P p q = q
+
+weaker : {A : Type 0} (r : Result A Refusal) (P Q : A → Type 0) → IfOk r P → ((x : A) → P x → Q x) → IfOk r Q
+weaker (Ok x) P Q p h = h x p
+weaker (Err e) P Q p h = tt
+
+-- a line brings one statement at most
+abbrev Grows : Reading → Reading → Type 0
+Grows r s = size s ≤ size r + 1
+
+continued_fine : (b : Opened) (line : ℕ) (ws : List (List ℕ)) → IfOk (continued b line ws) (λ c. length c.statements ≤ length b.statements + 1)
+continued_fine b line ws = bind_fine (statement_of b.names ws) _ _ (λ s. omega (arith, length_push b.statements s.value))
+
+inside_fine : (r : Reading) (b : Opened) (line : ℕ) (ws : List (List ℕ)) → r.block ≡ Some b → IfOk (inside r.blocks b line ws) (Grows r)
+unfolding inside
+inside_fine r b line ws e =
+    let here : size r ≡ statements_of r.blocks + length b.statements = ap (λ (o : Option Opened). statements_of r.blocks + open_size o) e in
+    cond_fine (is_word ws (codes "end")) _ _ (Grows r)
+    (omega (arith, here, statements_of-append r.blocks (ended b line ∷ [])))
+    (bind_kept (continued b line ws) _ _ (Grows r) (continued_fine b line ws) (λ c g. omega (arith, here, g)))
+
+outside_fine : (r : Reading) (line : ℕ) (ws : List (List ℕ)) → r.block ≡ None → IfOk (outside r.blocks line ws) (Grows r)
+unfolding outside
+outside_fine r line ws e =
+    let here : size r ≡ statements_of r.blocks + 0 = ap (λ (o : Option Opened). statements_of r.blocks + open_size o) e in
+    bind_fine (required (is_word ws (codes "setup"))) _ (Grows r) (λ _. bind_fine (required (length r.blocks == 0)) _ (Grows r) (λ _. omega (arith, here)))
+
+placed_fine : (r : Reading) (o : Option Opened) (line : ℕ) (ws : List (List ℕ)) → r.block ≡ o → IfOk (placed r.blocks o line ws) (Grows r)
+placed_fine r None line ws e = outside_fine r line ws e
+placed_fine r (Some b) line ws e = inside_fine r b line ws e
+
+headed_fine : (r : Reading) (ws : List (List ℕ)) → IfOk (headed r ws) (Grows r)
+unfolding headed
+headed_fine r ws = bind_fine (required (is_header ws)) _ (Grows r) (λ _. omega arith)
+
+said_fine : (r : Reading) (line : List ℕ) → IfOk (said r line) (Grows r)
+unfolding said
+said_fine r line = bind_fine (formed (words line)) _ (Grows r) (λ ws. cond_fine (r.count == 0) _ _ (Grows r) (headed_fine r ws) (placed_fine r r.block (r.count + 1) ws refl))
+
+line_fine : (r : Reading) (line : List ℕ) → IfOk (after_line r line) (Grows r)
+unfolding after_line
+line_fine r line = bind_fine (required (is_utf8 line)) _ (Grows r) (λ _. cond_fine (nat_lt 0 r.count && says_nothing line) _ _ (Grows r) (omega arith) (said_fine r line))
+
+read_fine : (r : Reading) (ls : List (List ℕ)) → IfOk (read_from r ls) (λ s. size s ≤ size r + length ls)
+read_fine r [] = omega arith
+read_fine r (l ∷ ls) = bind_kept (after_line r l) (λ s. read_from s ls) (Grows r) _ (line_fine r l) (λ s g. weaker (read_from s ls) _ _ (read_fine s ls) (λ x h. omega (arith, g, h)))
+
+in_first-length : (b : ℕ) (ls : List (List ℕ)) → length (in_first b ls) ≤ length ls + 1
+in_first-length b [] = omega arith
+in_first-length b (l ∷ ls) = omega arith
+
+piece_test : (b : ℕ) (bs : List ℕ) (ps : List (List ℕ)) (t : Bool) → length ps ≤ length bs → length (cond t ([] ∷ ps) (in_first b ps)) ≤ length (b ∷ bs)
+piece_test b bs ps true h = omega arith
+piece_test b bs ps false h = omega (arith, in_first-length b ps)
+
+pieces-length : (bs : List ℕ) → length (pieces bs) ≤ length bs
+pieces-length [] = omega arith
+pieces-length (b ∷ bs) = piece_test b bs (pieces bs) (b == 10) (pieces-length bs)
+
+whole_fine : (blocks : List Block) (o : Option Opened) → IfOk (whole blocks o) (λ s. statements_of s.blocks ≤ statements_of blocks)
+whole_fine blocks None = bind_fine (required (nat_lt 0 (length blocks))) _ _ (λ _. omega arith)
+whole_fine blocks (Some b) = tt
+
+pub statements-within : (bs : List ℕ) → IfOk (script_of bs) (λ s. statements_of s.blocks ≤ length bs)
+unfolding script_of
+statements-within bs = bind_kept (read_from start (lines bs)) (λ r. whole r.blocks r.block) _ _ (read_fine start (lines bs)) (λ r h. weaker (whole r.blocks r.block) _ _ (whole_fine r.blocks r.block) (λ s w. omega (arith, w, h, length-map (pieces bs) without_return, pieces-length bs)))

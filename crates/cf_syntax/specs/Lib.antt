@@ -1,0 +1,7 @@
+pub mod Forms
+pub mod Lines
+pub mod Owned
+pub mod Rows
+pub mod Table
+pub mod Text
+pub mod Words

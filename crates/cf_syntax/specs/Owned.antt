@@ -1,0 +1,89 @@
+-- An owned script: each variable is bound once, used only where it is bound, and released no more
+-- often than it owns references. After the ownership rule of the Memory Management guide: who makes or
+-- retains an object owns a reference, and releases it. A count is a sum over the earlier statements.
+use Rattle.std.specs.Prelude.{◌≡◌, ℕ, ◌+◌, Bool, true, ◌&&◌, List, [], ◌∷◌, ◌++◌, false, ◌==◌, nat_lt, if◌then◌else◌}
+use Rattle.cf_syntax.specs.declared.statement.Statement.{Statement}
+use Rattle.cf_syntax.specs.declared.statement.Touch.{Touch}
+use Rattle.cf_syntax.specs.declared.statement.Touch.TheVariants.{Nothing, Binds, Plus, Minus}
+use Rattle.cf_syntax.specs.declared.script.Script.{Script}
+use Rattle.cf_syntax.specs.declared.script.Block.{Block}
+use Rattle.cf_syntax.specs.declared.refusal.Refusal.{Refusal}
+use Rattle.cf_syntax.specs.declared.refusal.Reason.TheVariants.{Unread}
+use Rattle.cf_syntax.specs.Forms.{touch_of, used_by}
+
+-- 1 for the variable itself
+abbrev pub one_of : ℕ → ℕ → ℕ
+one_of v w = if v == w then 1 else 0
+
+-- how often a touch binds a variable
+abbrev pub bound_by : ℕ → Touch → ℕ
+bound_by v Nothing = 0
+bound_by v (Binds w) = one_of v w
+bound_by v (Plus w) = 0
+bound_by v (Minus w) = 0
+
+-- how many references a touch gives to a variable
+abbrev pub given_by : ℕ → Touch → ℕ
+given_by v Nothing = 0
+given_by v (Binds w) = one_of v w
+given_by v (Plus w) = one_of v w
+given_by v (Minus w) = 0
+
+-- how many it takes
+abbrev pub taken_by : ℕ → Touch → ℕ
+taken_by v Nothing = 0
+taken_by v (Binds w) = 0
+taken_by v (Plus w) = 0
+taken_by v (Minus w) = one_of v w
+
+-- the sum of a number of each statement
+abbrev pub total : (Touch → ℕ) → List Statement → ℕ
+total f [] = 0
+total f (s ∷ ss) = f (touch_of s) + total f ss
+
+-- how often statements bind a variable, and how many references they give to it and take from it
+abbrev pub bound : ℕ → List Statement → ℕ
+bound v ss = total (bound_by v) ss
+
+abbrev pub given : ℕ → List Statement → ℕ
+given v ss = total (given_by v) ss
+
+abbrev pub taken : ℕ → List Statement → ℕ
+taken v ss = total (taken_by v) ss
+
+-- a variable that is used is bound before, and owns a reference
+abbrev pub may_use : List Statement → ℕ → Bool
+may_use earlier v = nat_lt 0 (bound v earlier) && nat_lt (taken v earlier) (given v earlier)
+
+-- a variable that is to be bound is not bound before
+abbrev pub may_touch : List Statement → Touch → Bool
+may_touch earlier Nothing = true
+may_touch earlier (Binds v) = bound v earlier == 0
+may_touch earlier (Plus v) = true
+may_touch earlier (Minus v) = true
+
+abbrev pub may_use_all : List Statement → List ℕ → Bool
+may_use_all earlier [] = true
+may_use_all earlier (v ∷ vs) = may_use earlier v && may_use_all earlier vs
+
+-- a statement behind earlier ones has no fault
+abbrev pub is_fit : List Statement → Statement → Bool
+is_fit earlier s = may_touch earlier (touch_of s) && may_use_all earlier (used_by s)
+
+-- statements behind earlier ones have no fault
+abbrev pub are_fit : List Statement → List Statement → Bool
+are_fit earlier [] = true
+are_fit earlier (s ∷ ss) = is_fit earlier s && are_fit (earlier ++ s ∷ []) ss
+
+-- the blocks have no fault
+abbrev pub blocks_fit : List Block → Bool
+blocks_fit [] = true
+blocks_fit (b ∷ bs) = are_fit [] b.statements && blocks_fit bs
+
+-- no word of the script has a fault
+abbrev pub Owned : Script → Type 0
+Owned s = blocks_fit s.blocks ≡ true
+
+-- the refusal of a script that is not owned
+abbrev pub Unfit : Script → Refusal → Type 0
+Unfit s r = (blocks_fit s.blocks ≡ false) × (r ≡ record { line = 0; reason = Unread })

@@ -1,0 +1,141 @@
+-- The script that a text is. This project's own: line 1 is `cf 1`, and a block goes from a line `setup`
+-- to a line `end`, with a statement on each line between.
+use Rattle.std.specs.Prelude.{◌≡◌, ℕ, ◌+◌, Bool, ◌&&◌, List, [], ◌∷◌, ◌++◌, length, codes, Result, Ok, Err, Option, Some, None, nat_lt, ◌==◌, if◌then◌else◌}
+use Rattle.std.specs.Str.{bytes_eq, is_utf8}
+use Rattle.cf_syntax.specs.declared.script.Script.{Script}
+use Rattle.cf_syntax.specs.declared.script.Block.{Block}
+use Rattle.cf_syntax.specs.declared.statement.Statement.{Statement}
+use Rattle.cf_syntax.specs.declared.refusal.Refusal.{Refusal}
+use Rattle.cf_syntax.specs.Lines.{lines}
+use Rattle.cf_syntax.specs.Words.{says_nothing, words}
+use Rattle.cf_syntax.specs.Table.{◌>>=◌, unread, required, word_at, statement_of, With}
+
+-- a block that is not ended: its variables, its statements, their lines, and its first line
+pub record Opened : Type 0 where
+  pub names : List (List ℕ)
+  pub statements : List Statement
+  pub numbers : List ℕ
+  pub first : ℕ
+
+-- what the lines so far made: how many they are, the blocks that are ended, and the one that is not
+pub record Reading : Type 0 where
+  pub count : ℕ
+  pub blocks : List Block
+  pub block : Option Opened
+
+abbrev pub start : Reading
+start = record { count = 0; blocks = []; block = None }
+
+-- a line is one word
+abbrev pub is_word : List (List ℕ) → List ℕ → Bool
+is_word ws word = length ws == 1 && bytes_eq (word_at ws 0) word
+
+-- line 1
+abbrev pub is_header : List (List ℕ) → Bool
+is_header ws = length ws == 2 && (bytes_eq (word_at ws 0) (codes "cf") && bytes_eq (word_at ws 1) (codes "1"))
+
+-- the block that a line with this number ends
+abbrev pub ended : Opened → ℕ → Block
+ended b line = record {
+  name = codes "setup";
+  uses = [];
+  variables = b.names;
+  statements = b.statements;
+  lines = b.numbers;
+  first = b.first;
+  last = line;
+}
+
+-- the block that a line with this number begins
+abbrev pub begun : ℕ → Opened
+begun line = record { names = []; statements = []; numbers = []; first = line }
+
+-- a block with a statement more
+abbrev pub with_statement : Opened → With Statement → ℕ → Opened
+with_statement b s line = record {
+  names = s.names;
+  statements = b.statements ++ s.value ∷ [];
+  numbers = b.numbers ++ line ∷ [];
+  first = b.first;
+}
+
+-- a line with this number outside a block: it begins setup, and there is one setup
+unfoldable pub outside : List Block → ℕ → List (List ℕ) → Result Reading Refusal
+outside blocks line ws = do
+  _ ← required (is_word ws (codes "setup"))
+  _ ← required (length blocks == 0)
+  Ok (record { count = line; blocks = blocks; block = Some (begun line) })
+
+-- a block with the statement of a line with this number
+abbrev pub continued : Opened → ℕ → List (List ℕ) → Result Opened Refusal
+continued b line ws = do
+  s ← statement_of b.names ws
+  Ok (with_statement b s line)
+
+-- a line with this number inside a block: its end, or a statement
+unfoldable pub inside : List Block → Opened → ℕ → List (List ℕ) → Result Reading Refusal
+inside blocks b line ws =
+    if is_word ws (codes "end") then Ok (record { count = line; blocks = blocks ++ ended b line ∷ []; block = None })
+    else (do
+      c ← continued b line ws
+      Ok (record { count = line; blocks = blocks; block = Some c }))
+
+-- a line with this number, by its words, behind line 1
+abbrev pub placed : List Block → Option Opened → ℕ → List (List ℕ) → Result Reading Refusal
+placed blocks None line ws = outside blocks line ws
+placed blocks (Some b) line ws = inside blocks b line ws
+
+-- the words of a line, where each is of its form
+abbrev pub formed : Option (List (List ℕ)) → Result (List (List ℕ)) Refusal
+formed None = Err unread
+formed (Some ws) = Ok ws
+
+-- line 1, by its words
+unfoldable pub headed : Reading → List (List ℕ) → Result Reading Refusal
+headed r ws = do
+  _ ← required (is_header ws)
+  Ok (record { count = 1; blocks = r.blocks; block = r.block })
+
+-- a line that says something, by its words
+abbrev pub spoken : Reading → List (List ℕ) → Result Reading Refusal
+spoken r ws = if r.count == 0 then headed r ws else placed r.blocks r.block (r.count + 1) ws
+
+-- a line that says something
+unfoldable pub said : Reading → List ℕ → Result Reading Refusal
+said r line = do
+  ws ← formed (words line)
+  spoken r ws
+
+-- A line more. Its bytes are UTF-8. Behind line 1 a line may say nothing.
+unfoldable pub after_line : Reading → List ℕ → Result Reading Refusal
+after_line r line = do
+  _ ← required (is_utf8 line)
+  if nat_lt 0 r.count && says_nothing line then Ok (record { count = r.count + 1; blocks = r.blocks; block = r.block }) else said r line
+
+-- lines more
+abbrev pub read_from : Reading → List (List ℕ) → Result Reading Refusal
+read_from r [] = Ok r
+read_from r (l ∷ ls) = do
+  s ← after_line r l
+  read_from s ls
+
+-- the script at the end of the text: no block is open, and there was one
+abbrev pub whole : List Block → Option Opened → Result Script Refusal
+whole blocks (Some b) = Err unread
+whole blocks None = do
+  _ ← required (nat_lt 0 (length blocks))
+  Ok (record { blocks = blocks })
+
+-- the script that bytes are the text of, or the refusal of the bytes
+unfoldable pub script_of : List ℕ → Result Script Refusal
+script_of bs = do
+  r ← read_from start (lines bs)
+  whole r.blocks r.block
+
+-- bytes are the text of a script
+abbrev pub Text : List ℕ → Script → Type 0
+Text bs s = script_of bs ≡ Ok s
+
+-- bytes are refused
+abbrev pub Refused : List ℕ → Refusal → Type 0
+Refused bs r = script_of bs ≡ Err r

@@ -1,0 +1,17 @@
+//! What a script is: its blocks and statements, the refusals of a text, and the definitions of a
+//! script's text and of an owned script.
+#![tactic(auto)]
+
+mod form;
+mod place;
+mod refusal;
+mod rows;
+mod script;
+mod statement;
+
+pub use form::{Class, Form};
+pub use place::Place;
+pub use refusal::{Reason, Refusal};
+pub use rows::a_text_and_its_script;
+pub use script::{Block, Given, Script};
+pub use statement::{Statement, Touch};

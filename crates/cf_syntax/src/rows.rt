@@ -1,0 +1,9 @@
+//! Texts and the scripts that they are, which the check computes.
+ghost use Rattle.std.specs.Prelude.{◌≡◌};
+ghost use Rattle.cf_syntax.specs.Text.{Text};
+ghost use Rattle.cf_syntax.specs.Rows.{small_text, small_script};
+
+/// A text of five lines and its script.
+pub fn a_text_and_its_script()
+    ensures { Text small_text small_script }
+{}

@@ -1,0 +1,46 @@
+-- The step of the action that a frame demands is that of the frame's statement.
+use Rattle.std.proofs.Common.{◌≡◌, ℕ, Option, Some, None, length, refl, ap, ◌∙◌}
+use Rattle.cf_syntax.specs.declared.script.Script.{Script}
+use Rattle.cf_syntax.specs.declared.statement.Statement.{Statement}
+use Rattle.cf_syntax.specs.declared.statement.Statement.TheVariants as forms
+use Rattle.cf_syntax.specs.declared.statement.Touch.{Touch}
+use Rattle.cf_syntax.specs.declared.statement.Touch.TheVariants.{Nothing, Binds, Plus, Minus}
+use Rattle.cf_syntax.specs.Forms.{touch_of}
+use Rattle.cf_ids.specs.declared.answer.Answer.{Answer}
+use Rattle.cf_model.specs.State.{State, Frame}
+use Rattle.cf_model.specs.Deeds.{Site, site_of, action_of}
+use Rattle.cf_model.specs.Steps.{Step, step_of, step_with, step_at, step_for, statement_in, first_of}
+use Rattle.cf_model.specs.Journals.{used_objects, next_of, demanded}
+use Rattle.cf_model.specs.Finals.{final_if, final_of}
+
+-- the site of a statement's action is where it was made
+pub site_of-action_of : (s : Statement) (site : Site) → site_of (action_of s site) ≡ Some site
+site_of-action_of (forms.Release v) site = refl
+site_of-action_of _ site = refl
+
+-- where a frame's statement stands, and the objects of its variables
+abbrev pub site_in : Frame → Statement → Site
+site_in f s = record { block = f.block; number = f.number; used = used_objects f.bindings s }
+
+abbrev pub frame_step : State → Option Statement → Option Step
+frame_step st None = None
+frame_step st (Some s) = Some (step_of s (used_objects st.frame.bindings s) (length st.objects))
+
+demanded_by : (s : Script) (st : State) (o : Option Statement) → statement_in s st.frame.block st.frame.number ≡ o → step_for s st (next_of st.frame o) ≡ frame_step st o
+demanded_by s st None e = refl
+demanded_by s st (Some x) e =
+    ap (step_at s st) (site_of-action_of x (site_in st.frame x)) ∙ ap (step_with st (site_in st.frame x)) e
+
+pub step_for-demanded : (s : Script) (st : State) → step_for s st (demanded s st.frame) ≡ frame_step st (statement_in s st.frame.block st.frame.number)
+step_for-demanded s st = demanded_by s st (statement_in s st.frame.block st.frame.number) refl
+
+-- only a touch that takes a reference finalises
+abbrev pub final_at : Touch → Answer → Option ℕ → Option ℕ
+final_at Nothing answer o = None
+final_at (Binds v) answer o = None
+final_at (Plus v) answer o = None
+final_at (Minus v) answer o = final_if answer o
+
+pub final_of-action_of : (s : Statement) (site : Site) (answer : Answer) → final_of (action_of s site) answer ≡ final_at (touch_of s) answer (first_of site.used)
+final_of-action_of (forms.Release v) site answer = refl
+final_of-action_of _ site answer = refl

@@ -1,0 +1,48 @@
+-- Finalised at most once, never used later, and unfinalised exactly where a reference is left. This
+-- project's own, after the ownership rule.
+use Rattle.std.specs.Prelude.{◌≡◌, ℕ, ◌+◌, ◌<◌, ◌≤◌, ◌↔◌, ◌⊎◌, List, [], ◌∷◌, ◌++◌, Option, Some, None, IsTrue, if◌then◌else◌, ◌==◌}
+use Rattle.cf_ids.specs.declared.answer.Answer.{Answer}
+use Rattle.cf_ids.specs.declared.answer.Answer.TheVariants as answers
+use Rattle.cf_syntax.specs.declared.script.Script.{Script}
+use Rattle.cf_graph.specs.Edges.{weigh, owning, holding}
+use Rattle.cf_model.specs.declared.action.Action.{Action}
+use Rattle.cf_model.specs.declared.action.Action.TheVariants as actions
+use Rattle.cf_model.specs.declared.action.Entry.{Entry}
+use Rattle.cf_model.specs.State.{State, is_made}
+use Rattle.cf_model.specs.Steps.{first_of}
+use Rattle.cf_model.specs.Journals.{After, used_of}
+
+-- the object that an entry finalises: it is a release, and it answers so
+abbrev pub final_if : Answer → Option ℕ → Option ℕ
+final_if (answers.Final c) o = o
+final_if _ o = None
+
+abbrev pub final_of : Action → Answer → Option ℕ
+final_of (actions.Release b n used) answer = final_if answer (first_of used)
+final_of _ answer = None
+
+abbrev pub one_at : ℕ → Option ℕ → ℕ
+one_at o None = 0
+one_at o (Some p) = if p == o then 1 else 0
+
+-- how many entries finalise an object
+abbrev pub finals : ℕ → List Entry → ℕ
+finals o [] = 0
+finals o (e ∷ es) = one_at o (final_of e.action e.answer) + finals o es
+
+-- how often an object stands among those that an action uses
+abbrev pub uses : ℕ → List (Option ℕ) → ℕ
+uses o [] = 0
+uses o (p ∷ os) = one_at o p + uses o os
+
+-- an object is owned where a reference from a thread or a parcel leads to it, and held where another does
+abbrev pub IsOwned : State → ℕ → Type 0
+IsOwned st o = 0 < weigh (owning o) st.edges
+
+abbrev pub IsHeld : State → ℕ → Type 0
+IsHeld st o = 0 < weigh (holding o) st.edges
+
+pub record FinalsFit (s : Script) (es : List Entry) : Type 0 where
+  pub once : (o : ℕ) → finals o es ≤ 1
+  pub unused : (earlier later : List Entry) (e : Entry) (o : ℕ) → es ≡ earlier ++ e ∷ later → 0 < finals o earlier → uses o (used_of e.action) ≡ 0
+  pub left : (o : ℕ) → IsTrue (is_made (After s es) o) → (finals o es ≡ 0) ↔ (IsOwned (After s es) o ⊎ IsHeld (After s es) o)

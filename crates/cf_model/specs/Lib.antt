@@ -1,0 +1,9 @@
+pub mod State
+pub mod Deeds
+pub mod Steps
+pub mod Journals
+pub mod Finals
+pub mod Serial
+pub mod Changes
+pub mod Rendering
+pub mod Rows

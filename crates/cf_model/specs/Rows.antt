@@ -1,0 +1,21 @@
+-- One string from its script to its lines, by which the definitions can be compared with what they are
+-- meant to say.
+use Rattle.std.specs.Prelude.{ℕ, List, [], ◌∷◌, Option, Some, None, codes}
+use Rattle.cf_ids.specs.declared.answer.Answer.TheVariants as answers
+use Rattle.cf_model.specs.declared.action.Action.TheVariants as actions
+use Rattle.cf_model.specs.declared.action.Entry.{Entry}
+use Rattle.cf_model.specs.Deeds.{string_class}
+
+abbrev nothing : List (Option ℕ)
+nothing = None ∷ None ∷ None ∷ []
+
+-- a string is made and released, and the thread is done
+abbrev pub small_journal : List Entry
+small_journal =
+    record { thread = 0; action = actions.MakeString 0 0 nothing; answer = answers.Object 0 }
+    ∷ record { thread = 0; action = actions.Release 0 1 (Some 0 ∷ None ∷ None ∷ []); answer = answers.Final string_class }
+    ∷ record { thread = 0; action = actions.Done; answer = answers.Ok }
+    ∷ []
+
+abbrev pub small_rendering : List ℕ
+small_rendering = codes "t0 release #0 final String\nend done events 3 objects 1 finals 1 alive 0\n"

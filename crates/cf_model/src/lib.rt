@@ -1,0 +1,15 @@
+//! The model of a run: actions and entries, the state that a journal leaves, which journals are
+//! legal, and what is written of one. Bodies elsewhere are proved against these definitions.
+#![tactic(auto)]
+
+mod action;
+mod deed;
+mod ending;
+mod laws;
+mod rows;
+
+pub use action::{Action, Entry};
+pub use deed::{Deed, Source};
+pub use ending::Ending;
+pub use laws::finals_of_legal_journals;
+pub use rows::a_script_and_its_lines;

@@ -1,0 +1,64 @@
+-- A name among names that are owned.
+use Rattle.std.proofs.Common.{◌≡◌, ℕ, ◌+◌, ◌<◌, ◌≤◌, Bool, true, false, cond, not, List, [], ◌∷◌, ◌++◌, length, Some, None, Ok, Err, refl, ap, sym, ◌∙◌, ltb}
+use Rattle.std.specs.Prelude.{◌||◌, nat_lt, if◌then◌else◌, position}
+use Rattle.std.specs.List.{list_any, position_or_len}
+use Rattle.std.specs.Str.{bytes_eq}
+use Rattle.std.specs.Global.{Vec}
+use Rattle.std.proofs.lemmas.Bool.{lt-ltb, le-ltb}
+use Rattle.std.proofs.lemmas.List.{map_push}
+use Rattle.cf_syntax.specs.Table.{unread, with_name, numbered}
+use Rattle.cf_script.specs.Views.{texts}
+
+position_texts : (word : List ℕ) (names : List (Vec ℕ)) → position_or_len (bytes_eq word) (texts names) ≡ position_or_len (λ n. bytes_eq word n.items) names
+position_texts word [] = refl
+position_texts word (n ∷ ns) = ap (λ (i : ℕ). cond (not (bytes_eq word n.items)) (1 + i) 0) (position_texts word ns)
+
+any_texts : (word : List ℕ) (names : List (Vec ℕ)) → list_any (bytes_eq word) (texts names) ≡ list_any (λ n. bytes_eq word n.items) names
+any_texts word [] = refl
+any_texts word (n ∷ ns) = ap (λ (t : Bool). bytes_eq word n.items || t) (any_texts word ns)
+
+some_is : (t : Bool) (n i : ℕ) → cond t (Some n) None ≡ Some i → i ≡ n
+some_is true n i e = cc
+some_is false n i e = absurd cc
+
+-- the place of a name that is there
+pub place_found : (word : List ℕ) (names : List (Vec ℕ)) (place : ℕ) → position (λ n. bytes_eq word n.items) names ≡ Some place → place ≡ position_or_len (bytes_eq word) (texts names)
+place_found word names place e =
+    let n = position_or_len (λ (v : Vec ℕ). bytes_eq word v.items) names in
+    some_is (ltb n (length names)) n place e ∙ sym (position_texts word names)
+
+-- and of one that is put in
+pub place_new : (word : List ℕ) (value : Vec ℕ) (names : List (Vec ℕ)) (place : ℕ) → value.items ≡ word → place ≡ position_or_len (λ n. bytes_eq value.items n.items) names → place ≡ position_or_len (bytes_eq word) (texts names)
+place_new word value names place e is = is ∙ ap (λ (w : List ℕ). position_or_len (λ (n : Vec ℕ). bytes_eq w n.items) names) e ∙ sym (position_texts word names)
+
+kept : (t : Bool) (names more : List (List ℕ)) → t ≡ true → names ≡ cond t names more
+kept true names more e = refl
+kept false names more e = absurd cc
+
+-- the names with a name that is there
+pub names_found : (word : List ℕ) (names : List (Vec ℕ)) → list_any (λ n. bytes_eq word n.items) names ≡ true → texts names ≡ with_name (texts names) word
+names_found word names e = kept (list_any (bytes_eq word) (texts names)) (texts names) (texts names ++ word ∷ []) (any_texts word names ∙ e)
+
+-- the names after an insert
+abbrev pub inserted : Vec ℕ → List (Vec ℕ) → List (Vec ℕ)
+inserted value names = if list_any (λ n. bytes_eq value.items n.items) names then names else names ++ value ∷ []
+
+texts_both : (t : Bool) (value : Vec ℕ) (names : List (Vec ℕ)) → texts (cond t names (names ++ value ∷ [])) ≡ cond t (texts names) (texts names ++ value.items ∷ [])
+texts_both true value names = refl
+texts_both false value names = map_push (λ n. n.items) names value
+
+pub names_new : (word : List ℕ) (value : Vec ℕ) (names after : List (Vec ℕ)) → value.items ≡ word → after ≡ inserted value names → texts after ≡ with_name (texts names) word
+names_new word value names after e is =
+    ap texts is ∙ texts_both (list_any (λ n. bytes_eq value.items n.items) names) value names
+    ∙ ap (λ (t : Bool). cond t (texts names) (texts names ++ value.items ∷ [])) (sym (any_texts value.items names)) ∙ ap (with_name (texts names)) e
+
+number_by : (names : List (List ℕ)) (word : List ℕ) (t : Bool) → nat_lt (position_or_len (bytes_eq word) names) 256 ≡ t
+    → numbered names word ≡ cond t (Ok (record { names = with_name names word; value = position_or_len (bytes_eq word) names })) (Err unread)
+number_by names word t e = rw e refl
+
+pub number_refused : (names : List (List ℕ)) (word : List ℕ) (place : ℕ) → place ≡ position_or_len (bytes_eq word) names → 256 ≤ place → numbered names word ≡ Err unread
+number_refused names word place is large = number_by names word false (rw (← is) (le-ltb place 256 large))
+
+pub number_given : (names after : List (List ℕ)) (word : List ℕ) (place : ℕ) → place ≡ position_or_len (bytes_eq word) names → after ≡ with_name names word → place < 256
+    → numbered names word ≡ Ok (record { names = after; value = place })
+number_given names after word place is kept small = number_by names word true (rw (← is) (lt-ltb place 256 small)) ∙ rw (← kept, ← is) refl

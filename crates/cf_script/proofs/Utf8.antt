@@ -1,0 +1,13 @@
+-- What `from_utf8` says of the test.
+use Rattle.std.proofs.Common.{◌≡◌, ℕ, true, false, List, inl, inr}
+use Rattle.std.specs.Str.{IsUtf8, is_utf8}
+use Rattle.std.proofs.lemmas.Bool.{cases_Bool}
+use Rattle.std.proofs.lemmas.Str.{IsUtf8-from_is_utf8, is_utf8-from_IsUtf8}
+
+pub is_some_utf8 : (bs : List ℕ) → IsUtf8 bs → is_utf8 bs ≡ true
+is_some_utf8 bs fits = is_utf8-from_IsUtf8 bs fits
+
+pub is_no_utf8 : (bs : List ℕ) → ¬ (IsUtf8 bs) → is_utf8 bs ≡ false
+is_no_utf8 bs not_so = elim (cases_Bool (is_utf8 bs)) [ inl t ↦ absurd (not_so (IsUtf8-from_is_utf8 bs t)) | inr f ↦ f ]
+
+pub ruleset utf8_answers = (is_some_utf8, is_no_utf8)

@@ -1,0 +1,12 @@
+-- What a block that is open, and the lines so far, stand for.
+use Rattle.std.specs.Option.{option_map}
+use Rattle.cf_syntax.specs.Text.{Opened, Reading}
+use Rattle.cf_script.specs.declared.block.OpenBlock.{OpenBlock}
+use Rattle.cf_script.specs.declared.block.Reader.{Reader}
+use Rattle.cf_script.specs.Views.{texts}
+
+abbrev pub opened_of : OpenBlock → Opened
+opened_of b = record { names = texts b.names.keys; statements = b.statements.items; numbers = b.lines.items; first = b.first }
+
+abbrev pub reading_of : Reader → Reading
+reading_of r = record { count = r.count; blocks = r.blocks.items; block = option_map opened_of r.block }

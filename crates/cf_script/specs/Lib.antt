@@ -1,0 +1,7 @@
+pub mod BlockViews
+pub mod Counting
+pub mod Gives
+pub mod Judges
+pub mod NamesViews
+pub mod TableViews
+pub mod Views

@@ -1,0 +1,227 @@
+//! The lines of a script, one after another.
+ghost use Rattle.std.specs.Prelude.{◌≡◌, ◌+◌, ◌<◌, ◌^◌, ◌∷◌, ◌++◌, [], Ok, None, IfOk};
+ghost use Rattle.std.specs.Option.{option_map};
+ghost use Rattle.cf_syntax.specs.Text.{is_word, is_header, ended, outside, inside, continued, headed, spoken, after_line, whole};
+ghost use Rattle.cf_script.specs.Gives.{GivesAs, Gives};
+ghost use Rattle.cf_script.specs.Views.{lent};
+ghost use Rattle.cf_script.specs.BlockViews.{opened_of, reading_of};
+
+use crate::fault::{ScriptFault, UNREAD};
+use crate::lines::{is_utf8, says_nothing};
+use crate::names::variables;
+use crate::table::{Stated, statement_of};
+use crate::words::{is, split_words, word_at};
+use cf_ids::Seq;
+use cf_syntax::{Block, Script, Statement};
+use indexmap::IndexSet;
+use std::alloc::Global;
+
+/// A block whose `end` is still to come.
+#[derive(Drop)]
+pub(crate) struct OpenBlock {
+    pub names: IndexSet<Vec<u8>>,
+    pub statements: Vec<Statement>,
+    pub lines: Vec<u32>,
+    pub first: u32,
+}
+
+/// What the lines so far made.
+#[derive(Drop)]
+pub(crate) struct Reader {
+    /// How many they are.
+    pub count: u32,
+    pub blocks: Vec<Block>,
+    pub block: Option<OpenBlock>,
+}
+
+/// Whether a line is this one word.
+fn is_word(words: &[&[u8]], word: &[u8]) -> bool
+    ensures { result ≡ is_word (lent words.now) word.now }
+{
+    words.len() == 1 && is(word_at(words, 0), word)
+}
+
+/// Whether a line is `cf 1`.
+fn is_header(words: &[&[u8]]) -> bool
+    ensures { result ≡ is_header (lent words.now) }
+{
+    words.len() == 2 && is(word_at(words, 0), b"cf") && is(word_at(words, 1), b"1")
+}
+
+/// The line with this number, where no block is open.
+#[tactic(auto, unfolding(cf_syntax::specs::Text::outside))]
+fn outside(
+    alloc: Global,
+    blocks: Vec<Block>,
+    line: u32,
+    words: &[&[u8]],
+) -> Result<Reader, ScriptFault>
+    ensures read { GivesAs reading_of result (outside blocks.items line (lent words.now)) }
+    ensures count { IfOk result (λ r. r.count ≡ line) }
+{
+    if !is_word(words, b"setup") {
+        return Err(ScriptFault::Refused(UNREAD));
+    }
+    if !blocks.is_empty() {
+        return Err(ScriptFault::Refused(UNREAD));
+    }
+    let block = OpenBlock {
+        names: IndexSet::new(alloc),
+        statements: Vec::new(alloc),
+        lines: Vec::new(alloc),
+        first: line,
+    };
+    Ok(Reader {
+        count: line,
+        blocks,
+        block: Some(block),
+    })
+}
+
+/// The block that this line ends.
+fn ended(alloc: Global, block: OpenBlock, line: u32) -> Result<Block, ScriptFault>
+    ensures { GivesAs (λ b. b) result (Ok (ended (opened_of block) line)) }
+{
+    let OpenBlock {
+        names,
+        statements,
+        lines,
+        first,
+    } = block;
+    Ok(Block {
+        name: Seq::from_vec(Vec::from_slice(alloc, b"setup")?),
+        uses: Seq::from_vec(Vec::new(alloc)),
+        variables: variables(alloc, names)?,
+        statements: Seq::from_vec(statements),
+        lines: Seq::from_vec(lines),
+        first,
+        last: line,
+    })
+}
+
+/// A block with the statement of the line with this number.
+fn with_line(
+    alloc: Global,
+    block: OpenBlock,
+    line: u32,
+    words: &[&[u8]],
+) -> Result<OpenBlock, ScriptFault>
+    ensures { GivesAs opened_of result (continued (opened_of block) line (lent words.now)) }
+{
+    let OpenBlock {
+        names,
+        mut statements,
+        mut lines,
+        first,
+    } = block;
+    let Stated { names, statement } = statement_of(alloc, names, words)?;
+    statements.push(statement)?;
+    lines.push(line)?;
+    Ok(OpenBlock {
+        names,
+        statements,
+        lines,
+        first,
+    })
+}
+
+/// The line with this number, where a block is open.
+#[tactic(auto, unfolding(cf_syntax::specs::Text::inside))]
+fn inside(
+    alloc: Global,
+    blocks: Vec<Block>,
+    block: OpenBlock,
+    line: u32,
+    words: &[&[u8]],
+) -> Result<Reader, ScriptFault>
+    ensures read { GivesAs reading_of result (inside blocks.items (opened_of block) line (lent words.now)) }
+    ensures count { IfOk result (λ r. r.count ≡ line) }
+{
+    if is_word(words, b"end") {
+        let mut blocks = blocks;
+        blocks.push(ended(alloc, block, line)?)?;
+        return Ok(Reader {
+            count: line,
+            blocks,
+            block: None,
+        });
+    }
+    let block = with_line(alloc, block, line, words)?;
+    Ok(Reader {
+        count: line,
+        blocks,
+        block: Some(block),
+    })
+}
+
+/// A line that says something, by its words.
+#[tactic(auto, unfolding(cf_syntax::specs::Text::headed))]
+fn placed(alloc: Global, reader: Reader, words: &[&[u8]]) -> Result<Reader, ScriptFault>
+    requires { reader.count + 1 < 2 ^ 32 }
+    ensures read { GivesAs reading_of result (spoken (reading_of reader) (lent words.now)) }
+    ensures count { IfOk result (λ r. r.count ≡ reader.count + 1) }
+{
+    let Reader {
+        count,
+        blocks,
+        block,
+    } = reader;
+    if count == 0 {
+        if !is_header(words) {
+            return Err(ScriptFault::Refused(UNREAD));
+        }
+        return Ok(Reader {
+            count: 1,
+            blocks,
+            block,
+        });
+    }
+    match block {
+        None => outside(alloc, blocks, count + 1, words),
+        Some(block) => inside(alloc, blocks, block, count + 1, words),
+    }
+}
+
+/// A line more.
+#[tactic(auto, unfolding(cf_syntax::specs::Text::after_line, cf_syntax::specs::Text::said))]
+pub(crate) fn after_line<'a>(
+    alloc: Global,
+    reader: Reader,
+    found: &mut Vec<&'a [u8]>,
+    line: &'a [u8],
+) -> Result<Reader, ScriptFault>
+    requires { reader.count + 1 < 2 ^ 32 }
+    ensures read { GivesAs reading_of result (after_line (reading_of reader) line.now) }
+    ensures count { IfOk result (λ r. r.count ≡ reader.count + 1) }
+{
+    if !is_utf8(line) {
+        return Err(ScriptFault::Refused(UNREAD));
+    }
+    if 0 < reader.count && says_nothing(line) {
+        let Reader {
+            count,
+            blocks,
+            block,
+        } = reader;
+        return Ok(Reader {
+            count: count + 1,
+            blocks,
+            block,
+        });
+    }
+    split_words(found, line)?;
+    placed(alloc, reader, found.as_slice())
+}
+
+/// The script at the end of the text.
+pub(crate) fn whole(reader: Reader) -> Result<Script, ScriptFault>
+    ensures { Gives result (whole reader.blocks.items (option_map opened_of reader.block)) }
+{
+    let Reader { blocks, block, .. } = reader;
+    if block.is_some() || blocks.is_empty() {
+        return Err(ScriptFault::Refused(UNREAD));
+    }
+    Ok(Script {
+        blocks: Seq::from_vec(blocks),
+    })
+}

@@ -1,0 +1,69 @@
+//! The lines of a text.
+ghost use Rattle.std.specs.Prelude.{◌≡◌, ◌∷◌, ◌<◌, length};
+ghost use Rattle.std.specs.Prelude.{nat_eq, ◌==◌, position};
+ghost use Rattle.std.specs.Str.{is_utf8};
+ghost use Rattle.cf_syntax.specs.Lines.{lines, without_return};
+ghost use Rattle.cf_syntax.specs.Words.{is_blank, says_nothing};
+
+/// The place of the first LF.
+fn line_end(bytes: &[u8]) -> Option<usize>
+    ensures { result ≡ position (λ b. b == 10) bytes.now }
+{
+    bytes.iter().position(|b| *b == b'\n')
+}
+
+/// A piece without the CR at its end.
+fn without_return(piece: &[u8]) -> &[u8]
+    ensures { result.now ≡ without_return piece.now }
+{
+    match piece {
+        [front @ .., b'\r'] => front,
+        _ => piece,
+    }
+}
+
+/// The first line, and the bytes behind it.
+pub(crate) fn next_line(bytes: &[u8]) -> (&[u8], &[u8])
+    requires { 0 < length bytes.now }
+    ensures lines { lines bytes.now ≡ result.0.now ∷ lines result.1.now }
+    ensures shorter { length result.1.now < length bytes.now }
+{
+    match line_end(bytes) {
+        Some(end) => {
+            let (piece, rest) = bytes.split_at(end);
+            let (_, after) = rest.split_at(1);
+            (without_return(piece), after)
+        }
+        None => (without_return(bytes), &[]),
+    }
+}
+
+/// Whether a byte separates words.
+pub(crate) fn is_blank(byte: u8) -> bool
+    ensures { result ≡ is_blank byte }
+{
+    byte == b' ' || byte == b'\t'
+}
+
+/// Whether a line has no words, or begins with a `#`.
+pub(crate) fn says_nothing(line: &[u8]) -> bool
+    ensures { result ≡ says_nothing line.now }
+{
+    for b in line {
+        if !is_blank(*b) {
+            return *b == b'#';
+        }
+    }
+    true
+}
+
+/// Whether bytes are UTF-8.
+#[tactic(auto, using(crate::proofs::Utf8::utf8_answers))]
+pub(crate) fn is_utf8(bytes: &[u8]) -> bool
+    ensures { result ≡ is_utf8 bytes.now }
+{
+    match std::str::from_utf8(bytes) {
+        Ok(_) => true,
+        Err(_) => false,
+    }
+}

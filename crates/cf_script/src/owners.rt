@@ -1,0 +1,119 @@
+//! The owner check.
+ghost use Rattle.std.specs.Prelude.{◌≡◌, ℕ, ◌+◌, ◌<◌, ◌^◌, ◌≤◌, List, [], slice_index, nat_lt, ◌&&◌};
+ghost use Rattle.cf_syntax.specs.Owned.{one_of, may_touch, may_use, is_fit, are_fit, blocks_fit};
+ghost use Rattle.cf_syntax.specs.Forms.{touch_of};
+ghost use Rattle.cf_syntax.specs.declared.statement.Statement.{Statement};
+ghost use Rattle.cf_script.specs.Counting.{Counted, Noted, HasRoom, may_use_some};
+
+use cf_ids::{VARIABLES, VarId};
+use cf_syntax::{Block, Statement, Touch};
+
+/// How often the statements so far bind each variable, and how many references they give to it and
+/// take from it.
+#[derive(Drop)]
+pub(crate) struct Counts {
+    bound: [usize; VARIABLES],
+    given: [usize; VARIABLES],
+    taken: [usize; VARIABLES],
+}
+
+/// One more for a variable.
+fn add_one(table: &mut [usize; VARIABLES], variable: VarId)
+    requires { (v : ℕ) → v < 256 → slice_index table.old v + 1 < 2 ^ 64 }
+    ensures { (v : ℕ) → v < 256 → slice_index table.new v ≡ slice_index table.old v + one_of v variable }
+{
+    let cell = &mut table[variable.0 as usize];
+    *cell += 1;
+}
+
+/// The counts with one touch more.
+fn note(counts: &mut Counts, touch: Touch)
+    requires { HasRoom counts.old }
+    ensures { Noted counts.old touch counts.new }
+{
+    match touch {
+        Touch::Nothing => {}
+        Touch::Binds(variable) => {
+            add_one(&mut counts.bound, variable);
+            add_one(&mut counts.given, variable);
+        }
+        Touch::Plus(variable) => add_one(&mut counts.given, variable),
+        Touch::Minus(variable) => add_one(&mut counts.taken, variable),
+    }
+}
+
+/// Whether the counts at a place are those of a variable that is bound and owns a reference.
+fn is_usable(counts: &Counts, v: usize) -> bool
+    requires { v < 256 }
+    ensures { result ≡ (nat_lt 0 (slice_index counts.now.bound v) && nat_lt (slice_index counts.now.taken v) (slice_index counts.now.given v)) }
+{
+    0 < counts.bound[v] && counts.taken[v] < counts.given[v]
+}
+
+/// Whether a variable is bound and owns a reference.
+fn may_use(counts: &Counts, variable: VarId) -> bool
+    ensures { (earlier : List Statement) → Counted counts.now earlier → result ≡ may_use earlier variable }
+{
+    is_usable(counts, variable.0 as usize)
+}
+
+/// The same of a place where a variable may stand.
+fn may_use_some(counts: &Counts, used: Option<VarId>) -> bool
+    ensures { (earlier : List Statement) → Counted counts.now earlier → result ≡ may_use_some earlier used }
+{
+    match used {
+        None => true,
+        Some(variable) => may_use(counts, variable),
+    }
+}
+
+/// Whether a variable that is to be bound is not bound yet.
+fn may_touch(counts: &Counts, touch: Touch) -> bool
+    ensures { (earlier : List Statement) → Counted counts.now earlier → result ≡ may_touch earlier touch }
+{
+    match touch {
+        Touch::Binds(variable) => counts.bound[variable.0 as usize] == 0,
+        Touch::Nothing | Touch::Plus(_) | Touch::Minus(_) => true,
+    }
+}
+
+/// Whether a statement behind earlier ones has no fault.
+fn is_fit(counts: &Counts, statement: &Statement) -> bool
+    ensures { (earlier : List Statement) → Counted counts.now earlier → result ≡ is_fit earlier statement.now }
+{
+    let [first, second, third] = statement.uses();
+    may_touch(counts, statement.touch())
+        && may_use_some(counts, first)
+        && may_use_some(counts, second)
+        && may_use_some(counts, third)
+}
+
+/// Whether no statement of a block has a fault.
+fn are_fit(statements: &[Statement]) -> bool
+    ensures { result ≡ are_fit [] statements.now }
+{
+    let mut counts = Counts {
+        bound: [0; VARIABLES],
+        given: [0; VARIABLES],
+        taken: [0; VARIABLES],
+    };
+    for statement in statements {
+        if !is_fit(&counts, statement) {
+            return false;
+        }
+        note(&mut counts, statement.touch());
+    }
+    true
+}
+
+/// Whether no block has a fault.
+pub(crate) fn are_owned(blocks: &[Block]) -> bool
+    ensures { result ≡ blocks_fit blocks.now }
+{
+    for block in blocks {
+        if !are_fit(block.statements.as_slice()) {
+            return false;
+        }
+    }
+    true
+}

@@ -1,0 +1,111 @@
+ghost use Rattle.std.specs.Prelude.{◌≡◌, ◌+◌, ◌-◌, ◌≤◌, ◌↔◌, [], ◌++◌, length, take, drop, vec_len, vec_capacity, IsOk, OnOk, OnErr, IfOk};
+ghost use Rattle.std.specs.List.{splice};
+
+use crate::edits::{cut, insert_all, push_all};
+use std::alloc::{AllocError as NoMemory, Global};
+use std::marker::Model;
+
+/// The range does not lie within the bytes.
+#[derive(Clone, Copy, Debug)]
+pub struct Range;
+
+/// A growing list of bytes.
+#[derive(Drop)]
+pub struct Bytes {
+    bytes: Vec<u8>,
+}
+
+impl Model for Bytes {
+    ghost use Rattle.std.specs.Prelude.{◌-◌, vec_len, vec_capacity};
+    ghost use Rattle.cf_data.specs.Buffers.{Buffer};
+
+    ghost Value = { Buffer };
+
+    ghost view = { λ b. record { items = b.bytes.items; room = vec_capacity b.bytes - vec_len b.bytes } };
+}
+
+impl Bytes {
+    /// No bytes and no room; takes no memory.
+    pub fn new(alloc: Global) -> Bytes
+        ensures { result ≡ record { items = []; room = 0 } }
+    {
+        Bytes {
+            bytes: Vec::new(alloc),
+        }
+    }
+
+    /// Makes room for at least `more` further bytes.
+    pub fn reserve(&mut self, more: usize) -> Result<(), NoMemory>
+        ensures items { self.new.items ≡ self.old.items }
+        ensures room { OnOk result (more ≤ self.new.room) }
+        ensures kept { self.old.room ≤ self.new.room }
+
+        // It can be refused only where the room was missing.
+        ensures enough { more ≤ self.old.room → IsOk result }
+        ensures err { OnErr result (self.new ≡ self.old) }
+    {
+        self.bytes.reserve(more)
+    }
+
+    /// How many bytes there are.
+    pub fn length(&self) -> usize
+        ensures { result ≡ length self.now.items }
+    {
+        self.bytes.len()
+    }
+
+    /// The bytes, in order.
+    pub fn get(&self) -> &[u8]
+        ensures { result.now ≡ self.now.items }
+    {
+        self.bytes.as_slice()
+    }
+
+    /// Bytes of their own with the same contents; how much room they have is left open.
+    pub fn copy(&self, alloc: Global) -> Result<Bytes, NoMemory>
+        ensures { IfOk result (λ copied. copied.items ≡ self.now.items) }
+    {
+        Ok(Bytes {
+            bytes: Vec::from_slice(alloc, self.bytes.as_slice())?,
+        })
+    }
+
+    /// Puts `b` behind the last byte.
+    pub fn append(&mut self, b: &[u8])
+        requires { length b.now ≤ self.old.room }
+        ensures items { self.new.items ≡ self.old.items ++ b.now }
+        ensures room { self.new.room + length b.now ≡ self.old.room }
+    {
+        push_all(&mut self.bytes, b);
+    }
+
+    /// Puts `b` in place of the `len` bytes from `at` on; `Range` exactly where these do not lie
+    /// within the bytes.
+    pub fn replace(&mut self, at: usize, len: usize, b: &[u8]) -> Result<(), Range>
+        requires { length b.now ≤ self.old.room }
+        ensures within { IsOk result ↔ (at + len ≤ length self.old.items) }
+        ensures items { OnOk result (self.new.items ≡ splice self.old.items at (at + len) b.now) }
+        ensures room { OnOk result (self.new.room + length b.now ≡ self.old.room + len) }
+        ensures err { OnErr result (self.new ≡ self.old) }
+    {
+        self.delete(at, len)?;
+        insert_all(&mut self.bytes, at, b);
+        Ok(())
+    }
+
+    /// Takes out the `len` bytes from `at` on; `Range` exactly where these do not lie within the
+    /// bytes.
+    pub fn delete(&mut self, at: usize, len: usize) -> Result<(), Range>
+        ensures within { IsOk result ↔ (at + len ≤ length self.old.items) }
+        ensures items { OnOk result (self.new.items ≡ take at self.old.items ++ drop (at + len) self.old.items) }
+        ensures room { OnOk result (self.new.room ≡ self.old.room + len) }
+        ensures err { OnErr result (self.new ≡ self.old) }
+    {
+        let all = self.bytes.len();
+        if all < at || all - at < len {
+            return Err(Range);
+        }
+        cut(&mut self.bytes, at, len);
+        Ok(())
+    }
+}

@@ -1,0 +1,22 @@
+use Rattle.std.specs.Prelude.{ℕ, ℤ, FitsSigned}
+use Rattle.std.specs.Int.{Width, w8, w16, w32, w64}
+use Rattle.cf_number.specs.declared.kinds.NumKind.{NumKind}
+use Rattle.cf_number.specs.declared.kinds.NumKind.TheVariants.{S8, S16, S32, S64}
+
+-- the number of a kind: kCFNumberSInt8Type to kCFNumberSInt64Type of the CFNumber reference
+abbrev pub kind_number : NumKind → ℕ
+kind_number S8 = 1
+kind_number S16 = 2
+kind_number S32 = 3
+kind_number S64 = 4
+
+-- how wide the two's complement of a kind is, by the name that the reference gives it
+abbrev pub width_of : NumKind → Width
+width_of S8 = w8
+width_of S16 = w16
+width_of S32 = w32
+width_of S64 = w64
+
+-- the kind can hold the value: reading a number that has it as that kind loses nothing
+abbrev pub FitsKind : NumKind → ℤ → Type 0
+FitsKind kind value = FitsSigned (width_of kind) value

@@ -1,0 +1,12 @@
+//! Texts as lists of UTF-16 code units, after the CFString reference: a place or a length counts units, and
+//! every text is valid, so no call leaves half a surrogate pair behind.
+#![tactic(auto)]
+
+mod cuts;
+mod edits;
+mod faults;
+mod texts;
+
+pub use faults::StrFault;
+pub use std::alloc::AllocError as NoMemory;
+pub use texts::Str;

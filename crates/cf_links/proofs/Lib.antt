@@ -1,0 +1,6 @@
+mod Chains
+mod Edits
+pub mod Laws
+mod FieldLemmas
+mod Steps
+mod Webs

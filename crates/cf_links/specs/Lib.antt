@@ -1,0 +1,3 @@
+pub mod Lists
+pub mod Chain
+pub mod Fields

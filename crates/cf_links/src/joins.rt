@@ -1,0 +1,167 @@
+//! The links of nodes and lists, and the steps that change them.
+ghost use Rattle.std.specs.Prelude.{◌≡◌, ◌≢◌, ◌<◌, List, None, Some, length};
+ghost use Rattle.cf_links.specs.declared.joins.Ends.{Ends};
+ghost use Rattle.std.specs.Option.{ForSome};
+ghost use Rattle.cf_links.specs.Chain.{Leads, turned, Joins, Marks, Clears, Puts, Takes};
+ghost use Rattle.cf_links.specs.Fields.{IsThere, SameNodes, web_of};
+
+use crate::numbers::{ListId, Node};
+use slab::Slab;
+
+// A node: its value, the list that it is in, and its neighbours there.
+#[derive(Drop)]
+pub struct Entry<T> {
+    pub value: T,
+    pub list: Option<ListId>,
+    pub prev: Option<Node>,
+    pub next: Option<Node>,
+}
+
+// The first and the last node of a list.
+#[derive(Clone, Copy)]
+pub struct Ends {
+    pub first: Option<Node>,
+    pub last: Option<Node>,
+}
+
+// Lets the link onwards from `from`, or from the list itself, lead to `to`.
+fn set_next<T>(
+    nodes: &mut Slab<Entry<T>>,
+    ends: &mut [Ends],
+    list: ListId,
+    from: Option<Node>,
+    to: Option<Node>,
+)
+    requires there { ForSome from (λ b. IsThere nodes.old b) }
+    requires made { list < length ends.old }
+    ensures leads { Leads (web_of nodes.old ends.old) (web_of nodes.new ends.new) list from to }
+    ensures same { SameNodes nodes.old nodes.new }
+    ensures count { length ends.new ≡ length ends.old }
+{
+    match from {
+        Some(node) => {
+            let entry = &mut nodes[node.0];
+            entry.next = to;
+        }
+        None => {
+            let end = &mut ends[list.0];
+            end.first = to;
+        }
+    }
+}
+
+// Lets the link backwards from `from`, or from the list itself, lead to `to`.
+fn set_prev<T>(
+    nodes: &mut Slab<Entry<T>>,
+    ends: &mut [Ends],
+    list: ListId,
+    from: Option<Node>,
+    to: Option<Node>,
+)
+    requires there { ForSome from (λ b. IsThere nodes.old b) }
+    requires made { list < length ends.old }
+    ensures leads { Leads (turned (web_of nodes.old ends.old)) (turned (web_of nodes.new ends.new)) list from to }
+    ensures same { SameNodes nodes.old nodes.new }
+    ensures count { length ends.new ≡ length ends.old }
+{
+    match from {
+        Some(node) => {
+            let entry = &mut nodes[node.0];
+            entry.prev = to;
+        }
+        None => {
+            let end = &mut ends[list.0];
+            end.last = to;
+        }
+    }
+}
+
+// Lets `to` come right after `from`. `None` stands for the list itself.
+fn join<T>(
+    nodes: &mut Slab<Entry<T>>,
+    ends: &mut [Ends],
+    list: ListId,
+    from: Option<Node>,
+    to: Option<Node>,
+)
+    requires from_there { ForSome from (λ b. IsThere nodes.old b) }
+    requires to_there { ForSome to (λ b. IsThere nodes.old b) }
+    requires made { list < length ends.old }
+    ensures joins { Joins (web_of nodes.old ends.old) (web_of nodes.new ends.new) list from to }
+    ensures same { SameNodes nodes.old nodes.new }
+    ensures count { length ends.new ≡ length ends.old }
+{
+    // Each of the two is passed on twice, so it is copied first.
+    let (back, onwards) = (from, to);
+    set_next(nodes, ends, list, from, to);
+    set_prev(nodes, ends, list, onwards, back);
+}
+
+// Gives a node the mark of a list.
+fn mark<T>(nodes: &mut Slab<Entry<T>>, n: Node, list: ListId)
+    requires there { IsThere nodes.old n }
+    ensures marks { (ends : List Ends) → Marks (web_of nodes.old ends) (web_of nodes.new ends) n (Some list) }
+    ensures same { SameNodes nodes.old nodes.new }
+{
+    let entry = &mut nodes[n.0];
+    entry.list = Some(list);
+}
+
+// Takes the mark and the neighbours from a node.
+fn clear<T>(nodes: &mut Slab<Entry<T>>, n: Node)
+    requires there { IsThere nodes.old n }
+    ensures clears { (ends : List Ends) → Clears (web_of nodes.old ends) (web_of nodes.new ends) n }
+    ensures same { SameNodes nodes.old nodes.new }
+{
+    let entry = &mut nodes[n.0];
+    entry.list = None;
+    entry.prev = None;
+    entry.next = None;
+}
+
+// Puts a node into a list between two that are joined.
+pub fn put<T>(
+    nodes: &mut Slab<Entry<T>>,
+    ends: &mut [Ends],
+    list: ListId,
+    n: Node,
+    from: Option<Node>,
+    to: Option<Node>,
+)
+    requires there { IsThere nodes.old n }
+    requires from_there { ForSome from (λ b. IsThere nodes.old b) }
+    requires to_there { ForSome to (λ b. IsThere nodes.old b) }
+    requires before { from ≢ Some n }
+    requires after { to ≢ Some n }
+    requires made { list < length ends.old }
+    ensures puts { Puts (web_of nodes.old ends.old) (web_of nodes.new ends.new) list n from to }
+    ensures same { SameNodes nodes.old nodes.new }
+    ensures count { length ends.new ≡ length ends.old }
+{
+    join(nodes, ends, list, from, Some(n));
+    join(nodes, ends, list, Some(n), to);
+    mark(nodes, n, list);
+}
+
+// Takes a node out of a list, where it stands between `from` and `to`.
+pub fn take<T>(
+    nodes: &mut Slab<Entry<T>>,
+    ends: &mut [Ends],
+    list: ListId,
+    n: Node,
+    from: Option<Node>,
+    to: Option<Node>,
+)
+    requires there { IsThere nodes.old n }
+    requires from_there { ForSome from (λ b. IsThere nodes.old b) }
+    requires to_there { ForSome to (λ b. IsThere nodes.old b) }
+    requires before { from ≢ Some n }
+    requires after { to ≢ Some n }
+    requires made { list < length ends.old }
+    ensures takes { Takes (web_of nodes.old ends.old) (web_of nodes.new ends.new) list n from to }
+    ensures same { SameNodes nodes.old nodes.new }
+    ensures count { length ends.new ≡ length ends.old }
+{
+    join(nodes, ends, list, from, to);
+    clear(nodes, n);
+}

@@ -1,0 +1,143 @@
+ghost use Rattle.std.specs.Prelude.{◌≡◌, ◌+◌, ◌≤◌, ◌<◌, ◌↔◌, true, [], ◌∷◌, ◌++◌, length, slice_get, slice_set, remove, IsOk, IsNone, OnOk, OnErr, IfErr, IfSome, IfNone, OnSome};
+ghost use Rattle.std.specs.List.{IsDistinct};
+ghost use Rattle.std.specs.Map.{keys_of};
+ghost use Rattle.std.specs.Option.{ForSome, option_map};
+ghost use Rattle.cf_basichash.specs.Tables.{place_of};
+
+use cf_callbacks::Callbacks;
+use std::alloc::{AllocError as NoMemory, Global};
+use std::marker::Model;
+use std::mem;
+
+/// A list of rows, each a key and a value, no two of which have equal keys.
+#[derive(Drop)]
+pub struct Rows<K, V, C: Callbacks<K>> {
+    rows: Vec<(K, V)>,
+    callbacks: C,
+}
+
+impl<K, V, C: Callbacks<K>> Model for Rows<K, V, C> {
+    ghost use Rattle.std.specs.Prelude.{◌-◌, vec_len, vec_capacity};
+    ghost use Rattle.std.specs.List.{IsDistinct};
+    ghost use Rattle.std.specs.Map.{keys_of};
+    ghost use Rattle.cf_basichash.specs.Tables.{Table};
+
+    ghost Value = { Table K V C };
+
+    ghost view = { λ t. record {
+      rows = t.rows.items;
+      room = vec_capacity t.rows - vec_len t.rows;
+      callbacks = t.callbacks;
+    } };
+
+    ghost invariant = { λ t. IsDistinct (C.same t.callbacks) (keys_of t.rows.items) };
+}
+
+impl<K, V, C: Callbacks<K>> Rows<K, V, C> {
+    /// No rows and no room; takes no memory.
+    pub fn new(alloc: Global, c: C) -> Rows<K, V, C>
+        ensures { result ≡ record { rows = []; room = 0; callbacks = c } }
+    {
+        Rows {
+            rows: Vec::new(alloc),
+            callbacks: c,
+        }
+    }
+
+    /// Makes room for at least `more` further rows.
+    pub fn reserve(&mut self, more: usize) -> Result<(), NoMemory>
+        ensures rows { self.new.rows ≡ self.old.rows }
+        ensures callbacks { self.new.callbacks ≡ self.old.callbacks }
+        ensures room { OnOk result (more ≤ self.new.room) }
+        ensures kept { self.old.room ≤ self.new.room }
+
+        // It can be refused only where the room was missing.
+        ensures enough { more ≤ self.old.room → IsOk result }
+        ensures err { OnErr result (self.new ≡ self.old) }
+    {
+        self.rows.reserve(more)
+    }
+
+    /// How many rows there are.
+    pub fn count(&self) -> usize
+        ensures count { result ≡ length self.now.rows }
+        ensures distinct { IsDistinct (C.same self.now.callbacks) (keys_of self.now.rows) }
+    {
+        self.rows.len()
+    }
+
+    /// The place of the row whose key is equal to `k`, or `None` where there is none.
+    pub fn find(&self, k: &K) -> Option<usize>
+        ensures { result ≡ place_of (C.same self.now.callbacks k.now) self.now.rows }
+    {
+        self.rows
+            .iter()
+            .position(|row| self.callbacks.equal(k, &row.0))
+    }
+
+    /// The row at a place, or `None` where the place is not below the count.
+    pub fn row(&self, i: usize) -> Option<(&K, &V)>
+        ensures { option_map (λ row. (row.0.now, row.1.now)) result ≡ slice_get self.now.rows i }
+    {
+        match self.rows.get(i) {
+            Some(row) => Some((&row.0, &row.1)),
+            None => None,
+        }
+    }
+
+    /// Puts a row behind the last one; key and value come back exactly where an equal key is present.
+    pub fn add(&mut self, k: K, v: V) -> Result<(), (K, V)>
+        requires { 0 < self.old.room }
+        ensures absent { IsOk result ↔ IsNone (place_of (C.same self.old.callbacks k) self.old.rows) }
+        ensures rows { OnOk result (self.new.rows ≡ self.old.rows ++ (k, v) ∷ []) }
+        ensures room { OnOk result (self.new.room + 1 ≡ self.old.room) }
+        ensures callbacks { OnOk result (self.new.callbacks ≡ self.old.callbacks) }
+        ensures err { OnErr result (self.new ≡ self.old) }
+        ensures returned { IfErr result (λ back. back ≡ (k, v)) }
+    {
+        if self.find(&k).is_some() {
+            return Err((k, v));
+        }
+        self.rows.push_reserved((k, v));
+        Ok(())
+    }
+
+    /// Puts `v` in place of the value of the row at `i`, and gives that value back.
+    pub fn swap_value(&mut self, i: usize, v: V) -> V
+        requires { i < length self.old.rows }
+        ensures out { IfSome (slice_get self.old.rows i) (λ row. result ≡ row.1) }
+        ensures rows { IfSome (slice_get self.old.rows i) (λ row.
+            self.new ≡ record self.old { rows = slice_set self.old.rows i (row.0, v) }) }
+    {
+        let row = &mut self.rows[i];
+        mem::replace(&mut row.1, v)
+    }
+
+    /// Puts `k` in place of the equal key of the row at `i`, and gives that key back.
+    pub fn swap_key(&mut self, i: usize, k: K) -> K
+        requires below { i < length self.old.rows }
+        requires equal { ForSome (slice_get self.old.rows i) (λ row. C.same self.old.callbacks k row.0 ≡ true) }
+        ensures out { IfSome (slice_get self.old.rows i) (λ row. result ≡ row.0) }
+        ensures rows { IfSome (slice_get self.old.rows i) (λ row.
+            self.new ≡ record self.old { rows = slice_set self.old.rows i (k, row.1) }) }
+    {
+        let row = &mut self.rows[i];
+        mem::replace(&mut row.0, k)
+    }
+
+    /// Takes out the row at `i`, and those behind it move down; `None` exactly where `i` is not below
+    /// the count.
+    pub fn remove(&mut self, i: usize) -> Option<(K, V)>
+        ensures out { result ≡ slice_get self.old.rows i }
+        ensures rows { OnSome result (self.new.rows ≡ remove self.old.rows i) }
+        ensures room { OnSome result (self.new.room ≡ self.old.room + 1) }
+        ensures callbacks { OnSome result (self.new.callbacks ≡ self.old.callbacks) }
+        ensures none { IfNone result (self.new ≡ self.old) }
+    {
+        if i < self.rows.len() {
+            Some(self.rows.remove(i))
+        } else {
+            None
+        }
+    }
+}

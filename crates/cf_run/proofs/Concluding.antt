@@ -1,0 +1,197 @@
+-- What a command came to, and what of its lines was written, make its outcome.
+use Rattle.std.proofs.Common.{◌≡◌, ℕ, ◌<◌, ◌≤◌, List, [], ◌∷◌, length, Option, Some, None, refl, sym, ap, ◌∙◌, subst, arith, inl, inr, ◌⊎◌}
+use Rattle.std.specs.Prelude.{Result, Ok, Err, IsSome, IfSome, Contains}
+use Rattle.std.proofs.lemmas.Bool.{false≢true}
+use Rattle.cf_fault.specs.Fault.{HasRisen}
+use Rattle.cf_io.specs.Bytes.{then_bytes}
+use Rattle.cf_io.specs.Files.{File, content_of}
+use Rattle.cf_syntax.specs.declared.script.Script.{Script}
+use Rattle.cf_syntax.specs.declared.refusal.Refusal.{Refusal}
+use Rattle.cf_syntax.specs.Text.{Text, Refused}
+use Rattle.cf_syntax.specs.Owned.{Owned, blocks_fit}
+use Rattle.cf_model.specs.declared.action.Entry.{Entry}
+use Rattle.cf_model.proofs.Finality.{finals_fit}
+use Rattle.cf_run.specs.declared.output.Unwritten.{Unwritten}
+use Rattle.cf_run.specs.declared.output.Unwritten.TheVariants.{Fault, NoMemory}
+use Rattle.cf_run.specs.declared.settle.Settled.{Settled}
+use Rattle.cf_run.specs.declared.settle.Settled.TheVariants as settled
+use Rattle.cf_run.specs.Commands.{file_of}
+use Rattle.cf_run.specs.Written.{WritesAll}
+use Rattle.cf_run.specs.Outcomes.{script_bytes, IsContent, IsRead, IsAccepted, IsUnfit, IsRefused, IsRefusedText, IsDue, usage_due, refusal_due, fault_due, run_due, Ran, Misused, Rejected, Unreadable, Shortened, Silent, Outcome, done, misused, rejected, unreadable, unwritten, no_memory}
+use Rattle.cf_run.specs.Settled.{Settles, HasFew, due_of, entries_of, status_after}
+use Rattle.cf_run.proofs.Rendered.{run_text-rendering}
+
+pub has_few : (words : List (List ℕ)) (files : Option (List File)) (faults faults' : ℕ) (s : Settled) → Settles words files faults faults' s → HasFew s
+has_few words files faults faults' settled.Usage h = tt
+has_few words files faults faults' settled.ReadFault h = tt
+has_few words files faults faults' (settled.Refused r) h = tt
+has_few words files faults faults' (settled.Ran script run) h = h.1.few
+
+-- what is due of what a command came to
+pub due_is : (words : List (List ℕ)) (files : Option (List File)) (faults faults' : ℕ) (s : Settled) → Settles words files faults faults' s → IsDue words files faults faults' (entries_of s) (due_of s)
+due_is words files faults faults' settled.Usage h = usage_due h refl refl
+due_is words files faults faults' settled.ReadFault h = fault_due h.0 h.1 refl refl
+due_is words files faults faults' (settled.Refused r) h = refusal_due r h refl refl
+due_is words files faults faults' (settled.Ran script run) h =
+    run_due script h.0
+    (record { ends = h.1.whole; finals = finals_fit script run.journal.items h.1.whole.legal })
+    (record { legal = h.1.whole.legal; order = h.1.order })
+    (run_text-rendering script run.journal.items run.counted.items run.finals h.1)
+
+module _ (words : List (List ℕ)) (files : Option (List File)) (source source' sink sink' : ℕ) (old new : Option (List ℕ)) where
+  all_written : (s : Settled) (status : ℕ) (entries : List Entry) → Settles words files source source' s → status ≡ status_after (Ok tt) s → entries ≡ entries_of s → new ≡ then_bytes old (due_of s) → Outcome words files source source' sink sink' old new status entries
+  all_written settled.Usage status entries h st e w = misused st (record { words_are = h; empty = e; written = w })
+  all_written settled.ReadFault status entries h st e w = unreadable st (record { words_are = h.0; risen = h.1; empty = e; written = w })
+  all_written (settled.Refused r) status entries h st e w = rejected st (record { refusal = r; refused = h; empty = e; written = w })
+  all_written (settled.Ran script run) status entries h st e w =
+      done st (subst (λ (es : List Entry). Ran words files es old new) (sym e) (record {
+        script = script;
+        read = h.0;
+        journal = record { ends = h.1.whole; finals = finals_fit script run.journal.items h.1.whole.legal };
+        written = w ∙ ap (then_bytes old) (run_text-rendering script run.journal.items run.counted.items run.finals h.1);
+        serial = record { legal = h.1.whole.legal; order = h.1.order };
+      }))
+
+  pub concluded : (r : Result (Unit {0}) Unwritten) (s : Settled) (status : ℕ) (entries : List Entry) → Settles words files source source' s → status ≡ status_after r s → entries ≡ entries_of s → WritesAll r (due_of s) old new sink sink' → Outcome words files source source' sink sink' old new status entries
+  concluded (Ok u) s status entries h st e w = all_written s status entries h st e w.0
+  concluded (Err Fault) s status entries h st e w = unwritten st w.1 (record { due = due_of s; is_due = rw e (due_is words files source source' s h); cut = w.0 })
+  concluded (Err NoMemory) s status entries h st e w = no_memory st (inr (record { due = due_of s; is_due = rw e (due_is words files source source' s h); cut = w.0 }))
+
+-- ---- accepted and refused bytes are apart
+
+no_file : (words : List (List ℕ)) (file : List ℕ) → file_of words ≡ Some file → file_of words ≡ None → ⊥
+no_file words file s n = let e : ◌≡◌ {A = Option (List ℕ)} (Some file) None = sym s ∙ n in cc
+
+taken_file : (words : List (List ℕ)) → IsSome (file_of words) → file_of words ≡ None → ⊥
+taken_file words h n = let e : IsSome {T = List ℕ} None = subst (λ (o : Option (List ℕ)). IsSome o) n h in absurd cc
+
+rejected_file : (words : List (List ℕ)) (files : Option (List File)) (r : Refusal) → IsRefused words files r → file_of words ≡ None → ⊥
+rejected_file words files r (inl x) n = no_file words x.file x.named n
+rejected_file words files r (inr x) n = no_file words x.read.file x.read.named n
+
+same_file : (words : List (List ℕ)) (file other : List ℕ) → file_of words ≡ Some file → file_of words ≡ Some other → file ≡ other
+same_file words file other a b = let e : ◌≡◌ {A = Option (List ℕ)} (Some file) (Some other) = sym a ∙ b in cc
+
+-- the bytes that were read are those that the source tells
+same_bytes : (words : List (List ℕ)) (files : Option (List File)) (told : List File) (file bytes : List ℕ) (read : List ℕ) → files ≡ Some told → file_of words ≡ Some file → content_of told file ≡ Some bytes → IsRead words files read → read ≡ bytes
+same_bytes words files told file bytes read f n c r =
+    let there : content_of told r.file ≡ Some read = subst (λ (fs : Option (List File)). IsContent fs r.file read) f r.content in
+    let e : ◌≡◌ {A = Option (List ℕ)} (Some read) (Some bytes) = sym there ∙ ap (content_of told) (same_file words r.file file r.named n) ∙ c in cc
+
+-- no bytes are both the text of an owned script and refused
+text_refused : (bytes : List ℕ) (script : Script) (r : Refusal) → Text bytes script → Refused bytes r → ⊥
+text_refused bytes script r t u = let e : ◌≡◌ {A = Result Script Refusal} (Ok script) (Err r) = sym t ∙ u in cc
+
+owned_unfit : (bytes : List ℕ) (script : Script) (r : Refusal) → Text bytes script → Owned script → IsUnfit bytes r → ⊥
+owned_unfit bytes script r t o u =
+    let same : ◌≡◌ {A = Result Script Refusal} (Ok u.script) (Ok script) = sym u.text ∙ t in
+    let e : u.script ≡ script = cc in
+    false≢true (sym u.unfit.0 ∙ ap (λ (s : Script). blocks_fit s.blocks) e ∙ o)
+
+not_both : (bytes : List ℕ) (script : Script) (r : Refusal) → Text bytes script → Owned script → Refused bytes r ⊎ IsUnfit bytes r → ⊥
+not_both bytes script r t o (inl u) = text_refused bytes script r t u
+not_both bytes script r t o (inr u) = owned_unfit bytes script r t o u
+
+accepted_refused : (words : List (List ℕ)) (files : Option (List File)) (told : List File) (file bytes : List ℕ) (script : Script) (r : Refusal) → files ≡ Some told → file_of words ≡ Some file → content_of told file ≡ Some bytes → length bytes ≤ script_bytes → Text bytes script → Owned script → IsRefused words files r → ⊥
+accepted_refused words files told file bytes script r f n c w t o (inl x) =
+    let long = subst (λ (fs : Option (List File)). IfSome fs (λ ts. IfSome (content_of ts x.file) (λ bs. script_bytes < length bs))) f x.long in
+    let over : script_bytes < length bytes = subst (λ (o : Option (List ℕ)). IfSome o (λ bs. script_bytes < length bs)) (ap (content_of told) (same_file words x.file file x.named n) ∙ c) long in
+    omega (arith, w, over)
+accepted_refused words files told file bytes script r f n c w t o (inr x) =
+    let same = same_bytes words files told file bytes x.bytes f n c x.read in
+    not_both bytes script r t o (subst (λ (bs : List ℕ). Refused bs r ⊎ IsUnfit bs r) same x.fault)
+
+refused_accepted : (words : List (List ℕ)) (files : Option (List File)) (told : List File) (file bytes : List ℕ) (script : Script) (r : Refusal) → files ≡ Some told → file_of words ≡ Some file → content_of told file ≡ Some bytes → IsRefusedText bytes r → IsAccepted words files script → ⊥
+refused_accepted words files told file bytes script r f n c (inl x) a =
+    let same = same_bytes words files told file bytes a.bytes f n c a.read in
+    omega (arith, a.read.within, ap length same, x)
+refused_accepted words files told file bytes script r f n c (inr x) a =
+    let same = same_bytes words files told file bytes a.bytes f n c a.read in
+    not_both bytes script r (subst (λ (bs : List ℕ). Text bs script) same a.text) a.owned x
+
+-- ---- what each status tells
+
+module _ (words : List (List ℕ)) (files : Option (List File)) (source source' sink sink' : ℕ) (old new : Option (List ℕ)) (status : ℕ) (entries : List Entry) where
+  pub when_done : Outcome words files source source' sink sink' old new status entries → status ≡ 0 → Ran words files entries old new
+  when_done (done st x) e = x
+  when_done (misused st x) e = absurd (omega arith)
+  when_done (rejected st x) e = absurd (omega arith)
+  when_done (unreadable st x) e = absurd (omega arith)
+  when_done (unwritten st r x) e = absurd (omega arith)
+  when_done (no_memory st x) e = absurd (omega arith)
+
+  pub when_misused : Outcome words files source source' sink sink' old new status entries → status ≡ 2 → Misused words entries old new
+  when_misused (done st x) e = absurd (omega arith)
+  when_misused (misused st x) e = x
+  when_misused (rejected st x) e = absurd (omega arith)
+  when_misused (unreadable st x) e = absurd (omega arith)
+  when_misused (unwritten st r x) e = absurd (omega arith)
+  when_misused (no_memory st x) e = absurd (omega arith)
+
+  pub when_rejected : Outcome words files source source' sink sink' old new status entries → status ≡ 3 → Rejected words files entries old new
+  when_rejected (done st x) e = absurd (omega arith)
+  when_rejected (misused st x) e = absurd (omega arith)
+  when_rejected (rejected st x) e = x
+  when_rejected (unreadable st x) e = absurd (omega arith)
+  when_rejected (unwritten st r x) e = absurd (omega arith)
+  when_rejected (no_memory st x) e = absurd (omega arith)
+
+  pub when_unreadable : Outcome words files source source' sink sink' old new status entries → status ≡ 4 → Unreadable words source source' entries old new
+  when_unreadable (done st x) e = absurd (omega arith)
+  when_unreadable (misused st x) e = absurd (omega arith)
+  when_unreadable (rejected st x) e = absurd (omega arith)
+  when_unreadable (unreadable st x) e = x
+  when_unreadable (unwritten st r x) e = absurd (omega arith)
+  when_unreadable (no_memory st x) e = absurd (omega arith)
+
+  pub when_unwritten : Outcome words files source source' sink sink' old new status entries → status ≡ 5 → HasRisen sink sink' × Shortened words files source source' entries old new
+  when_unwritten (done st x) e = absurd (omega arith)
+  when_unwritten (misused st x) e = absurd (omega arith)
+  when_unwritten (rejected st x) e = absurd (omega arith)
+  when_unwritten (unreadable st x) e = absurd (omega arith)
+  when_unwritten (unwritten st r x) e = (r, x)
+  when_unwritten (no_memory st x) e = absurd (omega arith)
+
+  pub when_no_memory : Outcome words files source source' sink sink' old new status entries → status ≡ 6 → Silent entries old new ⊎ Shortened words files source source' entries old new
+  when_no_memory (done st x) e = absurd (omega arith)
+  when_no_memory (misused st x) e = absurd (omega arith)
+  when_no_memory (rejected st x) e = absurd (omega arith)
+  when_no_memory (unreadable st x) e = absurd (omega arith)
+  when_no_memory (unwritten st r x) e = absurd (omega arith)
+  when_no_memory (no_memory st x) e = x
+
+  -- there are no other statuses
+  pub one_of_six : Outcome words files source source' sink sink' old new status entries → Contains (0 ∷ 2 ∷ 3 ∷ 4 ∷ 5 ∷ 6 ∷ []) status
+  one_of_six (done st x) = (0, omega arith, sym st)
+  one_of_six (misused st x) = (1, omega arith, sym st)
+  one_of_six (rejected st x) = (2, omega arith, sym st)
+  one_of_six (unreadable st x) = (3, omega arith, sym st)
+  one_of_six (unwritten st r x) = (4, omega arith, sym st)
+  one_of_six (no_memory st x) = (5, omega arith, sym st)
+
+  -- faulty words and no fault
+  pub misused_or_memory : Outcome words files source source' sink sink' old new status entries → file_of words ≡ None → (HasRisen sink sink' → ⊥) → (status ≡ 2) ⊎ (status ≡ 6)
+  misused_or_memory (done st x) n q = absurd (no_file words x.read.read.file x.read.read.named n)
+  misused_or_memory (misused st x) n q = inl st
+  misused_or_memory (rejected st x) n q = absurd (rejected_file words files x.refusal x.refused n)
+  misused_or_memory (unreadable st x) n q = absurd (taken_file words x.words_are n)
+  misused_or_memory (unwritten st r x) n q = absurd (q r)
+  misused_or_memory (no_memory st x) n q = inr st
+
+  -- an accepted script and no fault
+  pub done_or_memory : Outcome words files source source' sink sink' old new status entries → (told : List File) (file bytes : List ℕ) (script : Script) → files ≡ Some told → file_of words ≡ Some file → content_of told file ≡ Some bytes → length bytes ≤ script_bytes → Text bytes script → Owned script → (HasRisen source source' → ⊥) → (HasRisen sink sink' → ⊥) → (status ≡ 0) ⊎ (status ≡ 6)
+  done_or_memory (done st x) told file bytes script f n c w t o q r = inl st
+  done_or_memory (misused st x) told file bytes script f n c w t o q r = absurd (no_file words file n x.words_are)
+  done_or_memory (rejected st x) told file bytes script f n c w t o q r = absurd (accepted_refused words files told file bytes script x.refusal f n c w t o x.refused)
+  done_or_memory (unreadable st x) told file bytes script f n c w t o q r = absurd (q x.risen)
+  done_or_memory (unwritten st u x) told file bytes script f n c w t o q r = absurd (r u)
+  done_or_memory (no_memory st x) told file bytes script f n c w t o q r = inr st
+
+  -- refused bytes and no fault
+  pub rejected_or_memory : Outcome words files source source' sink sink' old new status entries → (told : List File) (file bytes : List ℕ) (refusal : Refusal) → files ≡ Some told → file_of words ≡ Some file → content_of told file ≡ Some bytes → IsRefusedText bytes refusal → (HasRisen source source' → ⊥) → (HasRisen sink sink' → ⊥) → (status ≡ 3) ⊎ (status ≡ 6)
+  rejected_or_memory (done st x) told file bytes refusal f n c t q r = absurd (refused_accepted words files told file bytes x.script refusal f n c t x.read)
+  rejected_or_memory (misused st x) told file bytes refusal f n c t q r = absurd (no_file words file n x.words_are)
+  rejected_or_memory (rejected st x) told file bytes refusal f n c t q r = inl st
+  rejected_or_memory (unreadable st x) told file bytes refusal f n c t q r = absurd (q x.risen)
+  rejected_or_memory (unwritten st u x) told file bytes refusal f n c t q r = absurd (r u)
+  rejected_or_memory (no_memory st x) told file bytes refusal f n c t q r = inr st

@@ -1,0 +1,71 @@
+-- What a command came to before a line of it is written.
+use Rattle.std.specs.Prelude.{◌≡◌, ℕ, ◌<◌, ⊤, ◌⊎◌, List, [], length, Option, None, Result, Ok, Err}
+use Rattle.cf_fault.specs.Fault.{HasRisen}
+use Rattle.cf_io.specs.Files.{File}
+use Rattle.cf_syntax.specs.Text.{Text, Refused}
+use Rattle.cf_syntax.specs.Owned.{Owned}
+use Rattle.cf_script.specs.declared.checked.Checked.{Checked}
+use Rattle.cf_script.specs.declared.fault.ScriptFault.{ScriptFault}
+use Rattle.cf_script.specs.declared.fault.ScriptFault.TheVariants as faults
+use Rattle.cf_model.specs.declared.action.Entry.{Entry}
+use Rattle.cf_run.specs.declared.output.Unwritten.{Unwritten}
+use Rattle.cf_run.specs.declared.output.Unwritten.TheVariants as unwritten
+use Rattle.cf_run.specs.declared.settle.Settled.{Settled}
+use Rattle.cf_run.specs.declared.settle.Settled.TheVariants as settled
+use Rattle.cf_run.specs.Commands.{file_of, TakesWords}
+use Rattle.cf_run.specs.Tally.{IsOver}
+use Rattle.cf_run.specs.Lines.{run_text}
+use Rattle.cf_run.specs.Outcomes.{IsUnfit, IsAccepted, IsRefused, usage_text, fault_text, refusal_text}
+
+-- what the reader and the owner check say of bytes: an owned script of which they are the text, or their
+-- refusal
+abbrev pub Accepts : Result Checked ScriptFault → List ℕ → Type 0
+Accepts (Ok c) bytes = Text bytes c × Owned c
+Accepts (Err (faults.Refused r)) bytes = Refused bytes r ⊎ IsUnfit bytes r
+Accepts (Err faults.NoMemory) bytes = ⊤
+
+-- what the bytes of a file came to
+abbrev pub SettlesBytes : List ℕ → Settled → Type 0
+SettlesBytes bytes settled.Usage = ⊥
+SettlesBytes bytes settled.ReadFault = ⊥
+SettlesBytes bytes (settled.Refused r) = Refused bytes r ⊎ IsUnfit bytes r
+SettlesBytes bytes (settled.Ran script run) = Text bytes script × Owned script × IsOver script run.journal.items run.counted.items run.finals
+
+-- what it came to, and the source's count of faults
+abbrev pub Settles : List (List ℕ) → Option (List File) → (faults faults' : ℕ) → Settled → Type 0
+Settles words files faults faults' settled.Usage = file_of words ≡ None
+Settles words files faults faults' settled.ReadFault = TakesWords words × HasRisen faults faults'
+Settles words files faults faults' (settled.Refused r) = IsRefused words files r
+Settles words files faults faults' (settled.Ran script run) = IsAccepted words files script × IsOver script run.journal.items run.counted.items run.finals
+
+-- the text that is due, and the journal
+abbrev pub due_of : Settled → List ℕ
+due_of settled.Usage = usage_text
+due_of settled.ReadFault = fault_text
+due_of (settled.Refused r) = refusal_text r
+due_of (settled.Ran script run) = run_text run.journal.items run.counted.items run.finals
+
+abbrev pub entries_of : Settled → List Entry
+entries_of settled.Usage = []
+entries_of settled.ReadFault = []
+entries_of (settled.Refused r) = []
+entries_of (settled.Ran script run) = run.journal.items
+
+abbrev pub status_of : Settled → ℕ
+status_of settled.Usage = 2
+status_of settled.ReadFault = 4
+status_of (settled.Refused r) = 3
+status_of (settled.Ran script run) = 0
+
+-- few enough objects have numbers
+abbrev pub HasFew : Settled → Type 0
+HasFew settled.Usage = ⊤
+HasFew settled.ReadFault = ⊤
+HasFew (settled.Refused r) = ⊤
+HasFew (settled.Ran script run) = length run.counted.items < 65536
+
+-- the status after its lines were written, or not
+abbrev pub status_after : Result (Unit {0}) Unwritten → Settled → ℕ
+status_after (Ok u) s = status_of s
+status_after (Err unwritten.Fault) s = 5
+status_after (Err unwritten.NoMemory) s = 6

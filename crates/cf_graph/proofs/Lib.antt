@@ -1,3 +1,8 @@
 pub mod Same
 pub mod Counts
 pub mod Sides
+pub mod Latest
+pub mod Follows
+pub mod Closure
+pub mod Chosen
+pub mod Degrees

@@ -1,3 +1,6 @@
 pub mod Holders
 pub mod Edges
 pub mod Operations
+pub mod Degrees
+pub mod Paths
+pub mod Walks

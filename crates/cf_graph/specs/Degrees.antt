@@ -1,0 +1,12 @@
+-- Which references count for an object. This project's own.
+use Rattle.std.specs.Prelude.{ℕ, Bool, ◌&&◌, ◌==◌}
+use Rattle.cf_graph.specs.declared.edge.Edge.{Edge}
+use Rattle.cf_graph.specs.Holders.{is_owning}
+
+-- the reference leads to the object
+abbrev pub leads_to : ℕ → Edge → Bool
+leads_to o e = e.object == o
+
+-- it leads to the object from a thread or a parcel
+abbrev pub owns : ℕ → Edge → Bool
+owns o e = leads_to o e && is_owning e.owner

@@ -1,0 +1,8 @@
+pub mod Cells
+pub mod Faults
+pub mod Forms
+pub mod Hash
+pub mod Laws
+pub mod Leaves
+pub mod Registry
+pub mod Views

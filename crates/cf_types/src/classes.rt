@@ -1,0 +1,69 @@
+ghost use Rattle.std.specs.Prelude.{◌≡◌, [], ◌∷◌, ◌++◌, map, OnOk, OnErr};
+ghost use Rattle.cf_types.specs.Registry.{built_in, has_name};
+
+use cf_ids::Seq;
+use std::alloc::{AllocError as NoMemory, Global};
+
+/// What instances of a class are compared by.
+#[derive(Clone, Copy)]
+pub enum Equality {
+    /// Their identity.
+    Identity,
+    /// The key that each is made with.
+    Key,
+}
+
+/// A type of objects.
+#[derive(Drop)]
+pub struct Class {
+    /// The name, in UTF-8.
+    pub name: Seq<u8>,
+    /// How many fields an instance has.
+    pub fields: u8,
+    pub equality: Equality,
+}
+
+/// Puts a class behind the others. It copies the bytes of the name.
+pub(crate) fn add_class(
+    alloc: Global,
+    classes: &mut Vec<Class>,
+    name: &str,
+    fields: u8,
+    equality: Equality,
+) -> Result<(), NoMemory>
+    ensures ok { OnOk result (classes.new.items ≡ classes.old.items
+        ++ record { name = name.now; fields = fields; equality = equality } ∷ []) }
+    ensures err { OnErr result (classes.new.items ≡ classes.old.items) }
+{
+    let name = Seq::from_vec(Vec::from_slice(alloc, name.as_bytes())?);
+    classes.push(Class {
+        name,
+        fields,
+        equality,
+    })?;
+    Ok(())
+}
+
+/// Puts the built-in classes of these names behind the others.
+pub(crate) fn add_built_in(
+    alloc: Global,
+    classes: &mut Vec<Class>,
+    names: &[&str],
+) -> Result<(), NoMemory>
+    ensures { let added = map (λ name. built_in name.now) names.now in
+        OnOk result (classes.new.items ≡ classes.old.items ++ added) }
+{
+    for &name in names {
+        add_class(alloc, classes, name, 0, Equality::Identity)?;
+    }
+    Ok(())
+}
+
+/// Whether a class has this name.
+pub(crate) fn has_name(classes: &[Class], name: &str) -> bool
+    ensures { result ≡ has_name classes.now name.now }
+{
+    classes
+        .iter()
+        .any(|class| class.name.as_slice() == name.as_bytes())
+}

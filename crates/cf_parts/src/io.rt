@@ -1,0 +1,187 @@
+//! Bytes in and out: whole files that are read and whole texts that are written, in memory and by the system.
+use cf_io::{FileSource, MemFile, MemSink, MemSource, Source, StdSink, read_all, write_all};
+use std::alloc::{AllocError, Global};
+use std::test::Fail;
+use std::{fs, process};
+
+// A file named `f` in memory, and what reading it gives.
+struct ReadCase {
+    about: &'static str,
+    name: &'static str,
+    bytes: &'static [u8],
+    most: usize,
+    failing: &'static [u64],
+    limit: usize,
+    gives: &'static str,
+}
+
+const READ_CASES: [ReadCase; 8] = [
+    ReadCase {
+        about: "an empty file",
+        name: "f",
+        bytes: b"",
+        most: 100,
+        failing: &[],
+        limit: 4,
+        gives: "Ok([])",
+    },
+    ReadCase {
+        about: "one byte a call",
+        name: "f",
+        bytes: b"hey",
+        most: 1,
+        failing: &[],
+        limit: 100,
+        gives: "Ok([104, 101, 121])",
+    },
+    ReadCase {
+        about: "a second read that fails after 10 bytes",
+        name: "f",
+        bytes: b"0123456789ab",
+        most: 10,
+        failing: &[2],
+        limit: 100,
+        gives: "Err(ReadFault)",
+    },
+    ReadCase {
+        about: "a file of as many bytes as the limit",
+        name: "f",
+        bytes: b"hey!",
+        most: 3,
+        failing: &[],
+        limit: 4,
+        gives: "Ok([104, 101, 121, 33])",
+    },
+    ReadCase {
+        about: "a file of one byte more than the limit",
+        name: "f",
+        bytes: b"hey!",
+        most: 3,
+        failing: &[],
+        limit: 3,
+        gives: "Err(TooLong)",
+    },
+    ReadCase {
+        about: "a call that fails past the end",
+        name: "f",
+        bytes: b"hey",
+        most: 3,
+        failing: &[3],
+        limit: 3,
+        gives: "Ok([104, 101, 121])",
+    },
+    ReadCase {
+        about: "an open that fails",
+        name: "f",
+        bytes: b"hey",
+        most: 3,
+        failing: &[0],
+        limit: 3,
+        gives: "not open",
+    },
+    ReadCase {
+        about: "a name that is missing",
+        name: "g",
+        bytes: b"hey",
+        most: 3,
+        failing: &[],
+        limit: 3,
+        gives: "not open",
+    },
+];
+
+fn outcome_of_read(alloc: Global, case: &ReadCase) -> Result<String, AllocError> {
+    let name = String::from_str(alloc, "f")?;
+    let bytes = Vec::from_slice(alloc, case.bytes)?;
+    let files = vec![in alloc; MemFile { name, bytes }]?;
+    let failing = Vec::from_slice(alloc, case.failing)?;
+    let mut source = MemSource::new(files, failing, case.most.max(1));
+    match source.open(case.name) {
+        Ok(()) => {
+            let all = read_all(alloc, &mut source, case.limit);
+            format!(in alloc; "{all:?}")
+        }
+        Err(_) => String::from_str(alloc, "not open"),
+    }
+}
+
+// A text, and what writing it gives: the outcome, and what the sink has taken.
+struct WriteCase {
+    about: &'static str,
+    bytes: &'static [u8],
+    most: usize,
+    failing: &'static [u64],
+    gives: &'static str,
+}
+
+const WRITE_CASES: [WriteCase; 4] = [
+    WriteCase {
+        about: "no byte",
+        bytes: b"",
+        most: 100,
+        failing: &[0],
+        gives: "Ok(()) []",
+    },
+    WriteCase {
+        about: "one byte a call",
+        bytes: b"hey",
+        most: 1,
+        failing: &[],
+        gives: "Ok(()) [104, 101, 121]",
+    },
+    WriteCase {
+        about: "a second write that fails",
+        bytes: b"hey!",
+        most: 3,
+        failing: &[1],
+        gives: "Err(WriteFault { out: 3 }) [104, 101, 121]",
+    },
+    WriteCase {
+        about: "a first write that fails",
+        bytes: b"hey",
+        most: 3,
+        failing: &[0],
+        gives: "Err(WriteFault { out: 0 }) []",
+    },
+];
+
+fn outcome_of_write(alloc: Global, case: &WriteCase) -> Result<String, AllocError> {
+    let failing = Vec::from_slice(alloc, case.failing)?;
+    let mut sink = MemSink::new(alloc, failing, case.most.max(1));
+    let end = write_all(&mut sink, case.bytes);
+    format!(in alloc; "{end:?} {:?}", sink.taken())
+}
+
+#[test]
+fn bytes_in_memory(rt: HostRuntime) -> Result<(), Fail> {
+    let alloc = rt.alloc();
+    for case in &READ_CASES {
+        let outcome = outcome_of_read(alloc, case)?;
+        assert_eq!(rt; outcome.as_str(), case.gives, "{}", case.about);
+    }
+    for case in &WRITE_CASES {
+        let outcome = outcome_of_write(alloc, case)?;
+        assert_eq!(rt; outcome.as_str(), case.gives, "{}", case.about);
+    }
+    Ok(())
+}
+
+#[test]
+fn bytes_of_the_system(rt: HostRuntime) -> Result<(), Fail> {
+    let alloc = rt.alloc();
+    let path = format!(in alloc; "/tmp/cf_io_file_{}", process::id(rt.process()))?;
+    fs::write(&rt, path.as_str(), "hey\n")?;
+    let mut source = FileSource::new(&rt);
+    let opened = source.open(path.as_str());
+    let all = read_all(alloc, &mut source, 4);
+    fs::remove_file(&rt, path.as_str())?;
+    let outcome = format!(in alloc; "{opened:?} {all:?} {:?}", source.open(path.as_str()))?;
+    assert_eq!(rt;
+        outcome.as_str(),
+        "Ok(()) Ok([104, 101, 121, 10]) Err(Failed)",
+        "a file that is read and then removed"
+    );
+    let written = write_all(&mut StdSink::new(&rt), b"a line by a sink\n");
+    assert!(rt; written.is_ok(), "a line to the standard output");
+    Ok(())
+}

@@ -1,104 +1,10 @@
-//! Callbacks, arrays, tables of rows and dictionaries: each call on its happy path, and each refusal.
-ghost use Rattle.std.specs.Prelude.{◌≡◌, ◌<◌, true, nat_eq};
-ghost use Rattle.std.specs.Ordering.{nat_cmp, on};
-ghost use Rattle.std.specs.Cmp.{nat_eq_equiv, nat_cmp_total, on_equiv, on_total};
-ghost use Rattle.std.specs.Cmp.Rules.{comparing};
-ghost use Rattle.std.proofs.Common.{rules, refl};
-
+//! Arrays, tables of rows and dictionaries: each call on its happy path, and each refusal.
+use crate::coins::{ByKey, Coin, NOTHING, REFUSED, number, place, refused};
 use cf_array::Array;
 use cf_basichash::Rows;
-use cf_callbacks::{Callbacks, Steps};
 use cf_dictionary::{Dict, DictSet};
 use std::alloc::AllocError;
-use std::cmp::Ordering;
-use std::marker::Brand;
-use std::sync::ledger::{Blank, Ledger};
 use std::test::Fail;
-
-// Coins are equal where their keys are, and their numbers tell them apart.
-#[derive(Clone, Copy)]
-struct Coin {
-    number: u8,
-    key: u8,
-}
-
-#[derive(Clone, Copy)]
-struct ByKey;
-
-impl Callbacks<Coin> for ByKey {
-    ghost keeps = { λ _. true };
-
-    ghost same = { λ _. on (λ coin. coin.key) nat_eq };
-
-    ghost hash_of = { λ _ _. 7 };
-
-    ghost rank = { λ _. on (λ coin. coin.key) nat_cmp };
-
-    ghost equivalence = { λ _. on_equiv (λ coin. coin.key) nat_eq_equiv };
-
-    ghost equal_hashes = { λ _ _ _ _. refl };
-
-    ghost total = { λ _. on_total (λ coin. coin.key) nat_cmp_total };
-
-    ghost equal_ranks = { Prim.search (comparing, rules) };
-
-    fn retains(&self) -> bool {
-        true
-    }
-
-    fn equal(&self, a: &Coin, b: &Coin) -> bool {
-        a.key == b.key
-    }
-
-    fn hash(&self, _a: &Coin) -> u64 {
-        7
-    }
-
-    fn order<L: Ledger>(&self, a: &Coin, b: &Coin, steps: &mut Steps<L>) -> Ordering {
-        steps.tick();
-        a.key.cmp(&b.key)
-    }
-}
-
-// What an answer that gives a coin back, or none, is written as in a table of cases.
-const NOTHING: u16 = 999;
-
-const REFUSED: u16 = 1000;
-
-fn number(coin: Option<Coin>) -> u16 {
-    coin.map_or(NOTHING, |coin| u16::from(coin.number))
-}
-
-fn refused(coin: Coin) -> u16 {
-    REFUSED + u16::from(coin.number)
-}
-
-fn place(found: Option<usize>) -> u16 {
-    match found {
-        Some(0) => 0,
-        Some(1) => 1,
-        Some(2) => 2,
-        Some(_) => REFUSED,
-        None => NOTHING,
-    }
-}
-
-fn orders<L: Ledger, C: Callbacks<Coin>>(blank: Blank, c: &C, a: &Coin, b: &Coin) -> Ordering
-    requires name { blank.name ≡ L.name }
-    requires parts { blank.parts ≡ L.parts }
-    requires some { 0 < blank.parts }
-{
-    let mut steps = Steps::<L>::new(blank);
-    c.order(a, b, &mut steps)
-}
-
-fn compares<C: Callbacks<Coin>>(c: &C, a: &Coin, b: &Coin) -> (bool, bool, bool) {
-    (c.retains(), c.equal(a, b), c.hash(a) == c.hash(b))
-}
-
-fn ordered(a: &Coin, b: &Coin) -> Ordering {
-    orders::<Brand, ByKey>(Blank::new(1), &ByKey, a, b)
-}
 
 #[derive(Clone, Copy)]
 enum ArrayCall {
@@ -219,30 +125,8 @@ fn dict_numbers(dict: &Dict<Coin, ByKey>) -> (usize, [(u16, u16); 2]) {
     (dict.count(), [at(0), at(1)])
 }
 
-#[test]
-fn callbacks_compare(rt: HostRuntime) {
-    let (one, other, two) = (
-        Coin { number: 1, key: 7 },
-        Coin { number: 2, key: 7 },
-        Coin { number: 3, key: 8 },
-    );
-    assert_eq!(rt;
-        [compares(&ByKey, &one, &other), compares(&ByKey, &one, &two)],
-        [(true, true, true), (true, false, true)],
-        "retained, equal and of equal hashes"
-    );
-    assert_eq!(rt;
-        [
-            ordered(&one, &other),
-            ordered(&one, &two),
-            ordered(&two, &one)
-        ],
-        [Ordering::Equal, Ordering::Less, Ordering::Greater],
-        "ordered by key"
-    );
-}
-
-const ARRAY_CALLS: [(&str, ArrayCall, u16, (usize, [u16; 3])); 10] = [
+// What is done to an array, what comes of it, and the numbers that are left.
+const ARRAY_CASES: [(&str, ArrayCall, u16, (usize, [u16; 3])); 10] = [
     (
         "appended",
         ArrayCall::Append(Coin { number: 1, key: 7 }),
@@ -300,18 +184,8 @@ const ARRAY_CALLS: [(&str, ArrayCall, u16, (usize, [u16; 3])); 10] = [
     ),
 ];
 
-#[test]
-fn arrays_change(rt: HostRuntime) -> Result<(), Fail> {
-    let mut array = Array::new(rt.alloc());
-    array.reserve(0)?;
-    for (message, call, answer, left) in &ARRAY_CALLS {
-        let got = call_array(&mut array, call)?;
-        assert_eq!(rt; (got, array_numbers(&array)), (*answer, *left), "{message}");
-    }
-    Ok(())
-}
-
-const ROWS_CALLS: [(&str, RowsCall, u16, (usize, [(u16, u8); 2])); 9] = [
+// The same of a table of rows.
+const ROWS_CASES: [(&str, RowsCall, u16, (usize, [(u16, u8); 2])); 9] = [
     (
         "added",
         RowsCall::Add(Coin { number: 1, key: 7 }, 11),
@@ -363,18 +237,8 @@ const ROWS_CALLS: [(&str, RowsCall, u16, (usize, [(u16, u8); 2])); 9] = [
     ),
 ];
 
-#[test]
-fn rows_change(rt: HostRuntime) -> Result<(), Fail> {
-    let mut rows = Rows::new(rt.alloc(), ByKey);
-    rows.reserve(0)?;
-    for (message, call, answer, left) in &ROWS_CALLS {
-        let got = call_rows(&mut rows, call)?;
-        assert_eq!(rt; (got, row_numbers(&rows)), (*answer, *left), "{message}");
-    }
-    Ok(())
-}
-
-const DICT_CALLS: [(&str, DictCall, u16, (usize, [(u16, u16); 2])); 10] = [
+// The same of a dictionary.
+const DICT_CASES: [(&str, DictCall, u16, (usize, [(u16, u16); 2])); 10] = [
     (
         "set a new key",
         DictCall::Set(Coin { number: 1, key: 7 }, Coin { number: 11, key: 0 }),
@@ -433,10 +297,32 @@ const DICT_CALLS: [(&str, DictCall, u16, (usize, [(u16, u16); 2])); 10] = [
 ];
 
 #[test]
-fn dictionaries_change(rt: HostRuntime) -> Result<(), Fail> {
+fn arrays(rt: HostRuntime) -> Result<(), Fail> {
+    let mut array = Array::new(rt.alloc());
+    array.reserve(0)?;
+    for (message, call, answer, left) in &ARRAY_CASES {
+        let got = call_array(&mut array, call)?;
+        assert_eq!(rt; (got, array_numbers(&array)), (*answer, *left), "{message}");
+    }
+    Ok(())
+}
+
+#[test]
+fn rows(rt: HostRuntime) -> Result<(), Fail> {
+    let mut rows = Rows::new(rt.alloc(), ByKey);
+    rows.reserve(0)?;
+    for (message, call, answer, left) in &ROWS_CASES {
+        let got = call_rows(&mut rows, call)?;
+        assert_eq!(rt; (got, row_numbers(&rows)), (*answer, *left), "{message}");
+    }
+    Ok(())
+}
+
+#[test]
+fn dictionaries(rt: HostRuntime) -> Result<(), Fail> {
     let mut dict = Dict::new(rt.alloc(), ByKey);
     dict.reserve(0)?;
-    for (message, call, answer, left) in &DICT_CALLS {
+    for (message, call, answer, left) in &DICT_CASES {
         let got = call_dict(&mut dict, call)?;
         assert_eq!(rt; (got, dict_numbers(&dict)), (*answer, *left), "{message}");
     }

@@ -2,6 +2,8 @@
 #![tactic(auto)]
 
 #[cfg(test)]
+mod coins;
+#[cfg(test)]
 mod collections;
 #[cfg(test)]
 mod ids;

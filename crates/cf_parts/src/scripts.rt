@@ -80,7 +80,8 @@ fn first_text(script: &Script) -> Option<&[u8]> {
     }
 }
 
-const TEXTS: [(&[u8], Outcome, &str); 24] = [
+// Texts, and what becomes of each.
+const TEXT_CASES: [(&[u8], Outcome, &str); 24] = [
     (b"cf 1\nsetup\nend\n", Outcome::Owned, "an empty setup"),
     (b"cf 1\r\nsetup\r\nend\r\n", Outcome::Owned, "CR LF"),
     (b"cf 1\nsetup\nend", Outcome::Owned, "no last LF"),
@@ -169,12 +170,13 @@ const TEXTS: [(&[u8], Outcome, &str); 24] = [
 
 #[test]
 fn texts_are_read(rt: HostRuntime) {
-    for (text, want, name) in TEXTS {
+    for (text, want, name) in TEXT_CASES {
         assert_eq!(rt; outcome_of(rt.alloc(), text), want, "{name}");
     }
 }
 
-const SETUPS: [(&[u8], Outcome, &str); 7] = [
+// The lines of a setup, and what becomes of the script.
+const OWNER_CASES: [(&[u8], Outcome, &str); 7] = [
     (
         b"make a string \"hi\"\nrelease a\n",
         Outcome::Owned,
@@ -214,7 +216,7 @@ const SETUPS: [(&[u8], Outcome, &str); 7] = [
 
 #[test]
 fn owners_are_checked(rt: HostRuntime) -> Result<(), Fail> {
-    for (lines, want, name) in SETUPS {
+    for (lines, want, name) in OWNER_CASES {
         let text = setup(rt.alloc(), lines)?;
         assert_eq!(rt; outcome_of(rt.alloc(), text.as_slice()), want, "{name}");
     }

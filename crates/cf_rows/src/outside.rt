@@ -119,23 +119,25 @@ fn faults_are_told(rt: HostRuntime) -> Result<(), Fail> {
     Ok(())
 }
 
+// Words that are of no form.
+const WORDS: [(&[&str], &str); 9] = [
+    (&[], "no words"),
+    (&["run"], "no file"),
+    (&["run", ""], "an empty name"),
+    (&["run", "-x"], "a name that begins with -"),
+    (&["run", "a", "b"], "two names"),
+    (&["run", "--serial"], "no file behind --serial"),
+    (
+        &["run", "--serial", "-x"],
+        "a name that begins with - behind --serial",
+    ),
+    (&["run", "--serial", "f", "f"], "two names behind --serial"),
+    (&["help"], "a call for help"),
+];
+
 #[test]
 fn words_of_no_form_are_told(rt: HostRuntime) -> Result<(), Fail> {
-    let cases: [(&[&str], &str); 9] = [
-        (&[], "no words"),
-        (&["run"], "no file"),
-        (&["run", ""], "an empty name"),
-        (&["run", "-x"], "a name that begins with -"),
-        (&["run", "a", "b"], "two names"),
-        (&["run", "--serial"], "no file behind --serial"),
-        (
-            &["run", "--serial", "-x"],
-            "a name that begins with - behind --serial",
-        ),
-        (&["run", "--serial", "f", "f"], "two names behind --serial"),
-        (&["help"], "a call for help"),
-    ];
-    for (words, about) in cases {
+    for (words, about) in WORDS {
         let command = Command {
             words,
             text: ONE_STRING,

@@ -1,3 +1,4 @@
 pub mod Validity
 pub mod Characters
 pub mod Places
+pub mod Lossy

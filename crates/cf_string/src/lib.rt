@@ -3,6 +3,7 @@
 #![tactic(auto)]
 
 mod cuts;
+mod decoding;
 mod edits;
 mod faults;
 mod texts;

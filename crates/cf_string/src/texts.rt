@@ -1,4 +1,5 @@
-ghost use Rattle.std.specs.Prelude.{◌≡◌, ◌+◌, ◌≤◌, ◌↔◌, [], ◌++◌, length, take, drop, slice_get, IsOk, IsTrue, IfOk, OnOk, OnErr, IfSome, IfNone, ◌-◌};
+ghost use Rattle.std.specs.Prelude.{◌≡◌, ◌+◌, ◌<◌, ◌≤◌, ◌↔◌, [], ◌∷◌, ◌++◌, length, take, drop, slice_get, IsOk, IsTrue, IfOk, OnOk, OnErr, IfSome, IfNone, ◌-◌};
+ghost use Rattle.std.specs.Char.Utf16.{utf16_lossy_chars};
 ghost use Rattle.std.specs.Ordering.{nat_cmp};
 ghost use Rattle.std.specs.Cmp.Lexicographic.{slice_cmp};
 ghost use Rattle.std.specs.Str.{IsUtf8, chars};
@@ -6,6 +7,7 @@ ghost use Rattle.cf_string.specs.Faults.{bytes_fault, cut_fault, done_unless, Is
 ghost use Rattle.cf_string.specs.Units.{IsFirstPlace, IsText, KeepsCapacity, StandsAt, StandsNowhereFrom, replaced, units_of};
 
 use crate::cuts::cut_fault;
+use crate::decoding::char_at;
 use crate::edits::{cut_out, put_in};
 use crate::faults::StrFault;
 use std::alloc::{AllocError as NoMemory, Global};
@@ -75,6 +77,16 @@ impl Str {
         ensures { result ≡ slice_get self.now.units i }
     {
         self.units.get(i).copied()
+    }
+
+    /// The character whose units begin at `at`, and where the next one begins.
+    pub fn char_at(&self, at: usize) -> (char, usize)
+        requires { at < length self.now.units }
+        ensures bound { at < result.1 }
+        ensures first { let units = self.now.units in
+            utf16_lossy_chars (drop at units) ≡ result.0 ∷ utf16_lossy_chars (drop result.1 units) }
+    {
+        char_at(&self.units, at)
     }
 
     /// The `len` units from `at` on, as a text of their own.

@@ -1,8 +1,33 @@
-ghost use Rattle.std.specs.Prelude.{◌≡◌, [], ◌∷◌, ◌++◌, map, OnOk, OnErr};
-ghost use Rattle.cf_types.specs.Registry.{built_in, has_name};
+ghost use Rattle.std.specs.Prelude.{◌≡◌, ◌-◌, [], ◌∷◌, ◌++◌, map, slice_get, OnOk, OnErr};
+ghost use Rattle.std.specs.Option.{option_map};
+ghost use Rattle.cf_types.specs.Registry.{built_in, built_in_names, has_name};
 
-use cf_ids::Seq;
+use cf_ids::{Seq, TypeId};
 use std::alloc::{AllocError as NoMemory, Global};
+
+/// The names of the built-in types, which are numbered from 1.
+pub const BUILT_IN_NAMES: [&str; 13] = [
+    "Null",
+    "Boolean",
+    "String",
+    "Data",
+    "Number",
+    "Array",
+    "Dictionary",
+    "Set",
+    "Bag",
+    "BinaryHeap",
+    "RunLoopSource",
+    "RunLoopTimer",
+    "RunLoopObserver",
+];
+
+/// The name of a built-in type, or `None` for a class of a script.
+pub fn built_in_name(class: TypeId) -> Option<&'static str>
+    ensures { option_map (λ name. name.now) result ≡ slice_get built_in_names (class - 1) }
+{
+    BUILT_IN_NAMES.get(usize::from(class.0) - 1).copied()
+}
 
 /// What instances of a class are compared by.
 #[derive(Clone, Copy)]

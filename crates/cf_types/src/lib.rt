@@ -11,7 +11,7 @@ mod registry;
 
 pub use callbacks::CellCallbacks;
 pub use cells::Cell;
-pub use classes::{Class, Equality};
+pub use classes::{BUILT_IN_NAMES, Class, Equality, built_in_name};
 pub use forms::Form;
 pub use hashing::{hash_of_empty, hash_of_hi};
 pub use leaves::Leaf;

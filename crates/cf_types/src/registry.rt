@@ -4,7 +4,7 @@ ghost use Rattle.cf_types.specs.Faults.{IsRefusedFor, register_fault};
 ghost use Rattle.cf_types.specs.Registry.{built_in_classes};
 ghost use Rattle.cf_types.specs.declared.registry.RegisterFault.TheVariants.{NoMemory};
 
-use crate::classes::{Class, Equality, add_built_in, add_class, has_name};
+use crate::classes::{BUILT_IN_NAMES, Class, Equality, add_built_in, add_class, has_name};
 use cf_ids::{TYPES, TypeId};
 use std::alloc::{AllocError, Global};
 use std::marker::Model;
@@ -53,22 +53,7 @@ impl Registry {
         ensures { IfOk result (λ registry. registry ≡ built_in_classes) }
     {
         let mut classes = Vec::new(alloc);
-        let names = [
-            "Null",
-            "Boolean",
-            "String",
-            "Data",
-            "Number",
-            "Array",
-            "Dictionary",
-            "Set",
-            "Bag",
-            "BinaryHeap",
-            "RunLoopSource",
-            "RunLoopTimer",
-            "RunLoopObserver",
-        ];
-        add_built_in(alloc, &mut classes, &names)?;
+        add_built_in(alloc, &mut classes, &BUILT_IN_NAMES)?;
         Ok(Registry { classes })
     }
 

@@ -8,16 +8,18 @@ use Rattle.cf_graph.specs.Edges.{Reference, same, leading_to, counted}
 use Rattle.cf_graph.specs.Operations.{without, run}
 use Rattle.cf_graph.proofs.Same.{same-equal}
 use Rattle.cf_syntax.specs.declared.script.Script.{Script}
+use Rattle.cf_syntax.specs.declared.script.ClassLine.{ClassLine}
 use Rattle.cf_syntax.specs.declared.statement.Statement.{Statement}
 use Rattle.cf_syntax.specs.Forms.{touch_of}
 use Rattle.cf_syntax.specs.declared.statement.Touch.{Touch}
 use Rattle.cf_syntax.specs.declared.statement.Touch.TheVariants.{Nothing, Binds, Plus, Minus}
 use Rattle.cf_model.specs.declared.action.Entry.{Entry}
+use Rattle.cf_contents.specs.Contents.{Object}
+use Rattle.cf_contents.specs.Deeds.{Source, nowhere, fresh, first_of, deed_at, changed_by}
+use Rattle.cf_contents.proofs.ContentLaws.{length-changed_by}
 use Rattle.cf_model.specs.State.{State, start, times, degree}
-use Rattle.cf_model.specs.declared.deed.Source.{Source}
-use Rattle.cf_model.specs.declared.deed.Source.TheVariants.{Nowhere, Fresh}
-use Rattle.cf_model.specs.Deeds.{Site, site_of, deed_of}
-use Rattle.cf_model.specs.Steps.{reference, found, first_of, target, operations_of, made_by, finalised_by, finalised_at, statement_in, step_with, step_at, state_by, effect}
+use Rattle.cf_model.specs.Actions.{Site, site_of}
+use Rattle.cf_model.specs.Steps.{Step, step_of, reference, found, target, operations_of, made_by, objects_after, finalised_by, finalised_at, statement_in, step_with, step_at, state_by, effect}
 use Rattle.cf_model.specs.Journals.{MayUse, MayUseAll, IsLegalFrom, IsLegal, state_from, After, used_at}
 
 -- the balance of an object, as numbers
@@ -124,8 +126,8 @@ cuts t v o finalised es made q live is h =
 -- a step keeps the balance of every object
 pub step_balances : (t : ℕ) (touch : Touch) (source : Source) (used : Option ℕ) (finalised : List ℕ) (es : List Reference) (made q : ℕ) → IsLiveIf finalised made used → Balances finalised es made q → NewBalances t touch source used finalised es made q
 step_balances t Nothing source used finalised es made q live h = stays finalised es made q h
-step_balances t (Binds v) Nowhere used finalised es made q live h = stays finalised es made q h
-step_balances t (Binds v) (Fresh class) used finalised es made q live h = binds_fresh t v finalised es made q h
+step_balances t (Binds v) nowhere used finalised es made q live h = stays finalised es made q h
+step_balances t (Binds v) (fresh ob) used finalised es made q live h = binds_fresh t v finalised es made q h
 step_balances t (Plus v) source None finalised es made q live h = stays finalised es made q h
 step_balances t (Plus v) source (Some o) finalised es made q live h = rw add-zero (adds t v o finalised es made q live.0 live.1 h)
 step_balances t (Minus v) source None finalised es made q live h = stays finalised es made q h
@@ -133,8 +135,11 @@ step_balances t (Minus v) source (Some o) finalised es made q live h = rw add-ze
 
 -- ---- legal journals are balanced
 
-made-length : (st : State) (touch : Touch) (source : Source) → length (st.objects ++ made_by touch source) ≡ length st.objects + length (made_by touch source)
-made-length st touch source = length-append st.objects (made_by touch source)
+-- how many objects a step leaves
+pub objects-length : (step : Step) (objects : List Object) → length (objects_after step objects) ≡ length objects + length (made_by step.touch step.deed.source)
+objects-length step objects =
+    length-append (changed_by step.used step.deed.change objects) (made_by step.touch step.deed.source)
+    ∙ ap (λ (n : ℕ). n + length (made_by step.touch step.deed.source)) (length-changed_by step.used step.deed.change objects)
 
 live_parts : (st : State) (t o : ℕ) → MayUse st t o → (times o st.finalised ≡ 0) × (o < length st.objects)
 live_parts st t o h =
@@ -146,15 +151,15 @@ live_if st t [] h = tt
 live_if st t (None ∷ os) h = tt
 live_if st t (Some o ∷ os) h = live_parts st t o h.0
 
-site_balances : (t : ℕ) (st : State) (site : Site) (statement : Option Statement) → MayUseAll st t site.used → IsBalanced st → IsBalanced (state_by t st (step_with st site statement))
-site_balances t st site None u h = h
-site_balances t st site (Some s) u h = λ q.
-    rw (made-length st (touch_of s) (deed_of s).source)
-    (step_balances t (touch_of s) (deed_of s).source (first_of site.used) st.finalised st.edges (length st.objects) q (live_if st t site.used u) (h q))
+site_balances : (t : ℕ) (classes : List ClassLine) (st : State) (used : List (Option ℕ)) (statement : Option Statement) → MayUseAll st t used → IsBalanced st → IsBalanced (state_by t st (step_with classes st.objects used statement))
+site_balances t classes st used None u h = h
+site_balances t classes st used (Some s) u h = λ q.
+    rw (objects-length (step_of classes st.objects s used) st.objects)
+    (step_balances t (touch_of s) (deed_at classes st.objects s used).source (first_of used) st.finalised st.edges (length st.objects) q (live_if st t used u) (h q))
 
 pub entry_balances : (s : Script) (t : ℕ) (st : State) (site : Option Site) → MayUseAll st t (used_at site) → IsBalanced st → IsBalanced (state_by t st (step_at s st site))
 entry_balances s t st None u h = h
-entry_balances s t st (Some site) u h = site_balances t st site (statement_in s site.block site.number) u h
+entry_balances s t st (Some site) u h = site_balances t s.classes st site.used (statement_in s site.block site.number) u h
 
 -- legal entries keep the balance
 pub legal_balances : (s : Script) (st : State) (es : List Entry) → IsLegalFrom s st es → IsBalanced st → IsBalanced (state_from s st es)

@@ -10,16 +10,16 @@ use Rattle.cf_graph.proofs.Sides.{weigh-sides}
 use Rattle.cf_graph.specs.Operations.{run}
 use Rattle.cf_ids.specs.declared.answer.Answer.{Answer}
 use Rattle.cf_syntax.specs.declared.script.Script.{Script}
+use Rattle.cf_syntax.specs.declared.script.ClassLine.{ClassLine}
 use Rattle.cf_syntax.specs.declared.statement.Statement.{Statement}
 use Rattle.cf_syntax.specs.declared.statement.Touch.{Touch}
 use Rattle.cf_syntax.specs.declared.statement.Touch.TheVariants.{Nothing, Binds, Plus, Minus}
 use Rattle.cf_syntax.specs.Forms.{touch_of}
 use Rattle.cf_model.specs.declared.action.Entry.{Entry}
-use Rattle.cf_model.specs.State.{State, Object, start, times, degree}
-use Rattle.cf_model.specs.declared.deed.Source.{Source}
-use Rattle.cf_model.specs.declared.deed.Source.TheVariants.{Nowhere, Fresh}
-use Rattle.cf_model.specs.Deeds.{deed_of}
-use Rattle.cf_model.specs.Steps.{found, first_of, target, operations_of, finalised_by, answer_of, statement_in, state_by, answer_by, effect, step_for}
+use Rattle.cf_contents.specs.Contents.{Object}
+use Rattle.cf_contents.specs.Deeds.{Source, nowhere, fresh, first_of, deed_at}
+use Rattle.cf_model.specs.State.{State, start, times, degree}
+use Rattle.cf_model.specs.Steps.{found, target, operations_of, finalised_by, answer_of, statement_in, state_by, answer_by, effect, step_for}
 use Rattle.cf_model.specs.Journals.{MayUse, MayUseAll, Next, IsLegalEntry, IsLegalFrom, IsLegal, state_from, After, used_of, next_of, demanded}
 use Rattle.cf_model.specs.Finals.{final_of, one_at, finals, uses, FinalsFit}
 use Rattle.cf_model.proofs.FrameSteps.{frame_step, site_in, step_for-demanded, final_at, final_of-action_of}
@@ -46,28 +46,29 @@ minus_finals v o q obs left other fin false e = rw e (omega arith)
 
 touch_finals : (t : ℕ) (touch : Touch) (source : Source) (used : Option ℕ) (q made : ℕ) (obs : List Object) (left : List Reference) (other : Answer) (fin : List ℕ) → one_at q (final_at touch (answer_of touch (target touch (found made source) used) obs left other) used) + times q fin ≡ times q (finalised_by touch (target touch (found made source) used) left ++ fin)
 touch_finals t Nothing source used q made obs left other fin = omega arith
-touch_finals t (Binds v) Nowhere used q made obs left other fin = omega arith
-touch_finals t (Binds v) (Fresh class) used q made obs left other fin = omega arith
+touch_finals t (Binds v) nowhere used q made obs left other fin = omega arith
+touch_finals t (Binds v) (fresh ob) used q made obs left other fin = omega arith
 touch_finals t (Plus v) source None q made obs left other fin = omega arith
 touch_finals t (Plus v) source (Some o) q made obs left other fin = omega arith
 touch_finals t (Minus v) source None q made obs left other fin = omega arith
 touch_finals t (Minus v) source (Some o) q made obs left other fin = minus_finals v o q obs left other fin (degree o left == 0) refl
 
-frame_finals : (t q : ℕ) (st : State) (o : Option Statement) → one_at q (final_of (next_of st.frame o) (answer_by t st (frame_step st o))) + times q st.finalised ≡ times q (state_by t st (frame_step st o)).finalised
-frame_finals t q st None = omega arith
-frame_finals t q st (Some x) =
+frame_finals : (classes : List ClassLine) (t q : ℕ) (st : State) (o : Option Statement) → one_at q (final_of (next_of st.frame o) (answer_by t st (frame_step classes st o))) + times q st.finalised ≡ times q (state_by t st (frame_step classes st o)).finalised
+frame_finals classes t q st None = omega arith
+frame_finals classes t q st (Some x) =
     let site = site_in st.frame x in
     let made = length st.objects in
-    let object = target (touch_of x) (found made (deed_of x).source) (first_of site.used) in
+    let deed = deed_at classes st.objects x site.used in
+    let object = target (touch_of x) (found made deed.source) (first_of site.used) in
     let left = run (operations_of t (touch_of x) object) st.edges in
-    rw (final_of-action_of x site (answer_by t st (frame_step st (Some x))))
-    (touch_finals t (touch_of x) (deed_of x).source (first_of site.used) q made st.objects left (deed_of x).answer st.finalised)
+    rw (final_of-action_of x site (answer_by t st (frame_step classes st (Some x))))
+    (touch_finals t (touch_of x) deed.source (first_of site.used) q made st.objects left deed.answer st.finalised)
 
 entry_finals : (s : Script) (q : ℕ) (st : State) (e : Entry) → IsLegalEntry s st e → one_at q (final_of e.action e.answer) + times q st.finalised ≡ times q (effect s e.thread st e.action).finalised
 entry_finals s q st e h =
     let d = legal_is_demanded s st e h.next in
-    let step : step_for s st e.action ≡ frame_step st (statement_in s st.frame.block st.frame.number) = ap (step_for s st) d.action ∙ step_for-demanded s st in
-    rw (h.answer, step, d.action) (frame_finals e.thread q st (statement_in s st.frame.block st.frame.number))
+    let step : step_for s st e.action ≡ frame_step s.classes st (statement_in s st.frame.block st.frame.number) = ap (step_for s st) d.action ∙ step_for-demanded s st in
+    rw (h.answer, step, d.action) (frame_finals s.classes e.thread q st (statement_in s st.frame.block st.frame.number))
 
 -- the finals of a journal are the objects that it finalised
 finals_from : (s : Script) (q : ℕ) (st : State) (es : List Entry) → IsLegalFrom s st es → finals q es + times q st.finalised ≡ times q (state_from s st es).finalised

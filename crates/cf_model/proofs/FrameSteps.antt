@@ -1,6 +1,7 @@
 -- The step of the action that a frame demands is that of the frame's statement.
-use Rattle.std.proofs.Common.{◌≡◌, ℕ, Option, Some, None, length, refl, ap, ◌∙◌}
+use Rattle.std.proofs.Common.{◌≡◌, ℕ, List, Option, Some, None, refl, ap, ◌∙◌}
 use Rattle.cf_syntax.specs.declared.script.Script.{Script}
+use Rattle.cf_syntax.specs.declared.script.ClassLine.{ClassLine}
 use Rattle.cf_syntax.specs.declared.statement.Statement.{Statement}
 use Rattle.cf_syntax.specs.declared.statement.Statement.TheVariants as forms
 use Rattle.cf_syntax.specs.declared.statement.Touch.{Touch}
@@ -8,8 +9,9 @@ use Rattle.cf_syntax.specs.declared.statement.Touch.TheVariants.{Nothing, Binds,
 use Rattle.cf_syntax.specs.Forms.{touch_of}
 use Rattle.cf_ids.specs.declared.answer.Answer.{Answer}
 use Rattle.cf_model.specs.State.{State, Frame}
-use Rattle.cf_model.specs.Deeds.{Site, site_of, action_of}
-use Rattle.cf_model.specs.Steps.{Step, step_of, step_with, step_at, step_for, statement_in, first_of}
+use Rattle.cf_contents.specs.Deeds.{first_of}
+use Rattle.cf_model.specs.Actions.{Site, site_of, action_of}
+use Rattle.cf_model.specs.Steps.{Step, step_of, step_with, step_at, step_for, statement_in}
 use Rattle.cf_model.specs.Journals.{used_objects, next_of, demanded}
 use Rattle.cf_model.specs.Finals.{final_if, final_of}
 
@@ -22,16 +24,16 @@ site_of-action_of _ site = refl
 abbrev pub site_in : Frame → Statement → Site
 site_in f s = record { block = f.block; number = f.number; used = used_objects f.bindings s }
 
-abbrev pub frame_step : State → Option Statement → Option Step
-frame_step st None = None
-frame_step st (Some s) = Some (step_of s (used_objects st.frame.bindings s) (length st.objects))
+abbrev pub frame_step : List ClassLine → State → Option Statement → Option Step
+frame_step classes st None = None
+frame_step classes st (Some s) = Some (step_of classes st.objects s (used_objects st.frame.bindings s))
 
-demanded_by : (s : Script) (st : State) (o : Option Statement) → statement_in s st.frame.block st.frame.number ≡ o → step_for s st (next_of st.frame o) ≡ frame_step st o
+demanded_by : (s : Script) (st : State) (o : Option Statement) → statement_in s st.frame.block st.frame.number ≡ o → step_for s st (next_of st.frame o) ≡ frame_step s.classes st o
 demanded_by s st None e = refl
 demanded_by s st (Some x) e =
-    ap (step_at s st) (site_of-action_of x (site_in st.frame x)) ∙ ap (step_with st (site_in st.frame x)) e
+    ap (step_at s st) (site_of-action_of x (site_in st.frame x)) ∙ ap (step_with s.classes st.objects (used_objects st.frame.bindings x)) e
 
-pub step_for-demanded : (s : Script) (st : State) → step_for s st (demanded s st.frame) ≡ frame_step st (statement_in s st.frame.block st.frame.number)
+pub step_for-demanded : (s : Script) (st : State) → step_for s st (demanded s st.frame) ≡ frame_step s.classes st (statement_in s st.frame.block st.frame.number)
 step_for-demanded s st = demanded_by s st (statement_in s st.frame.block st.frame.number) refl
 
 -- only a touch that takes a reference finalises

@@ -1,6 +1,7 @@
 -- A journal grows by an entry at its end.
 use Rattle.std.proofs.Common.{◌≡◌, ℕ, ◌+◌, List, [], ◌∷◌, ◌++◌, Some, refl, sym, append_assoc, arith}
 use Rattle.cf_syntax.specs.declared.script.Script.{Script}
+use Rattle.cf_syntax.specs.declared.script.ClassLine.{ClassLine}
 use Rattle.cf_model.specs.declared.action.Entry.{Entry}
 use Rattle.cf_model.specs.State.{State}
 use Rattle.cf_model.specs.Steps.{effect}
@@ -34,9 +35,9 @@ pub finals-append : (o : ℕ) (es fs : List Entry) → finals o (es ++ fs) ≡ f
 finals-append o [] fs = omega arith
 finals-append o (e ∷ es) fs = omega (arith, finals-append o es fs)
 
-pub entry_lines-append : (es fs : List Entry) → entry_lines (es ++ fs) ≡ entry_lines es ++ entry_lines fs
-entry_lines-append [] fs = refl
-entry_lines-append (e ∷ es) fs = rw (entry_lines-append es fs) (sym (append_assoc (lines_if (line_of e.thread e.action e.answer)) (entry_lines es) (entry_lines fs)))
+pub entry_lines-append : (classes : List ClassLine) (es fs : List Entry) → entry_lines classes (es ++ fs) ≡ entry_lines classes es ++ entry_lines classes fs
+entry_lines-append classes [] fs = refl
+entry_lines-append classes (e ∷ es) fs = rw (entry_lines-append classes es fs) (sym (append_assoc (lines_if (line_of classes e.thread e.action e.answer)) (entry_lines classes es) (entry_lines classes fs)))
 
 pub text_of_lines-append : (xs ys : List (List ℕ)) → text_of_lines (xs ++ ys) ≡ text_of_lines xs ++ text_of_lines ys
 text_of_lines-append [] ys = refl

@@ -14,9 +14,8 @@ use Rattle.cf_syntax.specs.declared.statement.Touch.TheVariants.{Nothing, Binds,
 use Rattle.cf_syntax.specs.Forms.{touch_of, touched}
 use Rattle.cf_syntax.specs.Owned.{one_of, bound_by, given_by, taken_by, total, bound, given, taken, may_use, may_use_all, may_touch}
 use Rattle.cf_syntax.proofs.OwnedLaws.{total_push}
+use Rattle.cf_contents.specs.Deeds.{Source, nowhere, fresh}
 use Rattle.cf_model.specs.State.{Binding, look}
-use Rattle.cf_model.specs.declared.deed.Source.{Source}
-use Rattle.cf_model.specs.declared.deed.Source.TheVariants.{Nowhere, Fresh}
 use Rattle.cf_model.specs.Steps.{reference, found, target, operations_of, bindings_by}
 
 -- the variable's number in the code of a holder
@@ -78,7 +77,7 @@ look_other v w o bindings e = ap (λ (b : Bool). cond b o (look w bindings)) e
 
 module _ (x : Statement) (earlier : List Statement) (bindings : List Binding) (es : List Reference) (h : Holds earlier bindings es) where
   binds_holds : (v made : ℕ) (source : Source) → touch_of x ≡ Binds v → bound v earlier ≡ 0 → weigh (one (reference 0 v made)) es ≡ 0 → HoldsAfter (Binds v) (found made source) earlier x bindings es
-  binds_holds v made Nowhere t new none = record {
+  binds_holds v made nowhere t new none = record {
     held = λ w o e. elim (eqb_tells v w) [
       | inl p ↦ absurd (let q : ◌≡◌ {A = Option ℕ} None (Some o) = sym (ap (λ (b : Bool). cond b None (look w bindings)) p.0) ∙ e in cc)
       | inr p ↦ omega (arith, h.held w o (sym (look_other v w None bindings p.0) ∙ e), sum_more (given_by w) earlier x (Binds v) t, sum_more (taken_by w) earlier x (Binds v) t, one_of_other w v (λ q. p.1 (sym q)))
@@ -91,7 +90,7 @@ module _ (x : Statement) (earlier : List Statement) (bindings : List Binding) (e
           look_other v w None bindings (grind (arith, nat_tests)) ∙ u.2,
         );
   }
-  binds_holds v made (Fresh class) t new none = record {
+  binds_holds v made (fresh ob) t new none = record {
     held = λ w o e. elim (eqb_tells v w) [
       | inl p ↦
           let is : made ≡ o = some_is made o (sym (ap (λ (b : Bool). cond b (Some made) (look w bindings)) p.0) ∙ e) in

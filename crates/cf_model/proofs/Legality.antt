@@ -7,13 +7,16 @@ use Rattle.std.proofs.lemmas.Bool.Decides.{nat_tests}
 use Rattle.cf_graph.specs.Edges.{Reference, same, weigh, one, counted, leading_to, from_thread}
 use Rattle.cf_graph.proofs.Counts.{weigh-le}
 use Rattle.cf_syntax.specs.declared.script.Script.{Script}
+use Rattle.cf_syntax.specs.declared.script.ClassLine.{ClassLine}
+use Rattle.cf_contents.specs.Contents.{Object}
 use Rattle.cf_syntax.specs.declared.statement.Statement.{Statement}
 use Rattle.cf_syntax.specs.declared.statement.Touch.{Touch}
 use Rattle.cf_syntax.specs.declared.statement.Touch.TheVariants.{Nothing, Binds, Plus, Minus}
 use Rattle.cf_syntax.specs.Forms.{touch_of, touched, read_by, used_by}
 use Rattle.cf_syntax.specs.Owned.{bound, may_use, may_use_all, may_touch, is_fit, Owned}
 use Rattle.cf_model.specs.State.{State, Binding, look, times, degree, is_live}
-use Rattle.cf_model.specs.Deeds.{deed_of, action_of}
+use Rattle.cf_contents.specs.Deeds.{deed_at}
+use Rattle.cf_model.specs.Actions.{action_of}
 use Rattle.cf_model.specs.Steps.{reference, found, target, step_for, state_by, state_after, done_after, step_of, step_answer, answer_by, effect, answer_to}
 use Rattle.cf_model.specs.Journals.{setup, object_at, used_objects, used_of, next_of, demanded, IsLegalEntry, MayUse, MayUseAll}
 use Rattle.cf_ids.specs.declared.answer.Answer.TheVariants as answers
@@ -24,7 +27,7 @@ use Rattle.cf_model.proofs.Balance.{IsBalanced}
 use Rattle.cf_model.proofs.FrameSteps.{frame_step, step_for-demanded, site_of-action_of, site_in}
 use Rattle.cf_model.proofs.Finality.{may_use_live}
 use Rattle.cf_model.proofs.Holding.{Holds, looked, may_use_parts}
-use Rattle.cf_model.proofs.Soundness.{fit_at, IsSound, none_leads, owned_blocks, one_leads, one_from, first_used, use_first, frame_statement}
+use Rattle.cf_model.proofs.Soundness.{fit_at, fit_parts, IsSound, none_leads, owned_blocks, one_leads, one_from, first_used, use_first, frame_statement}
 
 live_from : (st : State) (o : ℕ) → IsBalanced st → 0 < degree o st.edges → is_live st o ≡ true
 live_from st o b some =
@@ -67,7 +70,7 @@ uses_by s st None own h e = tt
 uses_by s st (Some x) own h e =
     let earlier = take st.frame.number (setup s) in
     let fit : is_fit earlier x ≡ true = fit_at [] (setup s) st.frame.number x (owned_blocks s.blocks own) e in
-    let parts = and_parts (may_touch earlier (touch_of x)) (may_use_all earlier (used_by x)) fit in
+    let parts = fit_parts earlier x fit in
     rw (site_of-action_of x (site_in st.frame x)) (use_objects s st (used_by x) (3 - length (used_by x)) h parts.1)
 
 -- the demanded action, with the answer that the state gives, is a legal entry
@@ -82,26 +85,26 @@ legal_demanded s st e own h going thread action answer room = record {
 -- ---- what a step of a legal journal is
 
 -- the effect of the demanded action is the step of setup's next statement
-pub effect-demanded : (s : Script) (st : State) (x : Statement) (t : ℕ) (a : Action) → IsSound s st → slice_get (setup s) st.frame.number ≡ Some x → t ≡ 0 → a ≡ demanded s st.frame → effect s t st a ≡ state_after 0 (step_of x (used_objects st.frame.bindings x) (length st.objects)) st
+pub effect-demanded : (s : Script) (st : State) (x : Statement) (t : ℕ) (a : Action) → IsSound s st → slice_get (setup s) st.frame.number ≡ Some x → t ≡ 0 → a ≡ demanded s st.frame → effect s t st a ≡ state_after 0 (step_of s.classes st.objects x (used_objects st.frame.bindings x)) st
 effect-demanded s st x t a h e thread action =
-    let step : step_for s st a ≡ frame_step st (Some x) = ap (step_for s st) action ∙ step_for-demanded s st ∙ ap (frame_step st) (frame_statement s st h ∙ e) in
+    let step : step_for s st a ≡ frame_step s.classes st (Some x) = ap (step_for s st) action ∙ step_for-demanded s st ∙ ap (frame_step s.classes st) (frame_statement s st h ∙ e) in
     ap (λ (u : ℕ). state_by u st (step_for s st a)) thread ∙ ap (state_by 0 st) step
 
 pub effect-done : (s : Script) (st : State) (t : ℕ) (a : Action) → IsSound s st → slice_get (setup s) st.frame.number ≡ None → a ≡ demanded s st.frame → effect s t st a ≡ done_after st
 effect-done s st t a h e action =
-    ap (state_by t st) (ap (step_for s st) action ∙ step_for-demanded s st ∙ ap (frame_step st) (frame_statement s st h ∙ e))
+    ap (state_by t st) (ap (step_for s st) action ∙ step_for-demanded s st ∙ ap (frame_step s.classes st) (frame_statement s st h ∙ e))
 
-pub answer-demanded : (s : Script) (st : State) (x : Statement) (a : Action) → IsSound s st → slice_get (setup s) st.frame.number ≡ Some x → a ≡ demanded s st.frame → answer_to s 0 st a ≡ step_answer 0 (step_of x (used_objects st.frame.bindings x) (length st.objects)) st
+pub answer-demanded : (s : Script) (st : State) (x : Statement) (a : Action) → IsSound s st → slice_get (setup s) st.frame.number ≡ Some x → a ≡ demanded s st.frame → answer_to s 0 st a ≡ step_answer 0 (step_of s.classes st.objects x (used_objects st.frame.bindings x)) st
 answer-demanded s st x a h e action =
-    ap (answer_by 0 st) (ap (step_for s st) action ∙ step_for-demanded s st ∙ ap (frame_step st) (frame_statement s st h ∙ e))
+    ap (answer_by 0 st) (ap (step_for s st) action ∙ step_for-demanded s st ∙ ap (frame_step s.classes st) (frame_statement s st h ∙ e))
 
 pub answer-done : (s : Script) (st : State) (a : Action) → IsSound s st → slice_get (setup s) st.frame.number ≡ None → a ≡ demanded s st.frame → answer_to s 0 st a ≡ answers.Ok
 answer-done s st a h e action =
-    ap (answer_by 0 st) (ap (step_for s st) action ∙ step_for-demanded s st ∙ ap (frame_step st) (frame_statement s st h ∙ e))
+    ap (answer_by 0 st) (ap (step_for s st) action ∙ step_for-demanded s st ∙ ap (frame_step s.classes st) (frame_statement s st h ∙ e))
 
 -- the object that a step touches is the one of the variable that it touches
-pub step_object : (x : Statement) (bs : List Binding) (made : ℕ) → (step_of x (used_objects bs x) made).object ≡ target (touch_of x) (found made (deed_of x).source) (looked (touch_of x) bs)
-step_object x bs made = first_used (touch_of x) (read_by x) (found made (deed_of x).source) bs
+pub step_object : (classes : List ClassLine) (objects : List Object) (x : Statement) (bs : List Binding) → (step_of classes objects x (used_objects bs x)).object ≡ target (touch_of x) (found (length objects) (deed_at classes objects x (used_objects bs x)).source) (looked (touch_of x) bs)
+step_object classes objects x bs = first_used (touch_of x) (read_by x) (found (length objects) (deed_at classes objects x (used_objects bs x)).source) bs
 
 -- the demanded action of a statement
 pub demanded-statement : (s : Script) (st : State) (x : Statement) → IsSound s st → slice_get (setup s) st.frame.number ≡ Some x → demanded s st.frame ≡ action_of x (record { block = 0; number = st.frame.number; used = used_objects st.frame.bindings x })
@@ -146,7 +149,7 @@ pub touches_there : (s : Script) (st : State) (x : Statement) → Owned s → Is
 touches_there s st x own h e =
     let earlier = take st.frame.number (setup s) in
     let fit : is_fit earlier x ≡ true = fit_at [] (setup s) st.frame.number x (owned_blocks s.blocks own) e in
-    let parts = and_parts (may_touch earlier (touch_of x)) (may_use_all earlier (used_by x)) fit in
+    let parts = fit_parts earlier x fit in
     touches_by s st (touch_of x) h (use_first earlier (touched (touch_of x)) (read_by x) parts.1)
 
 -- a variable that is to be bound is not bound
@@ -166,7 +169,7 @@ pub binds_new : (s : Script) (st : State) (x : Statement) → Owned s → IsSoun
 binds_new s st x own h e =
     let earlier = take st.frame.number (setup s) in
     let fit : is_fit earlier x ≡ true = fit_at [] (setup s) st.frame.number x (owned_blocks s.blocks own) e in
-    binds_by earlier (touch_of x) st.frame.bindings st.edges (and_parts (may_touch earlier (touch_of x)) (may_use_all earlier (used_by x)) fit).0 h.holds
+    binds_by earlier (touch_of x) st.frame.bindings st.edges (fit_parts earlier x fit).0 h.holds
 
 -- nothing leads to the object that is made next
 pub none_to_next : (st : State) → IsBalanced st → degree (length st.objects) st.edges ≡ 0

@@ -12,12 +12,13 @@ use Rattle.cf_syntax.specs.declared.script.Block.{Block}
 use Rattle.cf_syntax.specs.declared.statement.Statement.{Statement}
 use Rattle.cf_syntax.specs.declared.statement.Touch.{Touch}
 use Rattle.cf_syntax.specs.declared.statement.Touch.TheVariants.{Nothing, Binds, Plus, Minus}
-use Rattle.cf_syntax.specs.Forms.{touch_of, touched, read_by, used_by, padded}
+use Rattle.cf_syntax.specs.Forms.{touch_of, touched, read_by, used_by, is_known, padded}
 use Rattle.cf_syntax.specs.Owned.{may_use, may_use_all, may_touch, is_fit, are_fit, blocks_fit, Owned}
 use Rattle.cf_model.specs.State.{State, Binding, start, times, degree}
-use Rattle.cf_model.specs.Deeds.{deed_of, site_of}
-use Rattle.cf_model.specs.Steps.{reference, found, first_of, target, statement_of, statement_in, step_for, state_by, effect}
-use Rattle.cf_model.specs.Journals.{statements_in, setup, object_at, state_from, After, IsLegalEntry, IsLegalFrom, IsLegal}
+use Rattle.cf_contents.specs.Deeds.{first_of, deed_at}
+use Rattle.cf_model.specs.Actions.{site_of}
+use Rattle.cf_model.specs.Steps.{reference, found, target, statement_of, statement_in, step_for, state_by, effect}
+use Rattle.cf_model.specs.Journals.{statements_in, setup, object_at, used_objects, state_from, After, IsLegalEntry, IsLegalFrom, IsLegal}
 use Rattle.cf_model.specs.declared.action.Entry.{Entry}
 use Rattle.cf_model.proofs.Balance.{IsBalanced, balanced, entry_balances}
 use Rattle.cf_model.proofs.FrameSteps.{frame_step, step_for-demanded}
@@ -43,6 +44,12 @@ fit_at earlier (y ∷ xs) zero x h e =
 fit_at earlier (y ∷ xs) (suc n) x h e =
     let p = and_parts (is_fit earlier y) (are_fit (earlier ++ y ∷ []) xs) h in
     rw (← append_assoc earlier (y ∷ []) (take n xs)) (fit_at (earlier ++ y ∷ []) xs n x p.1 e)
+
+-- what is fit touches and uses what it may
+pub fit_parts : (earlier : List Statement) (x : Statement) → is_fit earlier x ≡ true → (may_touch earlier (touch_of x) ≡ true) × (may_use_all earlier (used_by x) ≡ true)
+fit_parts earlier x h =
+    let p = and_parts (may_touch earlier (touch_of x) && may_use_all earlier (used_by x)) (is_known x) h in
+    and_parts (may_touch earlier (touch_of x)) (may_use_all earlier (used_by x)) p.0
 
 -- ---- along a journal
 
@@ -92,20 +99,21 @@ use_first earlier (v ∷ vs) ws h =
     let p = and_parts (may_use earlier v) (may_use_all earlier (vs ++ ws)) h in
     and_from (may_use earlier v) (may_use_all earlier vs) p.0 (use_first earlier vs ws p.1)
 
-statement_sound : (s : Script) (st : State) (x : Statement) → Owned s → IsSound s st → slice_get (setup s) st.frame.number ≡ Some x → IsBalanced (state_by 0 st (frame_step st (Some x))) → IsSound s (state_by 0 st (frame_step st (Some x)))
+statement_sound : (s : Script) (st : State) (x : Statement) → Owned s → IsSound s st → slice_get (setup s) st.frame.number ≡ Some x → IsBalanced (state_by 0 st (frame_step s.classes st (Some x))) → IsSound s (state_by 0 st (frame_step s.classes st (Some x)))
 statement_sound s st x own h e balance =
     let earlier = take st.frame.number (setup s) in
     let fit : is_fit earlier x ≡ true = fit_at [] (setup s) st.frame.number x (owned_blocks s.blocks own) e in
-    let parts = and_parts (may_touch earlier (touch_of x)) (may_use_all earlier (used_by x)) fit in
+    let parts = fit_parts earlier x fit in
     let made = length st.objects in
-    let after = touch_holds x earlier st.frame.bindings st.edges h.holds (touch_of x) (deed_of x).source made refl parts.0 (use_first earlier (touched (touch_of x)) (read_by x) parts.1) (λ v. none_to_new st v h.balance) in
+    let source = (deed_at s.classes st.objects x (used_objects st.frame.bindings x)).source in
+    let after = touch_holds x earlier st.frame.bindings st.edges h.holds (touch_of x) source made refl parts.0 (use_first earlier (touched (touch_of x)) (read_by x) parts.1) (λ v. none_to_new st v h.balance) in
     record {
       block = h.block;
-      holds = rw (take_next (setup s) st.frame.number x e, first_used (touch_of x) (read_by x) (found made (deed_of x).source) st.frame.bindings) after;
+      holds = rw (take_next (setup s) st.frame.number x e, first_used (touch_of x) (read_by x) (found made source) st.frame.bindings) after;
       balance = balance;
     }
 
-option_sound : (s : Script) (st : State) (o : Option Statement) → Owned s → IsSound s st → slice_get (setup s) st.frame.number ≡ o → IsBalanced (state_by 0 st (frame_step st o)) → IsSound s (state_by 0 st (frame_step st o))
+option_sound : (s : Script) (st : State) (o : Option Statement) → Owned s → IsSound s st → slice_get (setup s) st.frame.number ≡ o → IsBalanced (state_by 0 st (frame_step s.classes st o)) → IsSound s (state_by 0 st (frame_step s.classes st o))
 option_sound s st None own h e balance = record { block = h.block; holds = h.holds; balance = balance }
 option_sound s st (Some x) own h e balance = statement_sound s st x own h e balance
 
@@ -115,8 +123,8 @@ frame_statement s st h = ap (λ (b : ℕ). statement_in s b st.frame.number) h.b
 pub entry_sound : (s : Script) (st : State) (e : Entry) → Owned s → IsSound s st → IsLegalEntry s st e → IsSound s (effect s e.thread st e.action)
 entry_sound s st e own h legal =
     let d = legal_is_demanded s st e legal.next in
-    let step : step_for s st e.action ≡ frame_step st (slice_get (setup s) st.frame.number) = ap (step_for s st) d.action ∙ step_for-demanded s st ∙ ap (frame_step st) (frame_statement s st h) in
-    let whole : effect s e.thread st e.action ≡ state_by 0 st (frame_step st (slice_get (setup s) st.frame.number)) = ap (λ (t : ℕ). state_by t st (step_for s st e.action)) d.thread ∙ ap (state_by 0 st) step in
+    let step : step_for s st e.action ≡ frame_step s.classes st (slice_get (setup s) st.frame.number) = ap (step_for s st) d.action ∙ step_for-demanded s st ∙ ap (frame_step s.classes st) (frame_statement s st h) in
+    let whole : effect s e.thread st e.action ≡ state_by 0 st (frame_step s.classes st (slice_get (setup s) st.frame.number)) = ap (λ (t : ℕ). state_by t st (step_for s st e.action)) d.thread ∙ ap (state_by 0 st) step in
     let balance : IsBalanced (effect s e.thread st e.action) = entry_balances s e.thread st (site_of e.action) legal.uses h.balance in
     rw whole (option_sound s st (slice_get (setup s) st.frame.number) own h refl (rw whole at balance))
 

@@ -9,7 +9,7 @@ use Rattle.cf_model.specs.declared.action.Action.{Action}
 use Rattle.cf_model.specs.declared.action.Action.TheVariants as actions
 use Rattle.cf_model.specs.declared.action.Entry.{Entry}
 use Rattle.cf_model.specs.State.{State, is_made}
-use Rattle.cf_model.specs.Steps.{first_of}
+use Rattle.cf_contents.specs.Deeds.{first_of}
 use Rattle.cf_model.specs.Journals.{After, used_of}
 
 -- the object that an entry finalises: it is a release, and it answers so

@@ -9,7 +9,7 @@ use Rattle.cf_model.specs.declared.action.Action.{Action}
 use Rattle.cf_model.specs.declared.action.Action.TheVariants as actions
 use Rattle.cf_model.specs.declared.action.Entry.{Entry}
 use Rattle.cf_model.specs.State.{State, Frame, Binding, start, look, is_live, degree_from}
-use Rattle.cf_model.specs.Deeds.{Site, site_of, action_of}
+use Rattle.cf_model.specs.Actions.{Site, site_of, action_of}
 use Rattle.cf_model.specs.Steps.{statement_in, effect, answer_to, makes}
 
 -- the statements of setup
@@ -64,7 +64,7 @@ pub record IsLegalEntry (s : Script) (st : State) (e : Entry) : Type 0 where
   pub next : Next s st e.thread ≡ Some e.action
   pub uses : MayUseAll st e.thread (used_of e.action)
   pub answer : e.answer ≡ answer_to s e.thread st e.action
-  pub room : IsTrue (makes s st e.action) → length st.objects < 65536
+  pub room : IsTrue (makes s e.action) → length st.objects < 65536
 
 -- the state after entries, from a state on and from the start
 abbrev pub state_from : Script → State → List Entry → State

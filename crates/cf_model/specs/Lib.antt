@@ -1,5 +1,5 @@
 pub mod State
-pub mod Deeds
+pub mod Actions
 pub mod Steps
 pub mod Journals
 pub mod Finals

@@ -4,7 +4,7 @@ use Rattle.std.specs.Prelude.{ℕ, List, [], ◌∷◌, Option, Some, None, code
 use Rattle.cf_ids.specs.declared.answer.Answer.TheVariants as answers
 use Rattle.cf_model.specs.declared.action.Action.TheVariants as actions
 use Rattle.cf_model.specs.declared.action.Entry.{Entry}
-use Rattle.cf_model.specs.Deeds.{string_class}
+use Rattle.cf_contents.specs.Contents.{string_class}
 
 abbrev nothing : List (Option ℕ)
 nothing = None ∷ None ∷ None ∷ []

@@ -2,10 +2,7 @@
 -- stands. There are no counts in it: a count is a number of references. This project's own.
 use Rattle.std.specs.Prelude.{ℕ, Bool, false, List, [], ◌∷◌, length, Option, None, ◌==◌, ◌+◌, nat_lt, ◌&&◌, if◌then◌else◌}
 use Rattle.cf_graph.specs.Edges.{Reference, weigh, leading_to, from_thread}
-
--- an object that was made, by its type
-pub record Object : Type 0 where
-  pub class : ℕ
+use Rattle.cf_contents.specs.Contents.{Object}
 
 -- the object of a variable that was bound, or none where the variable is empty
 pub record Binding : Type 0 where

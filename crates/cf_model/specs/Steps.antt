@@ -1,11 +1,12 @@
 -- What an entry does to the state, and what it answers, over what all forms have in common. After the
 -- ownership rule: a new object has one reference, retain adds one, release takes one, and the last
 -- release finalises the object.
-use Rattle.std.specs.Prelude.{ℕ, ◌+◌, Bool, true, false, not, List, [], ◌∷◌, ◌++◌, length, Option, Some, None, ◌==◌, slice_get, if◌then◌else◌}
+use Rattle.std.specs.Prelude.{ℕ, ◌+◌, Bool, true, false, List, [], ◌∷◌, ◌++◌, length, Option, Some, None, ◌==◌, slice_get, if◌then◌else◌}
 use Rattle.cf_ids.specs.declared.answer.Answer.{Answer}
 use Rattle.cf_ids.specs.declared.answer.Answer.TheVariants as answers
 use Rattle.cf_syntax.specs.declared.script.Script.{Script}
 use Rattle.cf_syntax.specs.declared.script.Block.{Block}
+use Rattle.cf_syntax.specs.declared.script.ClassLine.{ClassLine}
 use Rattle.cf_syntax.specs.declared.statement.Statement.{Statement}
 use Rattle.cf_syntax.specs.declared.statement.Touch.{Touch}
 use Rattle.cf_syntax.specs.declared.statement.Touch.TheVariants.{Nothing, Binds, Plus, Minus}
@@ -13,12 +14,11 @@ use Rattle.cf_syntax.specs.Forms.{touch_of}
 use Rattle.cf_graph.specs.Holders.{variable}
 use Rattle.cf_graph.specs.Edges.{Reference}
 use Rattle.cf_graph.specs.Operations.{Operation, add, cut, run}
+use Rattle.cf_contents.specs.Contents.{Object}
+use Rattle.cf_contents.specs.Deeds.{Source, nowhere, fresh, Deed, first_of, deed_at, changed_by}
 use Rattle.cf_model.specs.declared.action.Action.{Action}
-use Rattle.cf_model.specs.State.{Object, Binding, State, degree}
-use Rattle.cf_model.specs.declared.deed.Source.{Source}
-use Rattle.cf_model.specs.declared.deed.Source.TheVariants.{Nowhere, Fresh}
-use Rattle.cf_model.specs.declared.deed.Deed.{Deed}
-use Rattle.cf_model.specs.Deeds.{Site, site_of, deed_of}
+use Rattle.cf_model.specs.State.{Binding, State, degree}
+use Rattle.cf_model.specs.Actions.{Site, site_of, makes_object}
 
 -- the statement at a place of a block
 abbrev pub statement_of : Option Block → ℕ → Option Statement
@@ -34,12 +34,8 @@ reference t v o = record { holder = variable t v; object = o }
 
 -- the object that a source gives, in a state with so many objects
 abbrev pub found : ℕ → Source → Option ℕ
-found made Nowhere = None
-found made (Fresh class) = Some made
-
-abbrev pub first_of : List (Option ℕ) → Option ℕ
-first_of [] = None
-first_of (o ∷ os) = o
+found made nowhere = None
+found made (fresh ob) = Some made
 
 -- the object whose references a touch changes: the one that is bound, or the one that is used
 abbrev pub target : Touch → Option ℕ → Option ℕ → Option ℕ
@@ -61,8 +57,8 @@ operations_of t touch (Some o) = operations_at t touch o
 
 -- the object that a source makes, which is bound
 abbrev pub made_from : Source → List Object
-made_from Nowhere = []
-made_from (Fresh class) = record { class = class } ∷ []
+made_from nowhere = []
+made_from (fresh ob) = ob ∷ []
 
 abbrev pub made_by : Touch → Source → List Object
 made_by Nothing source = []
@@ -114,14 +110,22 @@ abbrev pub answer_of : Touch → Option ℕ → List Object → List Reference �
 answer_of touch None obs es other = answer_without touch other
 answer_of touch (Some o) obs es other = answer_at touch o obs es other
 
--- a step of a statement: what it touches, its deed, and the object that it touches
+-- a step of a statement: what it touches, its deed, the first object that it uses, and the object that it touches
 pub record Step : Type 0 where
   pub touch : Touch
   pub deed : Deed
+  pub used : Option ℕ
   pub object : Option ℕ
 
-abbrev pub step_of : Statement → List (Option ℕ) → ℕ → Step
-step_of s used made = record { touch = touch_of s; deed = deed_of s; object = target (touch_of s) (found made (deed_of s).source) (first_of used) }
+abbrev pub step_by : Touch → Deed → Option ℕ → ℕ → Step
+step_by touch deed used made = record { touch = touch; deed = deed; used = used; object = target touch (found made deed.source) used }
+
+abbrev pub step_of : List ClassLine → List Object → Statement → List (Option ℕ) → Step
+step_of classes objects s used = step_by (touch_of s) (deed_at classes objects s used) (first_of used) (length objects)
+
+-- the objects that a step leaves: the contents of the first that it uses may change, and one may be made
+abbrev pub objects_after : Step → List Object → List Object
+objects_after step objects = changed_by step.used step.deed.change objects ++ made_by step.touch step.deed.source
 
 -- the references, and the whole state, that a step of a thread leaves
 abbrev pub edges_after : ℕ → Step → List Reference → List Reference
@@ -131,7 +135,7 @@ abbrev pub state_after : ℕ → Step → State → State
 state_after t step st =
     let es = edges_after t step st.edges in
     record {
-      objects = st.objects ++ made_by step.touch step.deed.source;
+      objects = objects_after step st.objects;
       finalised = finalised_by step.touch step.object es ++ st.finalised;
       edges = es;
       frame = record st.frame { number = st.frame.number + 1; bindings = bindings_by step.touch step.object ++ st.frame.bindings };
@@ -141,13 +145,13 @@ abbrev pub step_answer : ℕ → Step → State → Answer
 step_answer t step st = answer_of step.touch step.object st.objects (edges_after t step st.edges) step.deed.answer
 
 -- the step of an action, where a statement writes it
-abbrev pub step_with : State → Site → Option Statement → Option Step
-step_with st site None = None
-step_with st site (Some statement) = Some (step_of statement site.used (length st.objects))
+abbrev pub step_with : List ClassLine → List Object → List (Option ℕ) → Option Statement → Option Step
+step_with classes objects used None = None
+step_with classes objects used (Some statement) = Some (step_of classes objects statement used)
 
 abbrev pub step_at : Script → State → Option Site → Option Step
 step_at s st None = None
-step_at s st (Some site) = step_with st site (statement_in s site.block site.number)
+step_at s st (Some site) = step_with s.classes st.objects site.used (statement_in s site.block site.number)
 
 abbrev pub step_for : Script → State → Action → Option Step
 step_for s st a = step_at s st (site_of a)
@@ -164,9 +168,14 @@ abbrev pub answer_by : ℕ → State → Option Step → Answer
 answer_by t st None = answers.Ok
 answer_by t st (Some step) = step_answer t step st
 
-abbrev pub makes_by : Option Step → Bool
-makes_by None = false
-makes_by (Some step) = not (length (made_by step.touch step.deed.source) == 0)
+-- an action makes an object where its statement is of such a form
+abbrev pub makes_if : Option Statement → Bool
+makes_if None = false
+makes_if (Some statement) = makes_object statement
+
+abbrev pub makes_at : Script → Option Site → Bool
+makes_at s None = false
+makes_at s (Some site) = makes_if (statement_in s site.block site.number)
 
 -- the state that an action of a thread leaves, its answer, and whether it makes an object
 abbrev pub effect : Script → ℕ → State → Action → State
@@ -175,5 +184,5 @@ effect s t st a = state_by t st (step_for s st a)
 abbrev pub answer_to : Script → ℕ → State → Action → Answer
 answer_to s t st a = answer_by t st (step_for s st a)
 
-abbrev pub makes : Script → State → Action → Bool
-makes s st a = makes_by (step_for s st a)
+abbrev pub makes : Script → Action → Bool
+makes s a = makes_at s (site_of a)

@@ -1,6 +1,6 @@
 //! What a thread does, one entry of a journal each.
 ghost use Rattle.std.specs.Prelude.{◌≡◌};
-ghost use Rattle.cf_model.specs.Deeds.{action_of};
+ghost use Rattle.cf_model.specs.Actions.{action_of};
 
 use cf_ids::{Answer, ObjId, ThreadId};
 use cf_syntax::Statement;
@@ -15,6 +15,31 @@ pub enum Action {
         number: u32,
         used: [Option<ObjId>; 3],
     },
+    MakeMstring {
+        block: u16,
+        number: u32,
+        used: [Option<ObjId>; 3],
+    },
+    MakeData {
+        block: u16,
+        number: u32,
+        used: [Option<ObjId>; 3],
+    },
+    MakeMdata {
+        block: u16,
+        number: u32,
+        used: [Option<ObjId>; 3],
+    },
+    MakeNumber {
+        block: u16,
+        number: u32,
+        used: [Option<ObjId>; 3],
+    },
+    New {
+        block: u16,
+        number: u32,
+        used: [Option<ObjId>; 3],
+    },
     Retain {
         block: u16,
         number: u32,
@@ -25,8 +50,69 @@ pub enum Action {
         number: u32,
         used: [Option<ObjId>; 3],
     },
+    Show {
+        block: u16,
+        number: u32,
+        used: [Option<ObjId>; 3],
+    },
+    StrAppend {
+        block: u16,
+        number: u32,
+        used: [Option<ObjId>; 3],
+    },
+    StrInsert {
+        block: u16,
+        number: u32,
+        used: [Option<ObjId>; 3],
+    },
+    StrDelete {
+        block: u16,
+        number: u32,
+        used: [Option<ObjId>; 3],
+    },
+    StrReplace {
+        block: u16,
+        number: u32,
+        used: [Option<ObjId>; 3],
+    },
+    StrSub {
+        block: u16,
+        number: u32,
+        used: [Option<ObjId>; 3],
+    },
+    DataAppend {
+        block: u16,
+        number: u32,
+        used: [Option<ObjId>; 3],
+    },
+    DataReplace {
+        block: u16,
+        number: u32,
+        used: [Option<ObjId>; 3],
+    },
+    DataDelete {
+        block: u16,
+        number: u32,
+        used: [Option<ObjId>; 3],
+    },
+    NumAs {
+        block: u16,
+        number: u32,
+        used: [Option<ObjId>; 3],
+    },
     /// The thread's block is at its end.
     Done,
+}
+
+// The action of a form, at its site.
+macro_rules! at_site {
+    ($form:ident, $block:expr, $number:expr, $used:expr) => {
+        Action::$form {
+            block: $block,
+            number: $number,
+            used: $used,
+        }
+    };
 }
 
 impl Action {
@@ -36,21 +122,24 @@ impl Action {
         ensures { result ≡ action_of statement.now (record { block = block; number = number; used = used }) }
     {
         match statement {
-            Statement::MakeString { .. } => Action::MakeString {
-                block,
-                number,
-                used,
-            },
-            Statement::Retain { .. } => Action::Retain {
-                block,
-                number,
-                used,
-            },
-            Statement::Release { .. } => Action::Release {
-                block,
-                number,
-                used,
-            },
+            Statement::MakeString { .. } => at_site!(MakeString, block, number, used),
+            Statement::MakeMstring { .. } => at_site!(MakeMstring, block, number, used),
+            Statement::MakeData { .. } => at_site!(MakeData, block, number, used),
+            Statement::MakeMdata { .. } => at_site!(MakeMdata, block, number, used),
+            Statement::MakeNumber { .. } => at_site!(MakeNumber, block, number, used),
+            Statement::New { .. } => at_site!(New, block, number, used),
+            Statement::Retain { .. } => at_site!(Retain, block, number, used),
+            Statement::Release { .. } => at_site!(Release, block, number, used),
+            Statement::Show { .. } => at_site!(Show, block, number, used),
+            Statement::StrAppend { .. } => at_site!(StrAppend, block, number, used),
+            Statement::StrInsert { .. } => at_site!(StrInsert, block, number, used),
+            Statement::StrDelete { .. } => at_site!(StrDelete, block, number, used),
+            Statement::StrReplace { .. } => at_site!(StrReplace, block, number, used),
+            Statement::StrSub { .. } => at_site!(StrSub, block, number, used),
+            Statement::DataAppend { .. } => at_site!(DataAppend, block, number, used),
+            Statement::DataReplace { .. } => at_site!(DataReplace, block, number, used),
+            Statement::DataDelete { .. } => at_site!(DataDelete, block, number, used),
+            Statement::NumAs { .. } => at_site!(NumAs, block, number, used),
         }
     }
 }

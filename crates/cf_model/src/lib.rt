@@ -3,13 +3,11 @@
 #![tactic(auto)]
 
 mod action;
-mod deed;
 mod ending;
 mod laws;
 mod rows;
 
 pub use action::{Action, Entry};
-pub use deed::{Deed, Source};
 pub use ending::Ending;
 pub use laws::finals_of_legal_journals;
 pub use rows::a_script_and_its_lines;

@@ -1,5 +1,6 @@
 //! The reader of scripts and the owner check.
 use cf_script::{OwnFault, Script, ScriptFault, Statement, check_owners, read_script};
+use cf_string::Str;
 use std::alloc::{AllocError, Global};
 use std::test::Fail;
 
@@ -72,11 +73,11 @@ fn retained(alloc: Global, retains: u32, releases: u32) -> Result<Vec<u8>, Alloc
 }
 
 /// What the first statement of a script says, where that makes a string.
-fn first_text(script: &Script) -> Option<&[u8]> {
+fn first_text(script: &Script) -> Option<&Str> {
     let block = script.blocks.as_slice().first()?;
     match block.statements.as_slice().first()? {
-        Statement::MakeString { text, .. } => Some(text.as_slice()),
-        Statement::Retain { .. } | Statement::Release { .. } => None,
+        Statement::MakeString { text, .. } => Some(text.text()),
+        _ => None,
     }
 }
 
@@ -244,7 +245,12 @@ fn a_text_is_unescaped(rt: HostRuntime) -> Result<(), Fail> {
     let text = b"cf 1\nsetup\nmake a string \"a\\\"b\\\\c\\nd\"\nrelease a\nend\n";
     let script = read_script(rt.alloc(), text).ok().ok_or("it is a script")?;
     let says = first_text(&script).ok_or("it makes a string")?;
-    assert_eq!(rt; says, b"a\"b\\c\nd".as_slice(), "the escapes");
+    let bytes = says.utf8(rt.alloc())?;
+    assert_eq!(rt;
+        (says.length(), bytes.as_slice()),
+        (7, b"a\"b\\c\nd".as_slice()),
+        "the escapes"
+    );
     for block in script.blocks.as_slice() {
         assert_eq!(rt; (block.first, block.last), (2, 5), "the lines of the block");
         assert_eq!(rt;

@@ -1,6 +1,6 @@
 //! A command over one file and a sink in memory.
 use cf_io::{MemFile, MemSink, MemSource};
-use cf_run::cfrun_serial;
+use cf_run::{Report, cfrun_serial};
 use std::alloc::{AllocError, Global};
 
 /// The words that run the file `f`.
@@ -34,14 +34,31 @@ pub struct Command<'a> {
     pub most: usize,
 }
 
-/// The status of a command, and what the sink has taken.
-pub fn outcome_of(alloc: Global, command: &Command) -> Result<(u8, String), AllocError> {
+/// What a command came to, and what the sink has taken.
+pub fn report_of(alloc: Global, command: &Command) -> Result<(Report, String), AllocError> {
     let mut source = source_of(alloc, command)?;
     let failing = Vec::from_slice(alloc, command.failing_writes)?;
     let mut sink = MemSink::new(alloc, failing, command.most.max(1));
     let report = cfrun_serial(alloc, command.words, &mut source, &mut sink);
     let written = str::from_utf8(sink.taken()).unwrap_or("no UTF-8");
-    Ok((report.status, String::from_str(alloc, written)?))
+    Ok((report, String::from_str(alloc, written)?))
+}
+
+/// The status of a command, and what the sink has taken.
+pub fn outcome_of(alloc: Global, command: &Command) -> Result<(u8, String), AllocError> {
+    let (report, written) = report_of(alloc, command)?;
+    Ok((report.status, written))
+}
+
+/// The command that runs a text in the serial order.
+pub fn serial(text: &[u8]) -> Command<'_> {
+    Command {
+        words: RUN_SERIAL,
+        text,
+        failing_reads: &[],
+        failing_writes: &[],
+        most: 4_096,
+    }
 }
 
 fn source_of(alloc: Global, command: &Command) -> Result<MemSource, AllocError> {

@@ -4,7 +4,13 @@
 #[cfg(test)]
 mod commands;
 #[cfg(test)]
+mod descriptions;
+#[cfg(test)]
+mod forms;
+#[cfg(test)]
 mod outside;
+#[cfg(test)]
+mod refusals;
 #[cfg(test)]
 mod setups;
 #[cfg(test)]

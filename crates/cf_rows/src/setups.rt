@@ -14,7 +14,34 @@ const NOTHING_DONE: &str = "end done events 1 objects 0 finals 0 alive 0\n";
 
 const UNREAD: &str = "refused line 0 Unread\n";
 
-const CASES: [SetupCase; 12] = [
+// A mutable string that is edited, a part of it that is not there, a number that does not fit, and an instance.
+const LEAVES: &[u8] = b"cf 1
+class point fields 2 equal key
+setup
+make m mstring \"abc\"
+str.replace m 1 1 \"xyz\"
+show m
+str.sub t m 0 9
+release t
+make n number s16 200
+num.as n s8
+show n
+new p point -3
+show p
+release p
+end
+";
+
+const LEAVES_SHOWN: &str = "t0 show #0 String \"axyzc\"
+t0 show #1 Number s16 200
+t0 show #2 point -3 [nil nil]
+t0 release #2 final point
+alive #0 String owners 1 slots 0
+alive #1 Number owners 1 slots 0
+end done events 12 objects 3 finals 1 alive 2
+";
+
+const CASES: [SetupCase; 14] = [
     SetupCase {
         about: "one string",
         words: RUN,
@@ -98,6 +125,20 @@ const CASES: [SetupCase; 12] = [
         text: b"cf 1\nsetup\nmake a string \"a \\\"b\\\" \\\\ \\n\"\nrelease a\nend\n",
         status: 0,
         written: ONE_FINAL,
+    },
+    SetupCase {
+        about: "a string, a number and an instance",
+        words: RUN_SERIAL,
+        text: LEAVES,
+        status: 0,
+        written: LEAVES_SHOWN,
+    },
+    SetupCase {
+        about: "what is shown of nothing is not written",
+        words: RUN_SERIAL,
+        text: b"cf 1\nsetup\nmake a string \"hi\"\nstr.sub b a 3 0\nshow b\nretain b\nrelease b\nrelease b\nrelease a\nend\n",
+        status: 0,
+        written: "t0 release #0 final String\nend done events 8 objects 1 finals 1 alive 0\n",
     },
 ];
 

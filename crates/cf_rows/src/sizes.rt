@@ -1,18 +1,7 @@
 //! Scripts of many lines, and files of as many bytes as a script may have.
-use crate::commands::{Command, ONE_FINAL, ONE_STRING, RUN_SERIAL, outcome_of};
+use crate::commands::{ONE_FINAL, ONE_STRING, outcome_of, serial};
 use std::alloc::{AllocError, Global};
 use std::test::Fail;
-
-fn serially(alloc: Global, text: &[u8]) -> Result<(u8, String), AllocError> {
-    let command = Command {
-        words: RUN_SERIAL,
-        text,
-        failing_reads: &[],
-        failing_writes: &[],
-        most: 4_096,
-    };
-    outcome_of(alloc, &command)
-}
 
 /// A setup of one string with this many retains, and then this many releases.
 fn retained(alloc: Global, retains: u32, releases: u32) -> Result<Vec<u8>, AllocError> {
@@ -35,6 +24,17 @@ fn padded(alloc: Global, length: usize) -> Result<Vec<u8>, AllocError> {
     Ok(text)
 }
 
+/// A script of this many classes, which makes an instance of the 1,011th and releases it.
+fn classed(alloc: Global, classes: u32) -> Result<Vec<u8>, AllocError> {
+    let mut text = Vec::from_slice(alloc, b"cf 1\n")?;
+    for i in 1..=classes {
+        let line = format!(in alloc; "class c{i} fields 0 equal key\n")?;
+        text.extend_from_slice(line.as_bytes())?;
+    }
+    text.extend_from_slice(b"setup\nnew v c1011 0\nrelease v\nend\n")?;
+    Ok(text)
+}
+
 #[test]
 fn long_scripts_are_run(rt: HostRuntime) -> Result<(), Fail> {
     for (retains, releases, status, written) in [
@@ -53,7 +53,7 @@ fn long_scripts_are_run(rt: HostRuntime) -> Result<(), Fail> {
         ),
     ] {
         let text = retained(rt.alloc(), retains, releases)?;
-        let outcome = serially(rt.alloc(), text.as_slice())?;
+        let outcome = outcome_of(rt.alloc(), &serial(text.as_slice()))?;
         assert_eq!(rt;
             (outcome.0, outcome.1.as_str()),
             (status, written),
@@ -65,11 +65,32 @@ fn long_scripts_are_run(rt: HostRuntime) -> Result<(), Fail> {
         (1_048_577, 3, "refused line 0 TooLong\n"),
     ] {
         let text = padded(rt.alloc(), length)?;
-        let outcome = serially(rt.alloc(), text.as_slice())?;
+        let outcome = outcome_of(rt.alloc(), &serial(text.as_slice()))?;
         assert_eq!(rt;
             (outcome.0, outcome.1.as_str()),
             (status, written),
             "a file of {length} bytes"
+        );
+    }
+    Ok(())
+}
+
+#[test]
+fn many_classes_are_read(rt: HostRuntime) -> Result<(), Fail> {
+    for (classes, status, written) in [
+        (
+            1_011,
+            0,
+            "t0 release #0 final c1011\nend done events 3 objects 1 finals 1 alive 0\n",
+        ),
+        (1_012, 3, "refused line 0 Unread\n"),
+    ] {
+        let text = classed(rt.alloc(), classes)?;
+        let outcome = outcome_of(rt.alloc(), &serial(text.as_slice()))?;
+        assert_eq!(rt;
+            (outcome.0, outcome.1.as_str()),
+            (status, written),
+            "{classes} classes"
         );
     }
     Ok(())

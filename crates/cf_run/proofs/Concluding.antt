@@ -36,7 +36,7 @@ due_is words files faults faults' (settled.Ran script run) h =
     run_due script h.0
     (record { ends = h.1.whole; finals = finals_fit script run.journal.items h.1.whole.legal })
     (record { legal = h.1.whole.legal; order = h.1.order })
-    (run_text-rendering script run.journal.items run.counted.items run.finals h.1)
+    (run_text-rendering script run.journal.items run.store run.references.items run.finals h.1)
 
 module _ (words : List (List ℕ)) (files : Option (List File)) (source source' sink sink' : ℕ) (old new : Option (List ℕ)) where
   all_written : (s : Settled) (status : ℕ) (entries : List Entry) → Settles words files source source' s → status ≡ status_after (Ok tt) s → entries ≡ entries_of s → new ≡ then_bytes old (due_of s) → Outcome words files source source' sink sink' old new status entries
@@ -48,7 +48,7 @@ module _ (words : List (List ℕ)) (files : Option (List File)) (source source' 
         script = script;
         read = h.0;
         journal = record { ends = h.1.whole; finals = finals_fit script run.journal.items h.1.whole.legal };
-        written = w ∙ ap (then_bytes old) (run_text-rendering script run.journal.items run.counted.items run.finals h.1);
+        written = w ∙ ap (then_bytes old) (run_text-rendering script run.journal.items run.store run.references.items run.finals h.1);
         serial = record { legal = h.1.whole.legal; order = h.1.order };
       }))
 

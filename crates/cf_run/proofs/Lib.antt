@@ -1,7 +1,7 @@
 pub mod Counting
 pub mod Tables
 pub mod Entering
-pub mod Texts
+pub mod Words
 pub mod Writing
 pub mod Rendered
 pub mod Settling

@@ -1,24 +1,26 @@
 -- The text of a run by its numbers is the rendering of its journal.
-use Rattle.std.proofs.Common.{◌≡◌, ℕ, zero, suc, ◌+◌, ◌<◌, ◌==◌, ◌&&◌, not, lit<, subst, zero-add, Bool, true, false, cond, List, [], ◌∷◌, ◌++◌, length, Option, Some, refl, sym, ap, ◌∙◌, arith, append_assoc}
-use Rattle.std.specs.Prelude.{slice_get, codes, nat_lt}
+use Rattle.std.proofs.Common.{◌≡◌, ℕ, zero, suc, ◌+◌, ◌<◌, ◌==◌, ◌&&◌, not, lit<, Bool, true, false, cond, List, [], ◌∷◌, ◌++◌, length, take, Option, Some, refl, sym, ap, ◌∙◌, arith, append_assoc, append-nil, add-zero, ◌≤◌}
+use Rattle.std.specs.Prelude.{slice_index, slice_index_or, codes, nat_lt}
 use Rattle.std.specs.Fmt.{decimal}
 use Rattle.std.proofs.lemmas.Bool.Decides.{nat_tests}
 use Rattle.std.proofs.lemmas.Fmt.{decimal_digit}
+use Rattle.std.proofs.lemmas.List.{take_more, length-take, take_all}
 use Rattle.cf_ids.specs.Words.{number_word}
 use Rattle.cf_syntax.specs.declared.script.Script.{Script}
+use Rattle.cf_syntax.specs.declared.script.ClassLine.{ClassLine}
 use Rattle.cf_graph.specs.Holders.{Holder, variable, owner_of, is_owning}
 use Rattle.cf_graph.specs.Edges.{Reference, weigh, counted, owning, holding}
 use Rattle.cf_model.specs.declared.action.Entry.{Entry}
 use Rattle.cf_model.specs.declared.ending.Ending.TheVariants.{Done}
-use Rattle.cf_model.specs.State.{State, Object, times, degree}
-use Rattle.cf_model.specs.Steps.{class_of}
+use Rattle.cf_contents.specs.Contents.{text_content, Object}
+use Rattle.cf_contents.specs.Descriptions.{class_name}
+use Rattle.cf_model.specs.State.{State, times, degree}
 use Rattle.cf_model.specs.Journals.{After}
-use Rattle.cf_model.specs.Rendering.{joined, class_name, entry_lines, text_of_lines, alive_line, alive_from, alive_lines, end_line, rendering}
+use Rattle.cf_model.specs.Rendering.{joined, entry_lines, text_of_lines, alive_line, alive_from, alive_lines, end_line, rendering}
 use Rattle.cf_model.proofs.Growth.{text_of_lines-append}
 use Rattle.cf_model.proofs.Balance.{IsBalanced, balanced}
-use Rattle.cf_run.specs.declared.progress.Counted.{Counted}
-use Rattle.cf_run.specs.Tally.{IsOver}
-use Rattle.cf_run.specs.Lines.{alive_line_of, alive_at, alive_of, end_line_of, run_text}
+use Rattle.cf_run.specs.Tally.{Counts, IsOver}
+use Rattle.cf_run.specs.Lines.{class_at, alive_words, alive_if, alive_below, end_words, ends_of, run_text}
 
 -- with the holders so far each reference is owned
 owner_owns : (h : Holder) → is_owning (owner_of h) ≡ true
@@ -50,51 +52,64 @@ left_test m (suc n) h =
     rw (e, no) refl
 
 -- the line of an object, by its number of references
-line_same : (k : ℕ) (ob : Object) (es : List Reference) → alive_line_of k (record { class = ob.class; references = degree k es }) ≡ alive_line k ob es
-line_same k ob es =
-    ap (λ (n : ℕ). joined (codes "alive" ∷ number_word k ∷ class_name ob.class ∷ codes "owners" ∷ decimal n ∷ codes "slots" ∷ codes "0" ∷ [])) (sym (all_owned k es))
-    ∙ ap (λ (z : List ℕ). joined (codes "alive" ∷ number_word k ∷ class_name ob.class ∷ codes "owners" ∷ decimal (weigh (owning k) es) ∷ codes "slots" ∷ z ∷ [])) (sym (decimal_digit 0 (lit< tt)) ∙ ap decimal (sym (none_held k es)))
+line_same : (classes : List ClassLine) (k : ℕ) (ob : Object) (es : List Reference) → joined (alive_words k (class_name classes ob.class) (degree k es)) ≡ alive_line classes k ob es
+line_same classes k ob es =
+    ap (λ (n : ℕ). joined (codes "alive" ∷ number_word k ∷ class_name classes ob.class ∷ codes "owners" ∷ decimal n ∷ codes "slots" ∷ codes "0" ∷ [])) (sym (all_owned k es))
+    ∙ ap (λ (z : List ℕ). joined (codes "alive" ∷ number_word k ∷ class_name classes ob.class ∷ codes "owners" ∷ decimal (weigh (owning k) es) ∷ codes "slots" ∷ z ∷ [])) (sym (decimal_digit 0 (lit< tt)) ∙ ap decimal (sym (none_held k es)))
 
 cond_not : (b : Bool) (line : List ℕ) → cond {A = List (List ℕ)} b [] (line ∷ []) ≡ cond {A = List (List ℕ)} (not b) (line ∷ []) []
 cond_not true line = refl
 cond_not false line = refl
 
-object_same : (k : ℕ) (ob : Object) (st : State) (c : Counted) → c ≡ record { class = ob.class; references = degree k st.edges } → times k st.finalised + counted (nat_lt 0 (degree k st.edges)) ≡ 1 → alive_at k c ≡ cond {A = List (List ℕ)} (times k st.finalised == 0) (alive_line k ob st.edges ∷ []) []
-object_same k ob st c is balance =
-    ap (alive_at k) is
-    ∙ ap (λ (l : List ℕ). cond {A = List (List ℕ)} (degree k st.edges == 0) [] (l ∷ [])) (line_same k ob st.edges)
-    ∙ cond_not (degree k st.edges == 0) (alive_line k ob st.edges)
-    ∙ ap (λ (b : Bool). cond {A = List (List ℕ)} b (alive_line k ob st.edges ∷ []) []) (sym (left_test (times k st.finalised) (degree k st.edges) balance))
+object_same : (classes : List ClassLine) (k : ℕ) (ob : Object) (st : State) → times k st.finalised + counted (nat_lt 0 (degree k st.edges)) ≡ 1 → alive_if classes k (Some ob.class) (degree k st.edges) ≡ alive_from classes k (ob ∷ []) st
+object_same classes k ob st balance =
+    ap (λ (l : List ℕ). cond {A = List (List ℕ)} (degree k st.edges == 0) [] (l ∷ [])) (line_same classes k ob st.edges)
+    ∙ cond_not (degree k st.edges == 0) (alive_line classes k ob st.edges)
+    ∙ ap (λ (b : Bool). cond {A = List (List ℕ)} b (alive_line classes k ob st.edges ∷ []) []) (sym (left_test (times k st.finalised) (degree k st.edges) balance))
+    ∙ sym (append-nil (cond {A = List (List ℕ)} (times k st.finalised == 0) (alive_line classes k ob st.edges ∷ []) []))
 
-counted_is : (c d : Counted) → ◌≡◌ {A = Option Counted} (Some c) (Some d) → c ≡ d
-counted_is c d e = cc
+alive_from-append : (classes : List ClassLine) (k : ℕ) (xs ys : List Object) (st : State) → alive_from classes k (xs ++ ys) st ≡ alive_from classes k xs st ++ alive_from classes (k + length xs) ys st
+alive_from-append classes k [] ys st = rw add-zero refl
+alive_from-append classes k (x ∷ xs) ys st =
+    let place : k + 1 + length xs ≡ k + suc (length xs) = omega arith in
+    rw (alive_from-append classes (k + 1) xs ys st, place) (sym (append_assoc (cond {A = List (List ℕ)} (times k st.finalised == 0) (alive_line classes k x st.edges ∷ []) []) (alive_from classes (k + 1) xs st) (alive_from classes (k + suc (length xs)) ys st)))
 
-alive_same : (k : ℕ) (cs : List Counted) (obs : List Object) (st : State) → length cs ≡ length obs → ((i : ℕ) → i < length obs → slice_get cs i ≡ Some (record { class = class_of obs i; references = degree (k + i) st.edges })) → ((i : ℕ) → i < length obs → times (k + i) st.finalised + counted (nat_lt 0 (degree (k + i) st.edges)) ≡ 1) → alive_of k cs ≡ alive_from k obs st
-alive_same k [] [] st size at balance = refl
-alive_same k [] (ob ∷ obs) st size at balance = absurd (omega arith)
-alive_same k (c ∷ cs) [] st size at balance = absurd (omega arith)
-alive_same k (c ∷ cs) (ob ∷ obs) st size at balance =
-    let here : k + 0 ≡ k = omega arith in
-    let is : c ≡ record { class = ob.class; references = degree k st.edges } = counted_is c (record { class = ob.class; references = degree k st.edges }) (at 0 (omega arith) ∙ ap (λ (n : ℕ). Some (record { class = ob.class; references = degree n st.edges })) here) in
-    let even = subst (λ (n : ℕ). times n st.finalised + counted (nat_lt 0 (degree n st.edges)) ≡ 1) here (balance 0 (omega arith)) in
-    let rest = alive_same (k + 1) cs obs st (omega arith)
-    (λ i lt. let place : k + suc i ≡ k + 1 + i = omega arith in at (suc i) (omega arith) ∙ ap (λ (n : ℕ). Some (record { class = class_of obs i; references = degree n st.edges })) place)
-    (λ i lt. let place : k + suc i ≡ k + 1 + i = omega arith in subst (λ (n : ℕ). times n st.finalised + counted (nat_lt 0 (degree n st.edges)) ≡ 1) place (balance (suc i) (omega arith))) in
-    ap (λ (ls : List (List ℕ)). ls ++ alive_of (k + 1) cs) (object_same k ob st c is even)
-    ∙ ap (λ (ls : List (List ℕ)). cond {A = List (List ℕ)} (times k st.finalised == 0) (alive_line k ob st.edges ∷ []) [] ++ ls) rest
+class_read : (objects : List Object) (i : ℕ) (d : Object) → i < length objects → class_at objects i ≡ Some (slice_index_or objects i d).class
+class_read [] i d h = absurd (omega arith)
+class_read (ob ∷ obs) zero d h = refl
+class_read (ob ∷ obs) (suc i) d h = class_read obs i d (omega arith)
 
-made_balance : (st : State) → IsBalanced st → (i : ℕ) → i < length st.objects → times (0 + i) st.finalised + counted (nat_lt 0 (degree (0 + i) st.edges)) ≡ 1
-made_balance st b i lt = rw (zero-add i) (b i ∙ (let yes : counted (nat_lt i (length st.objects)) ≡ 1 = grind (arith, nat_tests) in yes))
+-- the lines below a number are those of the first objects
+alive_same : (classes : List ClassLine) (st : State) (references : List ℕ) (d : Object) → Counts (length st.objects) st.edges references → IsBalanced st → (n : ℕ) → n ≤ length st.objects → alive_below classes st.objects references n ≡ alive_from classes 0 (take n st.objects) st
+alive_same classes st references d counts balance zero h = refl
+alive_same classes st references d counts balance (suc n) h =
+    let lt : n < length st.objects = omega arith in
+    let ob = slice_index_or st.objects n d in
+    let made : counted (nat_lt n (length st.objects)) ≡ 1 = grind (arith, nat_tests) in
+    let more : suc n ≡ n + 1 = omega arith in
+    let place : 0 + length (take n st.objects) ≡ n = omega (arith, length-take n st.objects) in
+    ap (λ (ls : List (List ℕ)). ls ++ alive_if classes n (class_at st.objects n) (slice_index references n)) (alive_same classes st references d counts balance n (omega arith))
+    ∙ ap (λ (ls : List (List ℕ)). alive_from classes 0 (take n st.objects) st ++ ls) (
+    ap (λ (c : Option ℕ). alive_if classes n c (slice_index references n)) (class_read st.objects n d lt)
+    ∙ ap (alive_if classes n (Some ob.class)) (counts.at n lt)
+    ∙ object_same classes n ob st (balance n ∙ made)
+    ∙ ap (λ (k : ℕ). alive_from classes k (ob ∷ []) st) (sym place))
+    ∙ sym (alive_from-append classes 0 (take n st.objects) (ob ∷ []) st)
+    ∙ ap (λ (obs : List Object). alive_from classes 0 obs st) (sym (take_more st.objects n d lt) ∙ ap (λ (k : ℕ). take k st.objects) (sym more))
 
 -- the text of a run that is over is the rendering of its journal
-pub run_text-rendering : (s : Script) (journal : List Entry) (cs : List Counted) (finals : ℕ) → IsOver s journal cs finals → run_text journal cs finals ≡ rendering s journal Done
-run_text-rendering s journal cs finals over =
+pub run_text-rendering : (s : Script) (journal : List Entry) (objects : List Object) (references : List ℕ) (finals : ℕ) → IsOver s journal objects references finals → run_text s.classes journal objects references finals ≡ rendering s journal Done
+run_text-rendering s journal objects references finals over =
     let st = After s journal in
-    let alive : alive_of 0 cs ≡ alive_lines st = alive_same 0 cs st.objects st over.counts.size (λ i lt. over.counts.at i lt ∙ ap (λ (n : ℕ). Some (record { class = class_of st.objects i; references = degree n st.edges })) (sym (zero-add i))) (made_balance st (balanced s journal over.whole.legal)) in
-    let last : end_line_of (length journal) (length cs) finals (length (alive_of 0 cs)) ≡ end_line journal st Done = rw (alive, over.counts.size, over.count) refl in
-    let front = entry_lines journal in
-    let text : text_of_lines (front ++ alive_lines st ++ end_line journal st Done ∷ []) ≡ text_of_lines front ++ (text_of_lines (alive_lines st) ++ (end_line journal st Done ++ 10 ∷ [])) =
-    text_of_lines-append (front ++ alive_lines st) (end_line journal st Done ∷ []) ∙ ap (λ (xs : List ℕ). xs ++ (end_line journal st Done ++ 10 ∷ [])) (text_of_lines-append front (alive_lines st)) ∙ append_assoc (text_of_lines front) (text_of_lines (alive_lines st)) (end_line journal st Done ++ 10 ∷ []) in
-    ap (λ (l : List ℕ). text_of_lines front ++ (text_of_lines (alive_of 0 cs) ++ (l ++ 10 ∷ []))) last
-    ∙ ap (λ (ls : List (List ℕ)). text_of_lines front ++ (text_of_lines ls ++ (end_line journal st Done ++ 10 ∷ []))) alive
-    ∙ sym text
+    let none : Object = record { class = 0; content = text_content false [] } in
+    let size : length references ≡ length st.objects = over.counts.size in
+    let alive : alive_below s.classes objects references (length references) ≡ alive_lines s.classes st =
+    ap (λ (obs : List Object). alive_below s.classes obs references (length references)) over.store
+    ∙ ap (alive_below s.classes st.objects references) size
+    ∙ alive_same s.classes st references none over.counts (balanced s journal over.whole.legal) (length st.objects) (omega arith)
+    ∙ ap (λ (obs : List Object). alive_from s.classes 0 obs st) (take_all (length st.objects) st.objects (omega arith)) in
+    let last : joined (end_words (length journal) (length references) finals (length (alive_below s.classes objects references (length references)))) ≡ end_line journal st Done (length (alive_lines s.classes st)) = rw (alive, size, over.count) refl in
+    let ends : ends_of s.classes (length journal) objects references finals ≡ alive_lines s.classes st ++ end_line journal st Done (length (alive_lines s.classes st)) ∷ [] = rw (last, alive) refl in
+    ap (λ (ls : List (List ℕ)). text_of_lines (entry_lines s.classes journal) ++ text_of_lines ls) ends
+    ∙ sym (text_of_lines-append (entry_lines s.classes journal) (alive_lines s.classes st ++ end_line journal st Done (length (alive_lines s.classes st)) ∷ []))
+    ∙ ap text_of_lines (sym (append_assoc (entry_lines s.classes journal) (alive_lines s.classes st) (end_line journal st Done (length (alive_lines s.classes st)) ∷ [])))

@@ -6,8 +6,7 @@ use Rattle.std.proofs.lemmas.List.{get_or-set_same, get_or-set_other}
 use Rattle.std.proofs.Math.ListN.{length-set}
 use Rattle.cf_syntax.specs.declared.statement.Touch.{Touch}
 use Rattle.cf_syntax.specs.declared.statement.Touch.TheVariants.{Nothing, Binds, Plus, Minus}
-use Rattle.cf_model.specs.declared.deed.Source.{Source}
-use Rattle.cf_model.specs.declared.deed.Source.TheVariants.{Nowhere, Fresh}
+use Rattle.cf_contents.specs.Deeds.{Source, nowhere, fresh}
 use Rattle.cf_model.specs.State.{Binding, look}
 use Rattle.cf_model.specs.Steps.{found, target, made_by, bindings_by}
 use Rattle.cf_model.specs.Journals.{object_at}
@@ -45,12 +44,12 @@ binds_at v w object bindings table lt h =
 pub tables_after : (touch : Touch) (source : Source) (used : Option ℕ) (made : ℕ) (bindings : List Binding) (table : List (Option ℕ)) → BindsWithin touch → BindsNew touch bindings → Tables made bindings table
     → Tables (made + length (made_by touch source)) (bindings_by touch (target touch (found made source) used) ++ bindings) (table_after touch (target touch (found made source) used) table)
 tables_after Nothing source used made bindings table within new h = rw add-zero h
-tables_after (Binds v) Nowhere used made bindings table within new h = record {
+tables_after (Binds v) nowhere used made bindings table within new h = record {
   size = length-set table v None ∙ h.size;
   at = λ w. binds_at v w None bindings table (omega (arith, h.size)) h.at;
   room = omega (arith, h.room, somes-set_none table v (h.at v ∙ new));
 }
-tables_after (Binds v) (Fresh class) used made bindings table within new h = record {
+tables_after (Binds v) (fresh ob) used made bindings table within new h = record {
   size = length-set table v (Some made) ∙ h.size;
   at = λ w. binds_at v w (Some made) bindings table (omega (arith, h.size)) h.at;
   room = omega (arith, h.room, somes-set_some table v made (omega (arith, h.size)) (h.at v ∙ new));

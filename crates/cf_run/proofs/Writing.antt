@@ -1,13 +1,15 @@
 -- Fronts of texts, joined.
-use Rattle.std.proofs.Common.{◌≡◌, ℕ, zero, suc, ◌+◌, ◌<◌, ◌≤◌, ◌==◌, Bool, true, false, cond, List, [], ◌∷◌, ◌++◌, length, take, drop, get_or, add-zero, Option, Some, None, refl, sym, ap, ◌∙◌, subst, arith, append_assoc, append-nil}
-use Rattle.std.proofs.lemmas.List.{take-append-drop, length-append, length-drop, length-take, take_more}
+use Rattle.std.proofs.Common.{◌≡◌, ℕ, zero, suc, ◌+◌, ◌<◌, List, [], ◌∷◌, ◌++◌, length, take, drop, get_or, Option, Some, None, refl, sym, ap, ◌∙◌, subst, arith, append_assoc, append-nil}
+use Rattle.std.proofs.lemmas.List.{take-append-drop, length-append, length-drop, take_more}
 use Rattle.std.specs.Prelude.{Result, Ok, Err}
 use Rattle.cf_io.specs.Bytes.{then_bytes}
+use Rattle.std.specs.Global.{Vec}
+use Rattle.cf_contents.specs.Contents.{Object}
+use Rattle.cf_syntax.specs.declared.script.ClassLine.{ClassLine}
 use Rattle.cf_model.specs.declared.action.Entry.{Entry}
-use Rattle.cf_model.specs.Rendering.{entry_lines, lines_if, line_of, text_of_lines}
+use Rattle.cf_model.specs.Rendering.{joined, entry_lines, lines_if, line_of, text_of_lines}
 use Rattle.cf_model.proofs.Growth.{entry_lines-append, text_of_lines-append}
-use Rattle.cf_run.specs.declared.progress.Counted.{Counted}
-use Rattle.cf_run.specs.Lines.{alive_line_of, alive_at, alive_of}
+use Rattle.cf_run.specs.Lines.{text_of, alive_below, end_words, ends_of}
 use Rattle.cf_run.specs.declared.output.Unwritten.{Unwritten}
 use Rattle.cf_run.specs.Written.{Part, Cut, IsCause, WritesAll}
 
@@ -64,6 +66,13 @@ part_cut due behind old new lt p = record {
   short = omega (arith, length-append p.rest behind);
 }
 
+-- a text cut short, with more due behind it
+pub cut_more : (due behind : List ℕ) (old new : Option (List ℕ)) → Cut due old new → Cut (due ++ behind) old new
+cut_more due behind old new c = record {
+  part = record { out = c.part.out; rest = c.part.rest ++ behind; parts = ap (λ (xs : List ℕ). xs ++ behind) c.part.parts ∙ append_assoc c.part.out c.part.rest behind; taken = c.part.taken };
+  short = omega (arith, length-append c.part.rest behind, c.short);
+}
+
 -- a cause from a count that is as it was
 pub cause_from : (e : Unwritten) (old mid new : ℕ) → mid ≡ old → IsCause e mid new → IsCause e old new
 cause_from e old mid new f c = subst (λ (n : ℕ). IsCause e n new) f c
@@ -89,55 +98,41 @@ at_place (x ∷ xs) (suc i) d h =
     let more : suc i + 1 ≡ suc (i + 1) = omega arith in
     rw more (ap (λ (ys : List _). x ∷ ys) (at_place xs i d (omega arith)))
 
-pub entries_split : (journal : List Entry) (i : ℕ) (e : Entry) → i < length journal → e ≡ get_or journal i e → text_of_lines (entry_lines journal) ≡ text_of_lines (entry_lines (take i journal)) ++ (text_of_lines (lines_if (line_of e.thread e.action e.answer)) ++ text_of_lines (entry_lines (drop (i + 1) journal)))
-entries_split journal i e h is =
+pub entries_split : (classes : List ClassLine) (journal : List Entry) (i : ℕ) (e : Entry) → i < length journal → e ≡ get_or journal i e → text_of_lines (entry_lines classes journal) ≡ text_of_lines (entry_lines classes (take i journal)) ++ (text_of_lines (lines_if (line_of classes e.thread e.action e.answer)) ++ text_of_lines (entry_lines classes (drop (i + 1) journal)))
+entries_split classes journal i e h is =
     let front = take i journal in
     let behind = drop (i + 1) journal in
     let parts : journal ≡ front ++ e ∷ behind = at_place journal i e h ∙ ap (λ (x : Entry). front ++ x ∷ behind) (sym is) in
-    ap (λ (js : List Entry). text_of_lines (entry_lines js)) parts
-    ∙ ap text_of_lines (entry_lines-append front (e ∷ behind))
-    ∙ text_of_lines-append (entry_lines front) (entry_lines (e ∷ behind))
-    ∙ ap (λ (xs : List ℕ). text_of_lines (entry_lines front) ++ xs) (text_of_lines-append (lines_if (line_of e.thread e.action e.answer)) (entry_lines behind))
+    ap (λ (js : List Entry). text_of_lines (entry_lines classes js)) parts
+    ∙ ap text_of_lines (entry_lines-append classes front (e ∷ behind))
+    ∙ text_of_lines-append (entry_lines classes front) (entry_lines classes (e ∷ behind))
+    ∙ ap (λ (xs : List ℕ). text_of_lines (entry_lines classes front) ++ xs) (text_of_lines-append (lines_if (line_of classes e.thread e.action e.answer)) (entry_lines classes behind))
 
-pub entries_more : (journal : List Entry) (i : ℕ) (e : Entry) → i < length journal → e ≡ get_or journal i e → text_of_lines (entry_lines (take (i + 1) journal)) ≡ text_of_lines (entry_lines (take i journal)) ++ text_of_lines (lines_if (line_of e.thread e.action e.answer))
-entries_more journal i e h is =
+pub entries_more : (classes : List ClassLine) (journal : List Entry) (i : ℕ) (e : Entry) → i < length journal → e ≡ get_or journal i e → text_of_lines (entry_lines classes (take (i + 1) journal)) ≡ text_of_lines (entry_lines classes (take i journal)) ++ text_of_lines (lines_if (line_of classes e.thread e.action e.answer))
+entries_more classes journal i e h is =
     let front = take i journal in
-    ap (λ (js : List Entry). text_of_lines (entry_lines js)) (take_more journal i e h ∙ ap (λ (x : Entry). front ++ x ∷ []) (sym is))
-    ∙ ap text_of_lines (entry_lines-append front (e ∷ []) ∙ ap (λ (ls : List (List ℕ)). entry_lines front ++ ls) (append-nil (lines_if (line_of e.thread e.action e.answer))))
-    ∙ text_of_lines-append (entry_lines front) (lines_if (line_of e.thread e.action e.answer))
+    ap (λ (js : List Entry). text_of_lines (entry_lines classes js)) (take_more journal i e h ∙ ap (λ (x : Entry). front ++ x ∷ []) (sym is))
+    ∙ ap text_of_lines (entry_lines-append classes front (e ∷ []) ∙ ap (λ (ls : List (List ℕ)). entry_lines classes front ++ ls) (append-nil (lines_if (line_of classes e.thread e.action e.answer))))
+    ∙ text_of_lines-append (entry_lines classes front) (lines_if (line_of classes e.thread e.action e.answer))
 
-pub alive_of-append : (o : ℕ) (xs ys : List Counted) → alive_of o (xs ++ ys) ≡ alive_of o xs ++ alive_of (o + length xs) ys
-alive_of-append o [] ys = rw add-zero refl
-alive_of-append o (x ∷ xs) ys =
-    let place : o + 1 + length xs ≡ o + suc (length xs) = omega arith in
-    rw (alive_of-append (o + 1) xs ys, place) (sym (append_assoc (alive_at o x) (alive_of (o + 1) xs) (alive_of (o + suc (length xs)) ys)))
+text_of-append : (xs ys : List (Vec ℕ)) → text_of (xs ++ ys) ≡ text_of xs ++ text_of ys
+text_of-append [] ys = refl
+text_of-append (x ∷ xs) ys = ap (λ (zs : List ℕ). x.items ++ zs) (text_of-append xs ys) ∙ sym (append_assoc x.items (text_of xs) (text_of ys))
 
-pub alive_split : (cs : List Counted) (i : ℕ) (c : Counted) → i < length cs → c ≡ get_or cs i c → text_of_lines (alive_of 0 cs) ≡ text_of_lines (alive_of 0 (take i cs)) ++ (text_of_lines (alive_at i c) ++ text_of_lines (alive_of (i + 1) (drop (i + 1) cs)))
-alive_split cs i c h is =
-    let front = take i cs in
-    let behind = drop (i + 1) cs in
-    let parts : cs ≡ front ++ c ∷ behind = at_place cs i c h ∙ ap (λ (x : Counted). front ++ x ∷ behind) (sym is) in
-    let place : 0 + length front ≡ i = omega (arith, length-take i cs) in
-    ap (λ (js : List Counted). text_of_lines (alive_of 0 js)) parts
-    ∙ ap text_of_lines (alive_of-append 0 front (c ∷ behind) ∙ ap (λ (n : ℕ). alive_of 0 front ++ alive_of n (c ∷ behind)) place)
-    ∙ text_of_lines-append (alive_of 0 front) (alive_of i (c ∷ behind))
-    ∙ ap (λ (xs : List ℕ). text_of_lines (alive_of 0 front) ++ xs) (text_of_lines-append (alive_at i c) (alive_of (i + 1) behind))
+pub text_of-push : (xs : List (Vec ℕ)) (y : Vec ℕ) → text_of (xs ++ y ∷ []) ≡ text_of xs ++ y.items
+text_of-push xs y = text_of-append xs (y ∷ []) ∙ ap (λ (zs : List ℕ). text_of xs ++ zs) (append-nil y.items)
 
-pub alive_more : (cs : List Counted) (i : ℕ) (c : Counted) → i < length cs → c ≡ get_or cs i c → alive_of 0 (take (i + 1) cs) ≡ alive_of 0 (take i cs) ++ alive_at i c
-alive_more cs i c h is =
-    let front = take i cs in
-    let place : 0 + length front ≡ i = omega (arith, length-take i cs) in
-    ap (alive_of 0) (take_more cs i c h ∙ ap (λ (x : Counted). front ++ x ∷ []) (sym is))
-    ∙ alive_of-append 0 front (c ∷ []) ∙ ap (λ (n : ℕ). alive_of 0 front ++ alive_of n (c ∷ [])) place
-    ∙ ap (λ (ls : List (List ℕ)). alive_of 0 front ++ ls) (append-nil (alive_at i c))
+pub lines_split : (ls : List (Vec ℕ)) (i : ℕ) (l : Vec ℕ) → i < length ls → l ≡ get_or ls i l → text_of ls ≡ text_of (take i ls) ++ (l.items ++ text_of (drop (i + 1) ls))
+lines_split ls i l h is =
+    ap text_of (at_place ls i l h ∙ ap (λ (x : Vec ℕ). take i ls ++ x ∷ drop (i + 1) ls) (sym is)) ∙ text_of-append (take i ls) (l ∷ drop (i + 1) ls)
 
-pub alive_most : (o : ℕ) (cs : List Counted) → length (alive_of o cs) ≤ length cs
-alive_most o [] = omega arith
-alive_most o (c ∷ cs) = omega (arith, length-append (alive_at o c) (alive_of (o + 1) cs), alive_most (o + 1) cs, one_most (c.references == 0))
-  where
-    one_most : (b : Bool) → length (cond b [] (alive_line_of o c ∷ [])) ≤ 1
-    one_most true = omega arith
-    one_most false = omega arith
+pub lines_more : (ls : List (Vec ℕ)) (i : ℕ) (l : Vec ℕ) → i < length ls → l ≡ get_or ls i l → text_of (take (i + 1) ls) ≡ text_of (take i ls) ++ l.items
+lines_more ls i l h is = ap text_of (take_more ls i l h ∙ ap (λ (x : Vec ℕ). take i ls ++ x ∷ []) (sym is)) ∙ text_of-push (take i ls) l
+
+-- a line cut short is a text cut short
+pub line_cut : (e : Unwritten) (before due behind whole : List ℕ) (old mid new : Option (List ℕ)) (faults_old faults_mid faults_new : ℕ) → whole ≡ before ++ (due ++ behind) → mid ≡ then_bytes old before → faults_mid ≡ faults_old → Cut due mid new × IsCause e faults_mid faults_new → Cut whole old new × IsCause e faults_old faults_new
+line_cut e before due behind whole old mid new fo fm fn is b f w =
+    (rw is (cut_behind before (due ++ behind) old mid new b (cut_more due behind mid new w.0)), cause_from e fo fm fn f w.1)
 
 -- one text more is taken
 pub took_more : (before due after : List ℕ) (old mid new : Option (List ℕ)) → after ≡ before ++ due → mid ≡ then_bytes old before → new ≡ then_bytes mid due → new ≡ then_bytes old after
@@ -147,16 +142,26 @@ took_more before due after old mid new is b t = t ∙ ap (λ (o : Option (List �
 pub took_both : (first second : List ℕ) (old mid new : Option (List ℕ)) → mid ≡ then_bytes old first → new ≡ then_bytes mid second → new ≡ then_bytes old (first ++ second)
 took_both first second old mid new a b = b ∙ ap (λ (o : Option (List ℕ)). then_bytes o second) a ∙ then_bytes-append old first second
 
--- the text of a run that ended, in its three parts: an error in each leaves something due
-module _ (entries alive last : List ℕ) (some : 0 < length last) (old mid mid' new : Option (List ℕ)) (faults faults_mid faults_mid' faults_new : ℕ) where
-  pub entries_fail : (e : Unwritten) → Part entries old mid × IsCause e faults faults_mid → Cut (entries ++ (alive ++ last)) old mid × IsCause e faults faults_mid
-  entries_fail e w = cut_fails e [] entries (alive ++ last) old old mid faults faults faults_mid (omega (arith, length-append alive last)) (sym (then_bytes-nil old)) refl w
+-- the text of a run that ended, in its two parts: an error in the first leaves something due, and so does one
+-- between the two
+pub front_fails : (e : Unwritten) (front last : List ℕ) (old new : Option (List ℕ)) (faults faults_new : ℕ) → 0 < length last → Part front old new × IsCause e faults faults_new → Cut (front ++ last) old new × IsCause e faults faults_new
+front_fails e front last old new faults faults_new some w = cut_fails e [] front last old old new faults faults faults_new some (sym (then_bytes-nil old)) refl w
 
-  pub alive_fail : (e : Unwritten) → mid ≡ then_bytes old entries → faults_mid ≡ faults → Part alive mid mid' × IsCause e faults_mid faults_mid' → Cut (entries ++ (alive ++ last)) old mid' × IsCause e faults faults_mid'
-  alive_fail e a f w = cut_fails e entries alive last old mid mid' faults faults_mid faults_mid' some a f w
+pub last_missing : (front last : List ℕ) (old new : Option (List ℕ)) → 0 < length last → new ≡ then_bytes old front → Cut (front ++ last) old new
+last_missing front last old new some taken = cut_behind front last old new new taken (cut_none last new new some refl)
 
-  pub line_fails : mid ≡ then_bytes old entries → faults_mid ≡ faults → mid' ≡ then_bytes mid alive → faults_mid' ≡ faults_mid → Cut (entries ++ (alive ++ last)) old mid' × (faults_mid' ≡ faults)
-  line_fails a f b k = (rw (← append_assoc entries alive last) (cut_behind (entries ++ alive) last old mid' mid' (took_both entries alive old mid mid' a b) (cut_none last mid' mid' some refl)), k ∙ f)
+-- the lines behind the entries are some text
+pub ends_some : (classes : List ClassLine) (events : ℕ) (objects : List Object) (references : List ℕ) (finals : ℕ) → 0 < length (text_of_lines (ends_of classes events objects references finals))
+ends_some classes events objects references finals =
+    let alive = alive_below classes objects references (length references) in
+    let last = joined (end_words events (length references) finals (length alive)) in
+    omega (arith, ap length (text_of_lines-append alive (last ∷ [])), length-append (text_of_lines alive) (text_of_lines (last ∷ [])), length-append last (10 ∷ []))
 
-  pub all_written : {T : Type 0} (r : Result T Unwritten) → mid ≡ then_bytes old entries → faults_mid ≡ faults → mid' ≡ then_bytes mid alive → faults_mid' ≡ faults_mid → WritesAll r last mid' new faults_mid' faults_new → WritesAll r (entries ++ (alive ++ last)) old new faults faults_new
-  all_written r a f b k w = rw (← append_assoc entries alive last) (last_writes r (entries ++ alive) last old mid' new faults faults_mid' faults_new (took_both entries alive old mid mid' a b) (k ∙ f) w)
+-- the lines behind the entries, as they are put together
+pub ends_written : (classes : List ClassLine) (events : ℕ) (objects : List Object) (references : List ℕ) (finals n alive : ℕ) (ls after : List (Vec ℕ)) (l : Vec ℕ) → after ≡ ls ++ l ∷ [] → text_of ls ≡ text_of_lines (alive_below classes objects references (length references)) → alive ≡ length (alive_below classes objects references (length references)) → n ≡ length references
+    → l.items ≡ joined (end_words events n finals alive) ++ 10 ∷ [] → text_of after ≡ text_of_lines (ends_of classes events objects references finals)
+ends_written classes events objects references finals n alive ls after l is text count size line =
+    let lines = alive_below classes objects references (length references) in
+    let last = joined (end_words events (length references) finals (length lines)) in
+    let same : l.items ≡ last ++ 10 ∷ [] = line ∙ ap (λ (k : ℕ). joined (end_words events k finals alive) ++ 10 ∷ []) size ∙ ap (λ (k : ℕ). joined (end_words events (length references) finals k) ++ 10 ∷ []) count in
+    ap text_of is ∙ text_of-push ls l ∙ ap (λ (t : List ℕ). t ++ l.items) text ∙ ap (λ (t : List ℕ). text_of_lines lines ++ t) same ∙ sym (text_of_lines-append lines (last ∷ []))

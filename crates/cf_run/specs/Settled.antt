@@ -29,21 +29,21 @@ abbrev pub SettlesBytes : List ℕ → Settled → Type 0
 SettlesBytes bytes settled.Usage = ⊥
 SettlesBytes bytes settled.ReadFault = ⊥
 SettlesBytes bytes (settled.Refused r) = Refused bytes r ⊎ IsUnfit bytes r
-SettlesBytes bytes (settled.Ran script run) = Text bytes script × Owned script × IsOver script run.journal.items run.counted.items run.finals
+SettlesBytes bytes (settled.Ran script run) = Text bytes script × Owned script × IsOver script run.journal.items run.store run.references.items run.finals
 
 -- what it came to, and the source's count of faults
 abbrev pub Settles : List (List ℕ) → Option (List File) → (faults faults' : ℕ) → Settled → Type 0
 Settles words files faults faults' settled.Usage = file_of words ≡ None
 Settles words files faults faults' settled.ReadFault = TakesWords words × HasRisen faults faults'
 Settles words files faults faults' (settled.Refused r) = IsRefused words files r
-Settles words files faults faults' (settled.Ran script run) = IsAccepted words files script × IsOver script run.journal.items run.counted.items run.finals
+Settles words files faults faults' (settled.Ran script run) = IsAccepted words files script × IsOver script run.journal.items run.store run.references.items run.finals
 
 -- the text that is due, and the journal
 abbrev pub due_of : Settled → List ℕ
 due_of settled.Usage = usage_text
 due_of settled.ReadFault = fault_text
 due_of (settled.Refused r) = refusal_text r
-due_of (settled.Ran script run) = run_text run.journal.items run.counted.items run.finals
+due_of (settled.Ran script run) = run_text script.classes run.journal.items run.store run.references.items run.finals
 
 abbrev pub entries_of : Settled → List Entry
 entries_of settled.Usage = []
@@ -62,7 +62,7 @@ abbrev pub HasFew : Settled → Type 0
 HasFew settled.Usage = ⊤
 HasFew settled.ReadFault = ⊤
 HasFew (settled.Refused r) = ⊤
-HasFew (settled.Ran script run) = length run.counted.items < 65536
+HasFew (settled.Ran script run) = length run.references.items < 65536
 
 -- the status after its lines were written, or not
 abbrev pub status_after : Result (Unit {0}) Unwritten → Settled → ℕ

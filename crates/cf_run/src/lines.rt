@@ -1,73 +1,211 @@
-//! The lines of a journal, each ended by a line feed.
-ghost use Rattle.std.specs.Prelude.{◌≡◌, ◌++◌, ◌∷◌, [], codes, IfOk};
+//! The lines that are written, each ended by a line feed.
+ghost use Rattle.std.specs.Prelude.{◌≡◌, ◌+◌, ◌<◌, ◌++◌, ◌∷◌, [], codes, length, slice_index_or, IfOk, OnOk};
 ghost use Rattle.std.specs.String.{string_bytes};
-ghost use Rattle.cf_model.specs.Rendering.{final_line, class_name as name_of, line_of, lines_if, text_of_lines};
+ghost use Rattle.cf_model.specs.Rendering.{joined, object_line, line_of, lines_if, text_of_lines};
 ghost use Rattle.cf_run.specs.Outcomes.{reason_word as word_of, refusal_text};
-ghost use Rattle.cf_run.specs.Lines.{alive_line_of, end_line_of, text_in};
+ghost use Rattle.cf_run.specs.Lines.{lent, gap, text_of, class_at, alive_words, alive_if, alive_below, end_words, ends_of, text_in};
 
-use crate::progress::Counted;
-use cf_ids::{Answer, ObjId, ThreadId, TypeId};
+use cf_ids::{Answer, ObjId, ThreadId};
 use cf_model::{Action, Entry};
-use cf_script::{Reason, Refusal};
+use cf_script::{ClassLine, Reason, Refusal};
+use cf_store::{Store, class_name};
 use std::alloc::{AllocError, Global};
 
-// The name of a type.
-fn class_name(class: TypeId) -> &'static str
-    ensures { result.now ≡ name_of class }
+// Puts the word with this number behind those before it, with a space between two.
+fn push_word(line: &mut Vec<u8>, words: &[&[u8]], number: usize) -> Result<(), AllocError>
+    requires { number < length words.now }
+    ensures { OnOk result (line.new.items ≡ line.old.items ++ (gap number ++ slice_index_or (lent words.now) number [])) }
 {
-    if class == TypeId::STRING {
-        "String"
-    } else {
-        ""
+    if 0 < number {
+        line.push(b' ')?;
     }
+    line.extend_from_slice(words[number])
 }
 
-// The line of a release that finalises an object.
-fn release_line(
+// A line of these words, joined by single spaces.
+fn line(alloc: Global, words: &[&[u8]]) -> Result<Vec<u8>, AllocError>
+    ensures { IfOk result (λ l. l.items ≡ joined (lent words.now) ++ 10 ∷ []) }
+{
+    let mut line = Vec::new(alloc);
+    for number in 0..words.len() {
+        push_word(&mut line, words, number)?;
+    }
+    line.push(b'\n')?;
+    Ok(line)
+}
+
+// The line of a release that finalises an object of a type of this name.
+fn final_line(
     alloc: Global,
     thread: ThreadId,
     object: ObjId,
-    class: TypeId,
-) -> Result<String, AllocError>
-    ensures { IfOk result (λ l. string_bytes l ≡ final_line thread (codes "release") object class ++ 10 ∷ []) }
+    name: &[u8],
+) -> Result<Vec<u8>, AllocError>
+    ensures { IfOk result (λ l. l.items ≡ object_line thread (codes "release") object (codes "final" ∷ name.now ∷ []) ++ 10 ∷ []) }
 {
-    let class = class_name(class);
-    format!(in alloc; "{thread} release {object} final {class}\n")
+    let thread = thread.to_string(alloc)?;
+    let object = object.to_string(alloc)?;
+    let words = [
+        thread.as_bytes(),
+        b"release",
+        object.as_bytes(),
+        b"final",
+        name,
+    ];
+    line(alloc, &words)
+}
+
+// The line of an object that is shown.
+fn shown_line(
+    alloc: Global,
+    thread: ThreadId,
+    object: ObjId,
+    description: &[u8],
+) -> Result<Vec<u8>, AllocError>
+    ensures { IfOk result (λ l. l.items ≡ object_line thread (codes "show") object (description.now ∷ []) ++ 10 ∷ []) }
+{
+    let thread = thread.to_string(alloc)?;
+    let object = object.to_string(alloc)?;
+    let words = [thread.as_bytes(), b"show", object.as_bytes(), description];
+    line(alloc, &words)
 }
 
 /// The line of an entry, where one is written.
-pub fn entry_line(alloc: Global, entry: &Entry) -> Result<Option<String>, AllocError>
-    ensures { IfOk result (λ l. text_of_lines (lines_if (line_of entry.now.thread entry.now.action entry.now.answer)) ≡ text_in l) }
+pub fn entry_line(
+    alloc: Global,
+    classes: &[ClassLine],
+    entry: &Entry,
+) -> Result<Option<Vec<u8>>, AllocError>
+    ensures { IfOk result (λ l. text_of_lines (lines_if (line_of classes.now entry.now.thread entry.now.action entry.now.answer)) ≡ text_in l) }
 {
-    if let Action::Release { used, .. } = &entry.action
-        && let Some(object) = used[0]
-        && let Answer::Final(class) = &entry.answer
-    {
-        return Ok(Some(release_line(alloc, entry.thread, object, *class)?));
+    match (&entry.action, &entry.answer) {
+        (Action::Release { used, .. }, Answer::Final(class)) => {
+            let Some(object) = used[0] else {
+                return Ok(None);
+            };
+            let name = class_name(classes, *class);
+            Ok(Some(final_line(alloc, entry.thread, object, name)?))
+        }
+        (Action::Show { used, .. }, Answer::Shown(description)) => {
+            let Some(object) = used[0] else {
+                return Ok(None);
+            };
+            let description = description.as_slice();
+            Ok(Some(shown_line(alloc, entry.thread, object, description)?))
+        }
+        _ => Ok(None),
     }
-    Ok(None)
 }
 
-/// The line of an object that is left, by its number.
-pub fn alive_line(alloc: Global, object: ObjId, counted: &Counted) -> Result<String, AllocError>
-    ensures { IfOk result (λ l. string_bytes l ≡ alive_line_of object counted.now ++ 10 ∷ []) }
+// The line of an object that is left, by the name of its type and how many references lead to it.
+fn alive_line(
+    alloc: Global,
+    object: ObjId,
+    name: &[u8],
+    references: usize,
+) -> Result<Vec<u8>, AllocError>
+    ensures { IfOk result (λ l. l.items ≡ joined (alive_words object name.now references) ++ 10 ∷ []) }
 {
-    let class = class_name(counted.class);
-    let owners = counted.references;
-    format!(in alloc; "alive {object} {class} owners {owners} slots 0\n")
+    let object = object.to_string(alloc)?;
+    let owners = references.to_string(alloc)?;
+    let words = [
+        b"alive".as_slice(),
+        object.as_bytes(),
+        name,
+        b"owners",
+        owners.as_bytes(),
+        b"slots",
+        b"0",
+    ];
+    line(alloc, &words)
 }
 
-/// The last line: how many entries there are, and how many objects were made, finalised and left.
-pub fn end_line(
+// Puts the line of an object behind the others, where references lead to it.
+fn push_alive(
+    alloc: Global,
+    lines: &mut Vec<Vec<u8>>,
+    classes: &[ClassLine],
+    store: &Store,
+    object: ObjId,
+    references: usize,
+) -> Result<(), AllocError>
+    ensures text { OnOk result (text_of lines.new.items ≡ text_of lines.old.items ++ text_of_lines (alive_if classes.now object (class_at store.now object) references)) }
+    ensures count { OnOk result (length lines.new.items ≡ length lines.old.items + length (alive_if classes.now object (class_at store.now object) references)) }
+{
+    if references == 0 {
+        return Ok(());
+    }
+    if let Some(class) = store.class(object) {
+        let name = class_name(classes, class);
+        lines.push(alive_line(alloc, object, name, references)?)?;
+    }
+    Ok(())
+}
+
+// The lines of the objects that are left, by how many references lead to each.
+fn alive_lines(
+    alloc: Global,
+    classes: &[ClassLine],
+    store: &Store,
+    references: &[usize],
+) -> Result<Vec<Vec<u8>>, AllocError>
+    requires { length references.now < 65536 }
+    ensures text { IfOk result (λ ls. text_of ls.items ≡ text_of_lines (alive_below classes.now store.now references.now (length references.now))) }
+    ensures count { IfOk result (λ ls. length ls.items ≡ length (alive_below classes.now store.now references.now (length references.now))) }
+{
+    let mut lines = Vec::new(alloc);
+    for (number, references) in references.iter().enumerate() {
+        let object = ObjId(number as u32);
+        push_alive(alloc, &mut lines, classes, store, object, *references)?;
+    }
+    Ok(lines)
+}
+
+// The last line: how many entries there are, and how many objects were made, finalised and left.
+fn end_line(
     alloc: Global,
     events: usize,
     objects: usize,
     finals: usize,
     alive: usize,
-) -> Result<String, AllocError>
-    ensures { IfOk result (λ l. string_bytes l ≡ end_line_of events objects finals alive ++ 10 ∷ []) }
+) -> Result<Vec<u8>, AllocError>
+    ensures { IfOk result (λ l. l.items ≡ joined (end_words events objects finals alive) ++ 10 ∷ []) }
 {
-    format!(in alloc; "end done events {events} objects {objects} finals {finals} alive {alive}\n")
+    let events = events.to_string(alloc)?;
+    let objects = objects.to_string(alloc)?;
+    let finals = finals.to_string(alloc)?;
+    let alive = alive.to_string(alloc)?;
+    let words = [
+        b"end".as_slice(),
+        b"done",
+        b"events",
+        events.as_bytes(),
+        b"objects",
+        objects.as_bytes(),
+        b"finals",
+        finals.as_bytes(),
+        b"alive",
+        alive.as_bytes(),
+    ];
+    line(alloc, &words)
+}
+
+/// The lines behind those of the entries: one for each object that is left, and the last one.
+pub fn end_lines(
+    alloc: Global,
+    classes: &[ClassLine],
+    events: usize,
+    store: &Store,
+    references: &[usize],
+    finals: usize,
+) -> Result<Vec<Vec<u8>>, AllocError>
+    requires { length references.now < 65536 }
+    ensures { IfOk result (λ ls. text_of ls.items ≡ text_of_lines (ends_of classes.now events store.now references.now finals)) }
+{
+    let mut lines = alive_lines(alloc, classes, store, references)?;
+    let alive = lines.len();
+    lines.push(end_line(alloc, events, references.len(), finals, alive)?)?;
+    Ok(lines)
 }
 
 // The word of a reason.

@@ -38,7 +38,10 @@ fn write_settled<K: Sink>(alloc: Global, sink: &mut K, settled: &Settled) -> Res
             let line = refusal_line(alloc, *refusal)?;
             write_text(sink, line.as_bytes())
         }
-        Settled::Ran(_, progress) => write_run(alloc, sink, progress),
+        Settled::Ran(checked, progress) => {
+            let classes = checked.script().classes.as_slice();
+            write_run(alloc, sink, classes, progress)
+        }
     }
 }
 

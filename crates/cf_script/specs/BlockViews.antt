@@ -9,4 +9,4 @@ abbrev pub opened_of : OpenBlock → Opened
 opened_of b = record { names = texts b.names.keys; statements = b.statements.items; numbers = b.lines.items; first = b.first }
 
 abbrev pub reading_of : Reader → Reading
-reading_of r = record { count = r.count; blocks = r.blocks.items; block = option_map opened_of r.block }
+reading_of r = record { count = r.count; classes = r.classes; blocks = r.blocks.items; block = option_map opened_of r.block }

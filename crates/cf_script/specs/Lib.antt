@@ -3,5 +3,6 @@ pub mod Counting
 pub mod Gives
 pub mod Judges
 pub mod NamesViews
+pub mod StatementViews
 pub mod TableViews
 pub mod Views

@@ -1,8 +1,6 @@
--- What a statement with names stands for.
-use Rattle.cf_syntax.specs.declared.statement.Statement.{Statement}
-use Rattle.cf_syntax.specs.Table.{With}
-use Rattle.cf_script.specs.declared.table.Stated.{Stated}
-use Rattle.cf_script.specs.Views.{texts}
+-- What a row of the code's table stands for.
+use Rattle.cf_syntax.specs.Table as Table
+use Rattle.cf_script.specs.declared.table.Row.{Row}
 
-abbrev pub stated_of : Stated → With Statement
-stated_of s = record { names = texts s.names.keys; value = s.statement }
+abbrev pub row_of : Row → Table.Row
+row_of r = Table.row r.0.now r.1

@@ -1,15 +1,16 @@
 //! The lines of a script, one after another.
 ghost use Rattle.std.specs.Prelude.{◌≡◌, ◌+◌, ◌<◌, ◌^◌, ◌∷◌, ◌++◌, [], Ok, None, IfOk};
 ghost use Rattle.std.specs.Option.{option_map};
-ghost use Rattle.cf_syntax.specs.Text.{is_word, is_header, ended, outside, inside, continued, headed, spoken, after_line, whole};
+ghost use Rattle.cf_syntax.specs.Text.{is_word, is_header, ended, classed, opened, outside, inside, continued, spoken, after_line, whole};
 ghost use Rattle.cf_script.specs.Gives.{GivesAs, Gives};
 ghost use Rattle.cf_script.specs.Views.{lent};
 ghost use Rattle.cf_script.specs.BlockViews.{opened_of, reading_of};
 
+use crate::classes::{Classes, class_of};
 use crate::fault::{ScriptFault, UNREAD};
 use crate::lines::{is_utf8, says_nothing};
 use crate::names::variables;
-use crate::table::{Stated, statement_of};
+use crate::statements::{Stated, statement_of};
 use crate::words::{is, split_words, word_at};
 use cf_ids::Seq;
 use cf_syntax::{Block, Script, Statement};
@@ -30,6 +31,7 @@ pub(crate) struct OpenBlock {
 pub(crate) struct Reader {
     /// How many they are.
     pub count: u32,
+    pub classes: Classes,
     pub blocks: Vec<Block>,
     pub block: Option<OpenBlock>,
 }
@@ -48,21 +50,45 @@ fn is_header(words: &[&[u8]]) -> bool
     words.len() == 2 && is(word_at(words, 0), b"cf") && is(word_at(words, 1), b"1")
 }
 
-/// The line with this number, where no block is open.
-#[tactic(auto, unfolding(cf_syntax::specs::Text::outside))]
-fn outside(
+/// The line with this number, which says a class.
+#[tactic(auto, unfolding(cf_syntax::specs::Text::classed))]
+fn classed(
     alloc: Global,
+    classes: Classes,
     blocks: Vec<Block>,
     line: u32,
     words: &[&[u8]],
 ) -> Result<Reader, ScriptFault>
-    ensures read { GivesAs reading_of result (outside blocks.items line (lent words.now)) }
+    ensures read { GivesAs reading_of result (classed classes blocks.items line (lent words.now)) }
     ensures count { IfOk result (λ r. r.count ≡ line) }
 {
-    if !is_word(words, b"setup") {
+    if !blocks.is_empty() {
         return Err(ScriptFault::Refused(UNREAD));
     }
-    if !blocks.is_empty() {
+    let class = class_of(alloc, &classes, words)?;
+    let mut classes = classes;
+    classes.push(class)?;
+    Ok(Reader {
+        count: line,
+        classes,
+        blocks,
+        block: None,
+    })
+}
+
+/// The line with this number, which begins setup.
+#[tactic(auto, unfolding(cf_syntax::specs::Text::opened))]
+fn opened(
+    alloc: Global,
+    classes: Classes,
+    blocks: Vec<Block>,
+    line: u32,
+    words: &[&[u8]],
+) -> Result<Reader, ScriptFault>
+    ensures read { GivesAs reading_of result (opened classes blocks.items line (lent words.now)) }
+    ensures count { IfOk result (λ r. r.count ≡ line) }
+{
+    if !is_word(words, b"setup") || !blocks.is_empty() {
         return Err(ScriptFault::Refused(UNREAD));
     }
     let block = OpenBlock {
@@ -73,9 +99,28 @@ fn outside(
     };
     Ok(Reader {
         count: line,
+        classes,
         blocks,
         block: Some(block),
     })
+}
+
+/// The line with this number, where no block is open.
+fn outside(
+    alloc: Global,
+    classes: Classes,
+    blocks: Vec<Block>,
+    line: u32,
+    words: &[&[u8]],
+) -> Result<Reader, ScriptFault>
+    ensures read { GivesAs reading_of result (outside classes blocks.items line (lent words.now)) }
+    ensures count { IfOk result (λ r. r.count ≡ line) }
+{
+    if is(word_at(words, 0), b"class") {
+        classed(alloc, classes, blocks, line, words)
+    } else {
+        opened(alloc, classes, blocks, line, words)
+    }
 }
 
 /// The block that this line ends.
@@ -102,11 +147,12 @@ fn ended(alloc: Global, block: OpenBlock, line: u32) -> Result<Block, ScriptFaul
 /// A block with the statement of the line with this number.
 fn with_line(
     alloc: Global,
+    classes: &Classes,
     block: OpenBlock,
     line: u32,
     words: &[&[u8]],
 ) -> Result<OpenBlock, ScriptFault>
-    ensures { GivesAs opened_of result (continued (opened_of block) line (lent words.now)) }
+    ensures { GivesAs opened_of result (continued classes.now (opened_of block) line (lent words.now)) }
 {
     let OpenBlock {
         names,
@@ -114,7 +160,7 @@ fn with_line(
         mut lines,
         first,
     } = block;
-    let Stated { names, statement } = statement_of(alloc, names, words)?;
+    let Stated { names, statement } = statement_of(alloc, classes, names, words)?;
     statements.push(statement)?;
     lines.push(line)?;
     Ok(OpenBlock {
@@ -129,12 +175,13 @@ fn with_line(
 #[tactic(auto, unfolding(cf_syntax::specs::Text::inside))]
 fn inside(
     alloc: Global,
+    classes: Classes,
     blocks: Vec<Block>,
     block: OpenBlock,
     line: u32,
     words: &[&[u8]],
 ) -> Result<Reader, ScriptFault>
-    ensures read { GivesAs reading_of result (inside blocks.items (opened_of block) line (lent words.now)) }
+    ensures read { GivesAs reading_of result (inside classes blocks.items (opened_of block) line (lent words.now)) }
     ensures count { IfOk result (λ r. r.count ≡ line) }
 {
     if is_word(words, b"end") {
@@ -142,13 +189,15 @@ fn inside(
         blocks.push(ended(alloc, block, line)?)?;
         return Ok(Reader {
             count: line,
+            classes,
             blocks,
             block: None,
         });
     }
-    let block = with_line(alloc, block, line, words)?;
+    let block = with_line(alloc, &classes, block, line, words)?;
     Ok(Reader {
         count: line,
+        classes,
         blocks,
         block: Some(block),
     })
@@ -163,6 +212,7 @@ fn placed(alloc: Global, reader: Reader, words: &[&[u8]]) -> Result<Reader, Scri
 {
     let Reader {
         count,
+        classes,
         blocks,
         block,
     } = reader;
@@ -172,13 +222,14 @@ fn placed(alloc: Global, reader: Reader, words: &[&[u8]]) -> Result<Reader, Scri
         }
         return Ok(Reader {
             count: 1,
+            classes,
             blocks,
             block,
         });
     }
     match block {
-        None => outside(alloc, blocks, count + 1, words),
-        Some(block) => inside(alloc, blocks, block, count + 1, words),
+        None => outside(alloc, classes, blocks, count + 1, words),
+        Some(block) => inside(alloc, classes, blocks, block, count + 1, words),
     }
 }
 
@@ -198,16 +249,9 @@ pub(crate) fn after_line<'a>(
         return Err(ScriptFault::Refused(UNREAD));
     }
     if 0 < reader.count && says_nothing(line) {
-        let Reader {
-            count,
-            blocks,
-            block,
-        } = reader;
-        return Ok(Reader {
-            count: count + 1,
-            blocks,
-            block,
-        });
+        let mut reader = reader;
+        reader.count += 1;
+        return Ok(reader);
     }
     split_words(found, line)?;
     placed(alloc, reader, found.as_slice())
@@ -215,13 +259,19 @@ pub(crate) fn after_line<'a>(
 
 /// The script at the end of the text.
 pub(crate) fn whole(reader: Reader) -> Result<Script, ScriptFault>
-    ensures { Gives result (whole reader.blocks.items (option_map opened_of reader.block)) }
+    ensures { Gives result (whole reader.classes reader.blocks.items (option_map opened_of reader.block)) }
 {
-    let Reader { blocks, block, .. } = reader;
+    let Reader {
+        classes,
+        blocks,
+        block,
+        ..
+    } = reader;
     if block.is_some() || blocks.is_empty() {
         return Err(ScriptFault::Refused(UNREAD));
     }
     Ok(Script {
+        classes: classes.into_seq(),
         blocks: Seq::from_vec(blocks),
     })
 }

@@ -3,15 +3,20 @@
 
 mod block;
 mod checked;
+mod classes;
 mod fault;
 mod lines;
 mod names;
+mod numbers;
 mod owners;
 mod reader;
+mod statements;
 mod table;
 mod words;
 
-pub use cf_syntax::{Block, Given, Reason, Refusal, Script, Statement, Touch};
+pub use cf_syntax::{
+    Block, ClassLine, DataLiteral, Given, Reason, Refusal, Script, Statement, TextLiteral, Touch,
+};
 pub use checked::{Checked, OwnFault, check_owners};
 pub use fault::ScriptFault;
 pub use reader::read_script;

@@ -86,6 +86,7 @@ fn is_fit(counts: &Counts, statement: &Statement) -> bool
         && may_use_some(counts, first)
         && may_use_some(counts, second)
         && may_use_some(counts, third)
+        && statement.is_known()
 }
 
 /// Whether no statement of a block has a fault.

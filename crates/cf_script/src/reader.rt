@@ -6,6 +6,7 @@ ghost use Rattle.cf_script.specs.Gives.{GivesAs, Gives};
 ghost use Rattle.cf_script.specs.BlockViews.{reading_of};
 
 use crate::block::{Reader, after_line, whole};
+use crate::classes::Classes;
 use crate::fault::ScriptFault;
 use crate::lines::next_line;
 use cf_syntax::Script;
@@ -18,6 +19,7 @@ fn read_lines(alloc: Global, bytes: &[u8]) -> Result<Reader, ScriptFault>
 {
     let mut reader = Reader {
         count: 0,
+        classes: Classes::new(alloc),
         blocks: Vec::new(alloc),
         block: None,
     };

@@ -1,49 +1,64 @@
-//! The statement that the words of a line are.
-ghost use Rattle.std.specs.Prelude.{◌≡◌, length};
-ghost use Rattle.cf_syntax.specs.Table.{made, form_of, is_of, are_of, classes_of, statement_by, statement_of};
-ghost use Rattle.cf_script.specs.Gives.{GivesAs};
-ghost use Rattle.cf_script.specs.Views.{lent, texts};
-ghost use Rattle.cf_script.specs.TableViews.{stated_of};
+//! The table of the forms of statements, and what the words of each have to be.
+ghost use Rattle.std.specs.Prelude.{◌≡◌, length, map};
+ghost use Rattle.cf_syntax.specs.Table.{form_in, form_of, is_of, are_of};
+ghost use Rattle.cf_script.specs.Views.{lent};
+ghost use Rattle.cf_script.specs.TableViews.{row_of};
 
-use crate::fault::{ScriptFault, UNREAD};
-use crate::names::{Numbered, number};
-use crate::words::{is, is_name, is_text, text_of, word_at};
-use cf_ids::Seq;
-use cf_syntax::{Class, Form, Refusal, Statement};
-use indexmap::IndexSet;
-use std::alloc::Global;
+use crate::fault::UNREAD;
+use crate::numbers::{index_of, integer_of, is_count, is_hex, kind_of};
+use crate::words::{is, is_name, is_text, word_at};
+use cf_syntax::{Class, DataForm, Form, PlainForm, Refusal, TextForm};
 
-/// A statement, and the names of the variables with it.
-#[derive(Drop)]
-pub(crate) struct Stated {
-    pub names: IndexSet<Vec<u8>>,
-    pub statement: Statement,
-}
+/// A word, and the form that it finds.
+struct Row(&'static [u8], Form);
 
-/// The form that makes an object of a kind.
-fn made(kind: &[u8]) -> Result<Form, Refusal>
-    ensures { result ≡ made kind.now }
+/// The forms by their first words.
+const FIRST_WORDS: [Row; 13] = [
+    Row(b"retain", Form::Plain(PlainForm::Retain)),
+    Row(b"release", Form::Plain(PlainForm::Release)),
+    Row(b"show", Form::Plain(PlainForm::Show)),
+    Row(b"new", Form::Plain(PlainForm::New)),
+    Row(b"str.append", Form::Plain(PlainForm::StrAppend)),
+    Row(b"str.insert", Form::Text(TextForm::StrInsert)),
+    Row(b"str.delete", Form::Plain(PlainForm::StrDelete)),
+    Row(b"str.replace", Form::Text(TextForm::StrReplace)),
+    Row(b"str.sub", Form::Plain(PlainForm::StrSub)),
+    Row(b"data.append", Form::Data(DataForm::DataAppend)),
+    Row(b"data.replace", Form::Data(DataForm::DataReplace)),
+    Row(b"data.delete", Form::Plain(PlainForm::DataDelete)),
+    Row(b"num.as", Form::Plain(PlainForm::NumAs)),
+];
+
+/// The forms that make an object, by its kind.
+const KINDS: [Row; 5] = [
+    Row(b"string", Form::Text(TextForm::MakeString)),
+    Row(b"mstring", Form::Text(TextForm::MakeMstring)),
+    Row(b"data", Form::Data(DataForm::MakeData)),
+    Row(b"mdata", Form::Data(DataForm::MakeMdata)),
+    Row(b"number", Form::Plain(PlainForm::MakeNumber)),
+];
+
+/// The form that a word finds.
+fn form_in(rows: &[Row], word: &[u8]) -> Result<Form, Refusal>
+    ensures { result ≡ form_in (map row_of rows.now) word.now }
 {
-    if is(kind, b"string") {
-        Ok(Form::MakeString)
-    } else {
-        Err(UNREAD)
+    for Row(found_by, form) in rows {
+        if is(word, found_by) {
+            return Ok(*form);
+        }
     }
+    Err(UNREAD)
 }
 
 /// The form that words begin.
-fn form_of(words: &[&[u8]]) -> Result<Form, Refusal>
+pub(crate) fn form_of(words: &[&[u8]]) -> Result<Form, Refusal>
     ensures { result ≡ form_of (lent words.now) }
 {
     let first = word_at(words, 0);
     if is(first, b"make") {
-        made(word_at(words, 2))
-    } else if is(first, b"retain") {
-        Ok(Form::Retain)
-    } else if is(first, b"release") {
-        Ok(Form::Release)
+        form_in(&KINDS, word_at(words, 2))
     } else {
-        Err(UNREAD)
+        form_in(&FIRST_WORDS, first)
     }
 }
 
@@ -53,13 +68,21 @@ fn is_of(class: Class, word: &[u8]) -> bool
 {
     match class {
         Class::Fixed => true,
-        Class::Variable => is_name(word),
+        Class::Variable | Class::Name => is_name(word),
         Class::Text => is_text(word),
+        Class::Hex => is_hex(word),
+        Class::Int => integer_of(word).is_some(),
+        Class::Index => index_of(word).is_some(),
+        Class::Kind => kind_of(word).is_some(),
+        Class::Fields => is(word, b"fields"),
+        Class::Count => is_count(word),
+        Class::Equal => is(word, b"equal"),
+        Class::Equality => is(word, b"identity") || is(word, b"key"),
     }
 }
 
 /// Whether as many words as classes are each of theirs.
-fn are_of(classes: &[Class], words: &[&[u8]]) -> Result<(), Refusal>
+pub(crate) fn are_of(classes: &[Class], words: &[&[u8]]) -> Result<(), Refusal>
     requires { length words.now ≡ length classes.now }
     ensures { result ≡ are_of classes.now (lent words.now) }
 {
@@ -69,43 +92,4 @@ fn are_of(classes: &[Class], words: &[&[u8]]) -> Result<(), Refusal>
         }
     }
     Ok(())
-}
-
-/// The statement of a form, by its words.
-fn statement_by(
-    alloc: Global,
-    form: Form,
-    names: IndexSet<Vec<u8>>,
-    words: &[&[u8]],
-) -> Result<Stated, ScriptFault>
-    ensures { GivesAs stated_of result (statement_by form (texts names.keys) (lent words.now)) }
-{
-    let Numbered { names, variable } = number(alloc, names, word_at(words, 1))?;
-    let statement = match form {
-        Form::MakeString => Statement::MakeString {
-            variable,
-            text: Seq::from_vec(text_of(alloc, word_at(words, 3))?),
-        },
-        Form::Retain => Statement::Retain { variable },
-        Form::Release => Statement::Release { variable },
-    };
-    Ok(Stated { names, statement })
-}
-
-/// The statement that the words of a line are.
-#[tactic(auto, unfolding(cf_syntax::specs::Table::statement_of))]
-pub(crate) fn statement_of(
-    alloc: Global,
-    names: IndexSet<Vec<u8>>,
-    words: &[&[u8]],
-) -> Result<Stated, ScriptFault>
-    ensures { GivesAs stated_of result (statement_of (texts names.keys) (lent words.now)) }
-{
-    let form = form_of(words)?;
-    let classes = form.classes();
-    if words.len() != classes.len() {
-        return Err(ScriptFault::Refused(UNREAD));
-    }
-    are_of(classes, words)?;
-    statement_by(alloc, form, names, words)
 }

@@ -2,9 +2,9 @@
 use Rattle.std.specs.Prelude.{⊤}
 use Rattle.std.specs.Str.{is_utf8, chars}
 use lib.Utf8.{encode}
-use Rattle.cf_syntax.specs.Table.{statement_of}
-use Rattle.cf_syntax.specs.Text.{script_of, after_line, said, headed, inside, outside}
+use Rattle.cf_syntax.specs.Table.{statement_of, class_of}
+use Rattle.cf_syntax.specs.Text.{script_of, after_line, said, headed, inside, classed, opened}
 
 unfoldable pub script_on_literals : ⊤
-unfolding script_of after_line said headed inside outside statement_of is_utf8 chars encode
+unfolding script_of after_line said headed inside classed opened statement_of class_of is_utf8 chars encode
 script_on_literals = tt

@@ -1,14 +1,15 @@
 -- A script has no more statements than its text has bytes.
 use Rattle.std.proofs.Common.{◌≡◌, ℕ, ◌+◌, ◌≤◌, Bool, true, false, cond, List, [], ◌∷◌, ◌++◌, length, Option, Some, None, refl, ap, arith, ◌==◌}
 use Rattle.std.specs.Prelude.{Result, Ok, Err, IfOk, codes, nat_lt, ◌&&◌}
-use Rattle.std.specs.Str.{is_utf8}
+use Rattle.std.specs.Str.{is_utf8, bytes_eq}
 use Rattle.std.proofs.lemmas.List.{length-map, length_push}
+use Rattle.cf_syntax.specs.declared.script.ClassLine.{ClassLine}
 use Rattle.cf_syntax.specs.declared.script.Block.{Block}
 use Rattle.cf_syntax.specs.declared.refusal.Refusal.{Refusal}
 use Rattle.cf_syntax.specs.Lines.{in_first, pieces, without_return, lines}
 use Rattle.cf_syntax.specs.Words.{says_nothing, words}
-use Rattle.cf_syntax.specs.Table.{◌>>=◌, required, statement_of}
-use Rattle.cf_syntax.specs.Text.{Opened, Reading, start, is_word, is_header, ended, continued, outside, inside, placed, formed, headed, said, after_line, read_from, whole, script_of}
+use Rattle.cf_syntax.specs.Table.{◌>>=◌, required, word_at, statement_of, class_of}
+use Rattle.cf_syntax.specs.Text.{Opened, Reading, start, is_word, is_header, ended, continued, classed, opened, outside, inside, placed, formed, headed, said, after_line, read_from, whole, script_of}
 
 -- how many statements blocks have, and what has been read so far
 abbrev pub statements_of : List Block → ℕ
@@ -47,24 +48,34 @@ weaker (Err e) P Q p h = tt
 abbrev Grows : Reading → Reading → Type 0
 Grows r s = size s ≤ size r + 1
 
-continued_fine : (b : Opened) (line : ℕ) (ws : List (List ℕ)) → IfOk (continued b line ws) (λ c. length c.statements ≤ length b.statements + 1)
-continued_fine b line ws = bind_fine (statement_of b.names ws) _ _ (λ s. omega (arith, length_push b.statements s.value))
+continued_fine : (classes : List ClassLine) (b : Opened) (line : ℕ) (ws : List (List ℕ)) → IfOk (continued classes b line ws) (λ c. length c.statements ≤ length b.statements + 1)
+continued_fine classes b line ws = bind_fine (statement_of classes b.names ws) _ _ (λ s. omega (arith, length_push b.statements s.value))
 
-inside_fine : (r : Reading) (b : Opened) (line : ℕ) (ws : List (List ℕ)) → r.block ≡ Some b → IfOk (inside r.blocks b line ws) (Grows r)
+inside_fine : (r : Reading) (b : Opened) (line : ℕ) (ws : List (List ℕ)) → r.block ≡ Some b → IfOk (inside r.classes r.blocks b line ws) (Grows r)
 unfolding inside
 inside_fine r b line ws e =
     let here : size r ≡ statements_of r.blocks + length b.statements = ap (λ (o : Option Opened). statements_of r.blocks + open_size o) e in
     cond_fine (is_word ws (codes "end")) _ _ (Grows r)
     (omega (arith, here, statements_of-append r.blocks (ended b line ∷ [])))
-    (bind_kept (continued b line ws) _ _ (Grows r) (continued_fine b line ws) (λ c g. omega (arith, here, g)))
+    (bind_kept (continued r.classes b line ws) _ _ (Grows r) (continued_fine r.classes b line ws) (λ c g. omega (arith, here, g)))
 
-outside_fine : (r : Reading) (line : ℕ) (ws : List (List ℕ)) → r.block ≡ None → IfOk (outside r.blocks line ws) (Grows r)
-unfolding outside
-outside_fine r line ws e =
-    let here : size r ≡ statements_of r.blocks + 0 = ap (λ (o : Option Opened). statements_of r.blocks + open_size o) e in
-    bind_fine (required (is_word ws (codes "setup"))) _ (Grows r) (λ _. bind_fine (required (length r.blocks == 0)) _ (Grows r) (λ _. omega (arith, here)))
+outside_size : (r : Reading) → r.block ≡ None → size r ≡ statements_of r.blocks + 0
+outside_size r e = ap (λ (o : Option Opened). statements_of r.blocks + open_size o) e
 
-placed_fine : (r : Reading) (o : Option Opened) (line : ℕ) (ws : List (List ℕ)) → r.block ≡ o → IfOk (placed r.blocks o line ws) (Grows r)
+classed_fine : (r : Reading) (line : ℕ) (ws : List (List ℕ)) → r.block ≡ None → IfOk (classed r.classes r.blocks line ws) (Grows r)
+unfolding classed
+classed_fine r line ws e =
+    bind_fine (required (length r.blocks == 0)) _ (Grows r) (λ _. bind_fine (class_of r.classes ws) _ (Grows r) (λ _. omega (arith, outside_size r e)))
+
+opened_fine : (r : Reading) (line : ℕ) (ws : List (List ℕ)) → r.block ≡ None → IfOk (opened r.classes r.blocks line ws) (Grows r)
+unfolding opened
+opened_fine r line ws e =
+    bind_fine (required (is_word ws (codes "setup"))) _ (Grows r) (λ _. bind_fine (required (length r.blocks == 0)) _ (Grows r) (λ _. omega (arith, outside_size r e)))
+
+outside_fine : (r : Reading) (line : ℕ) (ws : List (List ℕ)) → r.block ≡ None → IfOk (outside r.classes r.blocks line ws) (Grows r)
+outside_fine r line ws e = cond_fine (bytes_eq (word_at ws 0) (codes "class")) _ _ (Grows r) (classed_fine r line ws e) (opened_fine r line ws e)
+
+placed_fine : (r : Reading) (o : Option Opened) (line : ℕ) (ws : List (List ℕ)) → r.block ≡ o → IfOk (placed r.classes r.blocks o line ws) (Grows r)
 placed_fine r None line ws e = outside_fine r line ws e
 placed_fine r (Some b) line ws e = inside_fine r b line ws e
 
@@ -96,10 +107,10 @@ pieces-length : (bs : List ℕ) → length (pieces bs) ≤ length bs
 pieces-length [] = omega arith
 pieces-length (b ∷ bs) = piece_test b bs (pieces bs) (b == 10) (pieces-length bs)
 
-whole_fine : (blocks : List Block) (o : Option Opened) → IfOk (whole blocks o) (λ s. statements_of s.blocks ≤ statements_of blocks)
-whole_fine blocks None = bind_fine (required (nat_lt 0 (length blocks))) _ _ (λ _. omega arith)
-whole_fine blocks (Some b) = tt
+whole_fine : (classes : List ClassLine) (blocks : List Block) (o : Option Opened) → IfOk (whole classes blocks o) (λ s. statements_of s.blocks ≤ statements_of blocks)
+whole_fine classes blocks None = bind_fine (required (nat_lt 0 (length blocks))) _ _ (λ _. omega arith)
+whole_fine classes blocks (Some b) = tt
 
 pub statements-within : (bs : List ℕ) → IfOk (script_of bs) (λ s. statements_of s.blocks ≤ length bs)
 unfolding script_of
-statements-within bs = bind_kept (read_from start (lines bs)) (λ r. whole r.blocks r.block) _ _ (read_fine start (lines bs)) (λ r h. weaker (whole r.blocks r.block) _ _ (whole_fine r.blocks r.block) (λ s w. omega (arith, w, h, length-map (pieces bs) without_return, pieces-length bs)))
+statements-within bs = bind_kept (read_from start (lines bs)) (λ r. whole r.classes r.blocks r.block) _ _ (read_fine start (lines bs)) (λ r h. weaker (whole r.classes r.blocks r.block) _ _ (whole_fine r.classes r.blocks r.block) (λ s w. omega (arith, w, h, length-map (pieces bs) without_return, pieces-length bs)))

@@ -1,5 +1,6 @@
 pub mod Forms
 pub mod Lines
+pub mod Numbers
 pub mod Owned
 pub mod Rows
 pub mod Table

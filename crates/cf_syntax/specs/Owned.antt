@@ -1,5 +1,5 @@
 -- An owned script: each variable is bound once, used only where it is bound, and released no more
--- often than it owns references. After the ownership rule of the Memory Management guide: who makes or
+-- often than it owns references, and each class that is named exists. After the ownership rule of the Memory Management guide: who makes or
 -- retains an object owns a reference, and releases it. A count is a sum over the earlier statements.
 use Rattle.std.specs.Prelude.{◌≡◌, ℕ, ◌+◌, Bool, true, ◌&&◌, List, [], ◌∷◌, ◌++◌, false, ◌==◌, nat_lt, if◌then◌else◌}
 use Rattle.cf_syntax.specs.declared.statement.Statement.{Statement}
@@ -9,7 +9,7 @@ use Rattle.cf_syntax.specs.declared.script.Script.{Script}
 use Rattle.cf_syntax.specs.declared.script.Block.{Block}
 use Rattle.cf_syntax.specs.declared.refusal.Refusal.{Refusal}
 use Rattle.cf_syntax.specs.declared.refusal.Reason.TheVariants.{Unread}
-use Rattle.cf_syntax.specs.Forms.{touch_of, used_by}
+use Rattle.cf_syntax.specs.Forms.{touch_of, used_by, is_known}
 
 -- 1 for the variable itself
 abbrev pub one_of : ℕ → ℕ → ℕ
@@ -68,7 +68,7 @@ may_use_all earlier (v ∷ vs) = may_use earlier v && may_use_all earlier vs
 
 -- a statement behind earlier ones has no fault
 abbrev pub is_fit : List Statement → Statement → Bool
-is_fit earlier s = may_touch earlier (touch_of s) && may_use_all earlier (used_by s)
+is_fit earlier s = may_touch earlier (touch_of s) && may_use_all earlier (used_by s) && is_known s
 
 -- statements behind earlier ones have no fault
 abbrev pub are_fit : List Statement → List Statement → Bool

@@ -9,6 +9,7 @@ small_text = codes "cf 1\nsetup\nmake a string \"hi\"\nrelease a\nend\n"
 
 abbrev pub small_script : Script
 small_script = record {
+  classes = [];
   blocks = record {
     name = codes "setup";
     uses = [];

@@ -1,14 +1,15 @@
--- The script that a text is. This project's own: line 1 is `cf 1`, and a block goes from a line `setup`
--- to a line `end`, with a statement on each line between.
+-- The script that a text is. This project's own: line 1 is `cf 1`, class lines follow, and a block goes from a
+-- line `setup` to a line `end`, with a statement on each line between.
 use Rattle.std.specs.Prelude.{◌≡◌, ℕ, ◌+◌, Bool, ◌&&◌, List, [], ◌∷◌, ◌++◌, length, codes, Result, Ok, Err, Option, Some, None, nat_lt, ◌==◌, if◌then◌else◌}
 use Rattle.std.specs.Str.{bytes_eq, is_utf8}
 use Rattle.cf_syntax.specs.declared.script.Script.{Script}
+use Rattle.cf_syntax.specs.declared.script.ClassLine.{ClassLine}
 use Rattle.cf_syntax.specs.declared.script.Block.{Block}
 use Rattle.cf_syntax.specs.declared.statement.Statement.{Statement}
 use Rattle.cf_syntax.specs.declared.refusal.Refusal.{Refusal}
 use Rattle.cf_syntax.specs.Lines.{lines}
 use Rattle.cf_syntax.specs.Words.{says_nothing, words}
-use Rattle.cf_syntax.specs.Table.{◌>>=◌, unread, required, word_at, statement_of, With}
+use Rattle.cf_syntax.specs.Table.{◌>>=◌, unread, required, word_at, statement_of, class_of, With}
 
 -- a block that is not ended: its variables, its statements, their lines, and its first line
 pub record Opened : Type 0 where
@@ -17,14 +18,15 @@ pub record Opened : Type 0 where
   pub numbers : List ℕ
   pub first : ℕ
 
--- what the lines so far made: how many they are, the blocks that are ended, and the one that is not
+-- what the lines so far made: how many they are, the classes, the blocks that are ended, and the one that is not
 pub record Reading : Type 0 where
   pub count : ℕ
+  pub classes : List ClassLine
   pub blocks : List Block
   pub block : Option Opened
 
 abbrev pub start : Reading
-start = record { count = 0; blocks = []; block = None }
+start = record { count = 0; classes = []; blocks = []; block = None }
 
 -- a line is one word
 abbrev pub is_word : List (List ℕ) → List ℕ → Bool
@@ -59,31 +61,43 @@ with_statement b s line = record {
   first = b.first;
 }
 
--- a line with this number outside a block: it begins setup, and there is one setup
-unfoldable pub outside : List Block → ℕ → List (List ℕ) → Result Reading Refusal
-outside blocks line ws = do
+-- a class line with this number, which stands before setup
+unfoldable pub classed : List ClassLine → List Block → ℕ → List (List ℕ) → Result Reading Refusal
+classed classes blocks line ws = do
+  _ ← required (length blocks == 0)
+  class ← class_of classes ws
+  Ok (record { count = line; classes = classes ++ class ∷ []; blocks = blocks; block = None })
+
+-- a line with this number that begins setup, and there is one setup
+unfoldable pub opened : List ClassLine → List Block → ℕ → List (List ℕ) → Result Reading Refusal
+opened classes blocks line ws = do
   _ ← required (is_word ws (codes "setup"))
   _ ← required (length blocks == 0)
-  Ok (record { count = line; blocks = blocks; block = Some (begun line) })
+  Ok (record { count = line; classes = classes; blocks = blocks; block = Some (begun line) })
+
+-- a line with this number outside a block
+abbrev pub outside : List ClassLine → List Block → ℕ → List (List ℕ) → Result Reading Refusal
+outside classes blocks line ws =
+    if bytes_eq (word_at ws 0) (codes "class") then classed classes blocks line ws else opened classes blocks line ws
 
 -- a block with the statement of a line with this number
-abbrev pub continued : Opened → ℕ → List (List ℕ) → Result Opened Refusal
-continued b line ws = do
-  s ← statement_of b.names ws
+abbrev pub continued : List ClassLine → Opened → ℕ → List (List ℕ) → Result Opened Refusal
+continued classes b line ws = do
+  s ← statement_of classes b.names ws
   Ok (with_statement b s line)
 
 -- a line with this number inside a block: its end, or a statement
-unfoldable pub inside : List Block → Opened → ℕ → List (List ℕ) → Result Reading Refusal
-inside blocks b line ws =
-    if is_word ws (codes "end") then Ok (record { count = line; blocks = blocks ++ ended b line ∷ []; block = None })
+unfoldable pub inside : List ClassLine → List Block → Opened → ℕ → List (List ℕ) → Result Reading Refusal
+inside classes blocks b line ws =
+    if is_word ws (codes "end") then Ok (record { count = line; classes = classes; blocks = blocks ++ ended b line ∷ []; block = None })
     else (do
-      c ← continued b line ws
-      Ok (record { count = line; blocks = blocks; block = Some c }))
+      c ← continued classes b line ws
+      Ok (record { count = line; classes = classes; blocks = blocks; block = Some c }))
 
 -- a line with this number, by its words, behind line 1
-abbrev pub placed : List Block → Option Opened → ℕ → List (List ℕ) → Result Reading Refusal
-placed blocks None line ws = outside blocks line ws
-placed blocks (Some b) line ws = inside blocks b line ws
+abbrev pub placed : List ClassLine → List Block → Option Opened → ℕ → List (List ℕ) → Result Reading Refusal
+placed classes blocks None line ws = outside classes blocks line ws
+placed classes blocks (Some b) line ws = inside classes blocks b line ws
 
 -- the words of a line, where each is of its form
 abbrev pub formed : Option (List (List ℕ)) → Result (List (List ℕ)) Refusal
@@ -94,11 +108,11 @@ formed (Some ws) = Ok ws
 unfoldable pub headed : Reading → List (List ℕ) → Result Reading Refusal
 headed r ws = do
   _ ← required (is_header ws)
-  Ok (record { count = 1; blocks = r.blocks; block = r.block })
+  Ok (record { count = 1; classes = r.classes; blocks = r.blocks; block = r.block })
 
 -- a line that says something, by its words
 abbrev pub spoken : Reading → List (List ℕ) → Result Reading Refusal
-spoken r ws = if r.count == 0 then headed r ws else placed r.blocks r.block (r.count + 1) ws
+spoken r ws = if r.count == 0 then headed r ws else placed r.classes r.blocks r.block (r.count + 1) ws
 
 -- a line that says something
 unfoldable pub said : Reading → List ℕ → Result Reading Refusal
@@ -110,7 +124,7 @@ said r line = do
 unfoldable pub after_line : Reading → List ℕ → Result Reading Refusal
 after_line r line = do
   _ ← required (is_utf8 line)
-  if nat_lt 0 r.count && says_nothing line then Ok (record { count = r.count + 1; blocks = r.blocks; block = r.block }) else said r line
+  if nat_lt 0 r.count && says_nothing line then Ok (record { count = r.count + 1; classes = r.classes; blocks = r.blocks; block = r.block }) else said r line
 
 -- lines more
 abbrev pub read_from : Reading → List (List ℕ) → Result Reading Refusal
@@ -120,17 +134,17 @@ read_from r (l ∷ ls) = do
   read_from s ls
 
 -- the script at the end of the text: no block is open, and there was one
-abbrev pub whole : List Block → Option Opened → Result Script Refusal
-whole blocks (Some b) = Err unread
-whole blocks None = do
+abbrev pub whole : List ClassLine → List Block → Option Opened → Result Script Refusal
+whole classes blocks (Some b) = Err unread
+whole classes blocks None = do
   _ ← required (nat_lt 0 (length blocks))
-  Ok (record { blocks = blocks })
+  Ok (record { classes = classes; blocks = blocks })
 
 -- the script that bytes are the text of, or the refusal of the bytes
 unfoldable pub script_of : List ℕ → Result Script Refusal
 script_of bs = do
   r ← read_from start (lines bs)
-  whole r.blocks r.block
+  whole r.classes r.blocks r.block
 
 -- bytes are the text of a script
 abbrev pub Text : List ℕ → Script → Type 0

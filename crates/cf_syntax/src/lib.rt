@@ -1,17 +1,19 @@
-//! What a script is: its blocks and statements, the refusals of a text, and the definitions of a
+//! What a script is: its classes, blocks and statements, the refusals of a text, and the definitions of a
 //! script's text and of an owned script.
 #![tactic(auto)]
 
 mod form;
+mod literal;
 mod place;
 mod refusal;
 mod rows;
 mod script;
 mod statement;
 
-pub use form::{Class, Form};
+pub use form::{Class, DataForm, Form, PlainForm, TextForm};
+pub use literal::{DataLiteral, TextLiteral};
 pub use place::Place;
 pub use refusal::{Reason, Refusal};
 pub use rows::a_text_and_its_script;
-pub use script::{Block, Given, Script};
+pub use script::{Block, ClassLine, Given, Script};
 pub use statement::{Statement, Touch};

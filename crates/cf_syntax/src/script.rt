@@ -1,6 +1,17 @@
-//! A script and its blocks.
+//! A script, its classes and its blocks.
 use crate::statement::Statement;
 use cf_ids::{Seq, VarId};
+
+/// A class line: the class with the type number 14 and the number of class lines before it.
+#[derive(Drop)]
+pub struct ClassLine {
+    /// The name, a NAME.
+    pub name: Seq<u8>,
+    /// How many fields an instance has.
+    pub fields: u8,
+    /// Whether instances are equal where their keys are; else each is equal to itself alone.
+    pub keyed: bool,
+}
 
 /// One word after `uses`: a variable of setup, and the variable of the thread's block that has its
 /// object.
@@ -31,8 +42,9 @@ pub struct Block {
     pub last: u32,
 }
 
-/// A script: its blocks in the order of the file, of which setup is the first.
+/// A script: its classes, and its blocks in the order of the file, of which setup is the first.
 #[derive(Drop)]
 pub struct Script {
+    pub classes: Seq<ClassLine>,
     pub blocks: Seq<Block>,
 }

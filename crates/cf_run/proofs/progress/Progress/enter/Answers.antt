@@ -1,40 +1,53 @@
-use Rattle.std.proofs.Common.{ℕ, List, Option, refl, ap, ◌∙◌, arith}
+use Rattle.std.proofs.Common.{refl, ◌∙◌, arith}
 use Rattle.std.specs.Prelude.{OnOk}
 use Rattle.cf_model.specs.declared.action.Entry.{Entry}
-use Rattle.cf_syntax.specs.Forms.{touch_of}
-use Rattle.cf_model.specs.Deeds.{action_of, deed_of}
-use Rattle.cf_run.specs.declared.progress.Counted.{Counted}
-use Rattle.cf_run.specs.Tally.{answer_now}
-use Rattle.cf_run.proofs.Entering.{StepDone, WentOn, step_goes, few_counted, can_count, same_touched, on_ok}
+use Rattle.cf_model.specs.Steps.{found}
+use Rattle.cf_store.specs.Applies.{source_of}
+use Rattle.cf_run.proofs.Entering.{StepTold, WentOn, step_goes, few_made, can_count, touched_told, used_in, on_ok}
 use Rattle.cf_run.proofs.progress.Progress.enter.Goals as goal
 
 pub object_touched-object-requires : goal.object_touched-object-requires
 object_touched-object-requires c =
     let self = c.args.self.now in
-    rw c.deref.ensures.value (omega (arith, few_counted c.args.script.now self.journal.items self.counted.items self.table self.finals c.requires.at))
+    omega (arith, c.count-made.ensures, few_made c.args.script.now self.journal.items self.store self.references.items self.table self.finals c.requires.at)
 
 pub take_effect-requires-clause-count : goal.take_effect-requires-clause-count
 take_effect-requires-clause-count c =
     let self = c.args.self.now in
-    can_count c.args.script.now self.journal.items self.counted.items self.table self.finals c.args.statement.now c.object_touched-object.result c.requires.owned c.requires.at (rw c.requires.number c.requires.next) (same_touched c.args.statement.now c.object_touched-object.result _ self.counted.items _ _ c.object_touched-object.ensures c.deref.ensures.value c.used_objects-used.ensures) (omega (arith, c.in_ok-push.ensures.len))
+    let x = c.args.statement.now in
+    let f = found c.count-made.result (source_of c.in_ok-answer.field-0.fresh) in
+    rw c.touch-touch.ensures
+    (can_count c.args.script.now self.journal.items self.store self.references.items self.table self.finals x c.object_touched-object.result f c.requires.owned c.requires.at (rw c.requires.number c.requires.next)
+    (touched_told c.touch-touch.result _ f c.object_touched-object.result c.used_objects-used.result (used_in self.table x) c.object_touched-object.ensures c.touch-touch.ensures c.used_objects-used.ensures)
+    (omega (arith, c.in_ok-push.ensures.len)))
 
-went : (c : goal.After-take_effect) → OnOk c.take_effect.result (WentOn c.args.script.now c.take_effect.new.self.journal.items c.take_effect.new.self.counted.items c.take_effect.new.self.table c.take_effect.new.self.finals c.args.number)
+went : (c : goal.After-take_effect) → OnOk c.take_effect.result (WentOn c.args.script.now c.take_effect.new.self.journal.items c.take_effect.new.self.store c.take_effect.new.self.references.items c.take_effect.new.self.table c.take_effect.new.self.finals c.args.number)
 went c =
     let s = c.args.script.now in
     let self = c.args.self.now in
     let new = c.take_effect.new.self in
+    let x = c.args.statement.now in
+    let deed = c.in_ok-answer.ensures.deed in
+    let classes = c.as_slice-classes.ensures in
     let e : Entry = record { thread = 0; action = c.of-action.result; answer = c.answer_of-answer.result } in
-    let done : StepDone s self.journal.items self.counted.items self.table c.args.number c.args.statement.now c.object_touched-object.result e = record {
+    let told : StepTold s self.journal.items self.store self.references.items self.table c.args.number x c.touch-touch.result c.used_objects-used.result c.count-made.result c.apply.new.self c.in_ok-answer.field-0.answer (source_of c.in_ok-answer.field-0.fresh) c.object_touched-object.result e = record {
       own = c.requires.owned;
       next = c.requires.next;
       number = c.requires.number;
       going = c.requires.going;
+      touch_is = c.touch-touch.ensures;
+      used_is = c.used_objects-used.ensures;
+      made_is = c.count-made.ensures;
+      mid_is = rw classes at c.in_ok-answer.ensures.objects;
+      other_is = rw classes at deed.answer;
+      source_is = rw classes at deed.source;
+      object_is = c.object_touched-object.ensures;
       thread = refl;
-      action = c.of-action.ensures ∙ ap (λ (os : List (Option ℕ)). action_of c.args.statement.now (record { block = 0; number = c.args.number; used = os })) c.used_objects-used.ensures;
-      object_is = same_touched c.args.statement.now c.object_touched-object.result _ self.counted.items _ _ c.object_touched-object.ensures c.deref.ensures.value c.used_objects-used.ensures;
-      answer = c.answer_of-answer.ensures ∙ ap (λ (cs : List Counted). answer_now (touch_of c.args.statement.now) c.object_touched-object.result cs (deed_of c.args.statement.now).answer) c.deref-2.ensures.value;
+      action = c.of-action.ensures;
+      answer = rw c.deref.ensures.value at c.answer_of-answer.ensures;
     } in
-    step_goes c.take_effect.result s self.journal.items new.journal.items self.counted.items new.counted.items self.table new.table self.finals new.finals c.args.number c.args.statement.now c.object_touched-object.result e c.requires.at done (c.take_effect.ensures.journal ∙ c.in_ok-push.ensures.items) c.take_effect.ensures.counted c.take_effect.ensures.table c.take_effect.ensures.finals c.take_effect.ensures.within
+    step_goes s self.journal.items self.store self.references.items self.table c.args.number x c.touch-touch.result c.used_objects-used.result c.count-made.result c.apply.new.self c.in_ok-answer.field-0.answer (source_of c.in_ok-answer.field-0.fresh) c.object_touched-object.result e told
+    c.take_effect.result new.journal.items new.store new.references.items new.table self.finals new.finals c.requires.at (c.take_effect.ensures.journal ∙ c.in_ok-push.ensures.items) c.take_effect.ensures.store c.take_effect.ensures.references c.take_effect.ensures.table c.take_effect.ensures.finals c.take_effect.ensures.within
 
 pub returns-clause-at : goal.returns-clause-at
 returns-clause-at c = on_ok c.take_effect.result _ _ (λ w. w.at) (went c)

@@ -1,0 +1,72 @@
+-- How objects are described. This project's own.
+use Rattle.std.specs.Prelude.{ℕ, ◌-◌, Bool, List, [], ◌++◌, codes, length, map, take, Option, Some, None, nat_lt, slice_get, slice_index_or, encode_utf8, ◌==◌, if◌then◌else◌}
+use Rattle.std.specs.Char.Utf16.{utf16_lossy_chars}
+use Rattle.std.specs.List.{flat_map, join_with_byte}
+use Rattle.std.specs.Fmt.{signed_decimal}
+use Rattle.hex.specs.Hex.{encode_lower}
+use Rattle.cf_ids.specs.Words.{number_word}
+use Rattle.cf_number.specs.declared.kinds.NumKind.{NumKind}
+use Rattle.cf_number.specs.declared.kinds.NumKind.TheVariants.{S8, S16, S32, S64}
+use Rattle.cf_types.specs.Registry.{built_in_names}
+use Rattle.cf_syntax.specs.declared.script.ClassLine.{ClassLine}
+use Rattle.cf_contents.specs.Contents.{Content, text_content, data_content, number_content, instance_content, Object, first_class}
+
+-- the name of a type: built in, or a class of the script
+abbrev pub name_in : Option ClassLine → List ℕ
+name_in None = []
+name_in (Some line) = line.name
+
+abbrev pub class_name : List ClassLine → ℕ → List ℕ
+class_name classes class =
+    if nat_lt class first_class then slice_index_or built_in_names (class - 1) []
+    else name_in (slice_get classes (class - first_class))
+
+-- what says that more is there than is written
+abbrev pub more_if : Bool → List ℕ
+more_if b = if b then codes " .." else []
+
+-- a character of a text: the quote (34), the backslash (92) and LF (10) are escaped
+abbrev pub shown_char : ℕ → List ℕ
+shown_char c =
+    if c == 34 then codes "\\\""
+    else (if c == 92 then codes "\\\\"
+    else (if c == 10 then codes "\\n"
+    else encode_utf8 c))
+
+-- the characters of a text, a surrogate pair being one
+abbrev pub characters_of : List ℕ → List ℕ
+characters_of units = utf16_lossy_chars units
+
+-- a text in quotes: 32 characters at most
+abbrev pub shown_text : List ℕ → List ℕ
+shown_text units =
+    codes "\"" ++ flat_map shown_char (take 32 (characters_of units)) ++ codes "\"" ++ more_if (nat_lt 32 (length (characters_of units)))
+
+-- bytes in hexadecimal digits: 32 of them at most
+abbrev pub shown_bytes : List ℕ → List ℕ
+shown_bytes bytes = if length bytes == 0 then codes "-" else encode_lower (take 32 bytes) ++ more_if (nat_lt 32 (length bytes))
+
+abbrev pub kind_word : NumKind → List ℕ
+kind_word S8 = codes "s8"
+kind_word S16 = codes "s16"
+kind_word S32 = codes "s32"
+kind_word S64 = codes "s64"
+
+-- members in brackets: eight of them at most
+abbrev pub member_word : Option ℕ → List ℕ
+member_word None = codes "nil"
+member_word (Some o) = number_word o
+
+abbrev pub shown_members : List (Option ℕ) → List ℕ
+shown_members members =
+    codes "[" ++ join_with_byte 32 (map member_word (take 8 members)) ++ more_if (nat_lt 8 (length members)) ++ codes "]"
+
+abbrev pub shown_content : Content → List ℕ
+shown_content (text_content mutable units) = shown_text units
+shown_content (data_content mutable bytes) = shown_bytes bytes
+shown_content (number_content n) = kind_word n.kind ++ codes " " ++ signed_decimal n.value
+shown_content (instance_content key fields) = signed_decimal key ++ codes " " ++ shown_members fields
+
+-- the description of an object: the name of its type, and what it contains
+abbrev pub description : List ClassLine → Object → List ℕ
+description classes o = class_name classes o.class ++ codes " " ++ shown_content o.content

@@ -1,0 +1,4 @@
+pub mod Contents
+pub mod Deeds
+pub mod Descriptions
+pub mod Rows

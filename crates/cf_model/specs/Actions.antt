@@ -1,0 +1,66 @@
+-- The action of each form of statement. This project's own; a further form adds a line to each table.
+use Rattle.std.specs.Prelude.{ℕ, Bool, true, false, List, Option, Some, None}
+use Rattle.cf_syntax.specs.declared.statement.Statement.{Statement}
+use Rattle.cf_syntax.specs.declared.statement.Statement.TheVariants as forms
+use Rattle.cf_model.specs.declared.action.Action.{Action}
+use Rattle.cf_model.specs.declared.action.Action.TheVariants as actions
+
+-- where an action of a statement stands, and the objects of the variables that it uses
+pub record Site : Type 0 where
+  pub block : ℕ
+  pub number : ℕ
+  pub used : List (Option ℕ)
+
+-- the action of a statement at its site
+abbrev pub action_of : Statement → Site → Action
+action_of (forms.MakeString v text) s = actions.MakeString s.block s.number s.used
+action_of (forms.MakeMstring v text) s = actions.MakeMstring s.block s.number s.used
+action_of (forms.MakeData v bytes) s = actions.MakeData s.block s.number s.used
+action_of (forms.MakeMdata v bytes) s = actions.MakeMdata s.block s.number s.used
+action_of (forms.MakeNumber v n) s = actions.MakeNumber s.block s.number s.used
+action_of (forms.New v class key) s = actions.New s.block s.number s.used
+action_of (forms.Retain v) s = actions.Retain s.block s.number s.used
+action_of (forms.Release v) s = actions.Release s.block s.number s.used
+action_of (forms.Show v) s = actions.Show s.block s.number s.used
+action_of (forms.StrAppend v other) s = actions.StrAppend s.block s.number s.used
+action_of (forms.StrInsert v at text) s = actions.StrInsert s.block s.number s.used
+action_of (forms.StrDelete v at len) s = actions.StrDelete s.block s.number s.used
+action_of (forms.StrReplace v at len text) s = actions.StrReplace s.block s.number s.used
+action_of (forms.StrSub v text at len) s = actions.StrSub s.block s.number s.used
+action_of (forms.DataAppend v bytes) s = actions.DataAppend s.block s.number s.used
+action_of (forms.DataReplace v at len bytes) s = actions.DataReplace s.block s.number s.used
+action_of (forms.DataDelete v at len) s = actions.DataDelete s.block s.number s.used
+action_of (forms.NumAs v kind) s = actions.NumAs s.block s.number s.used
+
+-- the site of an action, where a statement writes it
+abbrev pub site_of : Action → Option Site
+site_of (actions.MakeString b n u) = Some (record { block = b; number = n; used = u })
+site_of (actions.MakeMstring b n u) = Some (record { block = b; number = n; used = u })
+site_of (actions.MakeData b n u) = Some (record { block = b; number = n; used = u })
+site_of (actions.MakeMdata b n u) = Some (record { block = b; number = n; used = u })
+site_of (actions.MakeNumber b n u) = Some (record { block = b; number = n; used = u })
+site_of (actions.New b n u) = Some (record { block = b; number = n; used = u })
+site_of (actions.Retain b n u) = Some (record { block = b; number = n; used = u })
+site_of (actions.Release b n u) = Some (record { block = b; number = n; used = u })
+site_of (actions.Show b n u) = Some (record { block = b; number = n; used = u })
+site_of (actions.StrAppend b n u) = Some (record { block = b; number = n; used = u })
+site_of (actions.StrInsert b n u) = Some (record { block = b; number = n; used = u })
+site_of (actions.StrDelete b n u) = Some (record { block = b; number = n; used = u })
+site_of (actions.StrReplace b n u) = Some (record { block = b; number = n; used = u })
+site_of (actions.StrSub b n u) = Some (record { block = b; number = n; used = u })
+site_of (actions.DataAppend b n u) = Some (record { block = b; number = n; used = u })
+site_of (actions.DataReplace b n u) = Some (record { block = b; number = n; used = u })
+site_of (actions.DataDelete b n u) = Some (record { block = b; number = n; used = u })
+site_of (actions.NumAs b n u) = Some (record { block = b; number = n; used = u })
+site_of actions.Done = None
+
+-- the forms that make an object
+abbrev pub makes_object : Statement → Bool
+makes_object (forms.MakeString v text) = true
+makes_object (forms.MakeMstring v text) = true
+makes_object (forms.MakeData v bytes) = true
+makes_object (forms.MakeMdata v bytes) = true
+makes_object (forms.MakeNumber v n) = true
+makes_object (forms.New v class key) = true
+makes_object (forms.StrSub v text at len) = true
+makes_object _ = false

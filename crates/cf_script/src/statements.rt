@@ -1,0 +1,250 @@
+//! The statement that the words of a line are.
+ghost use Rattle.std.specs.Prelude.{◌≡◌, IfOk, unwrap_or, []};
+ghost use Rattle.cf_syntax.specs.Numbers.{bytes_of};
+ghost use Rattle.cf_syntax.specs.Words.{text_of};
+ghost use Rattle.cf_syntax.specs.Table.{last_word, literal_of, second_numbered, text_statement, data_statement, number_statement, plain_statement, statement_by, statement_of};
+ghost use Rattle.cf_script.specs.Gives.{GivesAs};
+ghost use Rattle.cf_script.specs.Views.{lent, texts};
+ghost use Rattle.cf_script.specs.NamesViews.{numbered_of};
+ghost use Rattle.cf_script.specs.StatementViews.{stated_of, numbered_statement};
+
+use crate::classes::Classes;
+use crate::fault::{ScriptFault, UNREAD};
+use crate::names::{Numbered, number};
+use crate::numbers::{bytes_of, index_at, integer_at, kind_at};
+use crate::table::{are_of, form_of};
+use crate::words::{text_of, word_at};
+use cf_data::Bytes;
+use cf_ids::VarId;
+use cf_number::{Num, NumKind};
+use cf_string::{Str, StrFault};
+use cf_syntax::{
+    DataForm, DataLiteral, Form, PlainForm, Refusal, Statement, TextForm, TextLiteral,
+};
+use indexmap::IndexSet;
+use std::alloc::{AllocError, Global};
+
+/// A statement, and the names of the variables with it.
+#[derive(Drop)]
+pub(crate) struct Stated {
+    pub names: IndexSet<Vec<u8>>,
+    pub statement: Statement,
+}
+
+/// The last word, or no bytes where there is none.
+fn last_word<'a>(words: &[&'a [u8]]) -> &'a [u8]
+    ensures { result.now ≡ last_word (lent words.now) }
+{
+    match words {
+        [] => &[],
+        [.., word] => word,
+    }
+}
+
+/// The literal of a TEXT.
+fn text_literal(alloc: Global, word: &[u8]) -> Result<TextLiteral, ScriptFault>
+    ensures { GivesAs (λ t. t) result (literal_of (text_of word.now)) }
+{
+    let bytes = text_of(alloc, word)?;
+    match Str::from_utf8(alloc, bytes.as_slice()) {
+        Ok(text) => Ok(TextLiteral::new(text)),
+        Err(StrFault::NoMemory) => Err(ScriptFault::NoMemory),
+        Err(_) => Err(ScriptFault::Refused(UNREAD)),
+    }
+}
+
+/// The literal of a HEX.
+fn data_literal(alloc: Global, word: &[u8]) -> Result<DataLiteral, AllocError>
+    ensures { IfOk result (λ d. d ≡ unwrap_or (bytes_of word.now) []) }
+{
+    let decoded = bytes_of(alloc, word)?;
+    let mut bytes = Bytes::new(alloc);
+    bytes.reserve(decoded.len())?;
+    bytes.append(decoded.as_slice());
+    Ok(DataLiteral::new(bytes))
+}
+
+/// The statement of a form that ends with a TEXT.
+fn text_statement(
+    alloc: Global,
+    form: TextForm,
+    variable: VarId,
+    words: &[&[u8]],
+) -> Result<Statement, ScriptFault>
+    ensures { GivesAs (λ s. s) result (text_statement form variable (lent words.now)) }
+{
+    let text = text_literal(alloc, last_word(words))?;
+    Ok(match form {
+        TextForm::MakeString => Statement::MakeString { variable, text },
+        TextForm::MakeMstring => Statement::MakeMstring { variable, text },
+        TextForm::StrInsert => Statement::StrInsert {
+            variable,
+            at: index_at(words, 2),
+            text,
+        },
+        TextForm::StrReplace => Statement::StrReplace {
+            variable,
+            at: index_at(words, 2),
+            len: index_at(words, 3),
+            text,
+        },
+    })
+}
+
+/// The statement of a form that ends with a HEX.
+fn data_statement(
+    alloc: Global,
+    form: DataForm,
+    variable: VarId,
+    words: &[&[u8]],
+) -> Result<Statement, ScriptFault>
+    ensures { GivesAs (λ s. s) result (data_statement form variable (lent words.now)) }
+{
+    let bytes = data_literal(alloc, last_word(words))?;
+    Ok(match form {
+        DataForm::MakeData => Statement::MakeData { variable, bytes },
+        DataForm::MakeMdata => Statement::MakeMdata { variable, bytes },
+        DataForm::DataAppend => Statement::DataAppend { variable, bytes },
+        DataForm::DataReplace => Statement::DataReplace {
+            variable,
+            at: index_at(words, 2),
+            len: index_at(words, 3),
+            bytes,
+        },
+    })
+}
+
+/// The statement that makes a number of a kind, which has to hold its value.
+fn number_statement(variable: VarId, kind: NumKind, value: i64) -> Result<Statement, Refusal>
+    ensures { result ≡ number_statement variable kind value }
+{
+    match Num::make(kind, value) {
+        Ok(number) => Ok(Statement::MakeNumber { variable, number }),
+        Err(_) => Err(UNREAD),
+    }
+}
+
+/// The statement of a form that has neither a TEXT nor a HEX. `second` is its second variable,
+/// where it has one.
+fn plain_statement(
+    classes: &Classes,
+    form: PlainForm,
+    variable: VarId,
+    second: VarId,
+    words: &[&[u8]],
+) -> Result<Statement, Refusal>
+    ensures { result ≡ plain_statement classes.now form variable second (lent words.now) }
+{
+    Ok(match form {
+        PlainForm::MakeNumber => {
+            number_statement(variable, kind_at(words, 3), integer_at(words, 4))?
+        }
+        PlainForm::New => Statement::New {
+            variable,
+            class: classes.named(word_at(words, 2)),
+            key: integer_at(words, 3),
+        },
+        PlainForm::Retain => Statement::Retain { variable },
+        PlainForm::Release => Statement::Release { variable },
+        PlainForm::Show => Statement::Show { variable },
+        PlainForm::StrAppend => Statement::StrAppend {
+            variable,
+            other: second,
+        },
+        PlainForm::StrDelete => Statement::StrDelete {
+            variable,
+            at: index_at(words, 2),
+            len: index_at(words, 3),
+        },
+        PlainForm::StrSub => Statement::StrSub {
+            variable,
+            text: second,
+            at: index_at(words, 3),
+            len: index_at(words, 4),
+        },
+        PlainForm::DataDelete => Statement::DataDelete {
+            variable,
+            at: index_at(words, 2),
+            len: index_at(words, 3),
+        },
+        PlainForm::NumAs => Statement::NumAs {
+            variable,
+            kind: kind_at(words, 2),
+        },
+    })
+}
+
+/// The statement of a form, by the numbers of its variables and its words.
+fn statement_by(
+    alloc: Global,
+    classes: &Classes,
+    form: Form,
+    variable: VarId,
+    second: VarId,
+    words: &[&[u8]],
+) -> Result<Statement, ScriptFault>
+    ensures { GivesAs (λ s. s) result (statement_by classes.now form variable second (lent words.now)) }
+{
+    match form {
+        Form::Text(form) => text_statement(alloc, form, variable, words),
+        Form::Data(form) => data_statement(alloc, form, variable, words),
+        Form::Plain(form) => Ok(plain_statement(classes, form, variable, second, words)?),
+    }
+}
+
+/// The number of the third word, where it is a variable.
+fn second_number(
+    alloc: Global,
+    form: Form,
+    names: IndexSet<Vec<u8>>,
+    words: &[&[u8]],
+) -> Result<Numbered, ScriptFault>
+    ensures { GivesAs numbered_of result (second_numbered form (texts names.keys) (lent words.now)) }
+{
+    if form.names_two() {
+        number(alloc, names, word_at(words, 2))
+    } else {
+        Ok(Numbered {
+            names,
+            variable: VarId(0),
+        })
+    }
+}
+
+/// The statement of a form whose words are each of their class, with its variables numbered.
+fn numbered_statement(
+    alloc: Global,
+    classes: &Classes,
+    form: Form,
+    names: IndexSet<Vec<u8>>,
+    words: &[&[u8]],
+) -> Result<Stated, ScriptFault>
+    ensures { GivesAs stated_of result (numbered_statement classes.now form (texts names.keys) (lent words.now)) }
+{
+    let first = number(alloc, names, word_at(words, 1))?;
+    let second = second_number(alloc, form, first.names, words)?;
+    let statement = statement_by(alloc, classes, form, first.variable, second.variable, words)?;
+    Ok(Stated {
+        names: second.names,
+        statement,
+    })
+}
+
+/// The statement that the words of a line are.
+#[tactic(auto, unfolding(cf_syntax::specs::Table::statement_of))]
+pub(crate) fn statement_of(
+    alloc: Global,
+    classes: &Classes,
+    names: IndexSet<Vec<u8>>,
+    words: &[&[u8]],
+) -> Result<Stated, ScriptFault>
+    ensures { GivesAs stated_of result (statement_of classes.now (texts names.keys) (lent words.now)) }
+{
+    let form = form_of(words)?;
+    let word_classes = form.classes();
+    if words.len() != word_classes.len() {
+        return Err(ScriptFault::Refused(UNREAD));
+    }
+    are_of(word_classes, words)?;
+    numbered_statement(alloc, classes, form, names, words)
+}

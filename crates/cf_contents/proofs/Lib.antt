@@ -1,2 +1,4 @@
 pub mod ContentLaws
 pub mod OnLiterals
+pub mod SlotLaws
+pub mod FormLaws

@@ -1,6 +1,6 @@
 -- What objects contain. After the reference: a text is a list of UTF-16 units, data a list of bytes, a number a
 -- value and its kind. Instances of a script's classes are this project's own.
-use Rattle.std.specs.Prelude.{ℕ, ℤ, Bool, List, Option, None, Some, replicate}
+use Rattle.std.specs.Prelude.{ℕ, ◌+◌, ℤ, Bool, List, [], ◌∷◌, ◌==◌, if◌then◌else◌, Option, None, Some, replicate}
 use Rattle.cf_number.specs.Numbers.{Number}
 use Rattle.cf_syntax.specs.declared.script.ClassLine.{ClassLine}
 
@@ -15,6 +15,27 @@ pub data Content : Type 0 where
 pub record Object : Type 0 where
   pub class : ℕ
   pub content : Content
+
+-- how often a number stands in a list
+abbrev pub times : ℕ → List ℕ → ℕ
+times n [] = 0
+times n (m ∷ ms) = (if m == n then 1 else 0) + times n ms
+
+-- the objects in places of which some are empty, and what an object holds in its slots, in order
+abbrev pub present : List (Option ℕ) → List ℕ
+present [] = []
+present (None ∷ os) = present os
+present (Some o ∷ os) = o ∷ present os
+
+abbrev pub slots_in : Content → List ℕ
+slots_in (text_content mutable units) = []
+slots_in (data_content mutable bytes) = []
+slots_in (number_content n) = []
+slots_in (instance_content key fields) = present fields
+
+abbrev pub slots_at : Option Object → List ℕ
+slots_at None = []
+slots_at (Some ob) = slots_in ob.content
 
 -- the numbers of the types, after the reference's names; the first class of a script has the number 14
 abbrev pub string_class : ℕ

@@ -1,6 +1,6 @@
 -- Each form as data: what it answers, what it binds, and what it does to contents, by the objects that it uses. All
 -- that a step does comes from this data, so a further form adds a line. This project's own, after the reference.
-use Rattle.std.specs.Prelude.{ℕ, zero, suc, ◌+◌, ◌-◌, true, false, List, [], ◌∷◌, ◌++◌, length, take, drop, Option, Some, None, slice_get, nat_lt, if◌then◌else◌}
+use Rattle.std.specs.Prelude.{ℕ, zero, suc, ◌+◌, ◌-◌, true, false, List, [], ◌∷◌, ◌++◌, length, take, drop, map, Option, Some, None, slice_get, nat_lt, if◌then◌else◌}
 use Rattle.std.specs.List.{splice}
 use Rattle.cf_ids.specs.declared.answer.Answer.{Answer}
 use Rattle.cf_ids.specs.declared.answer.Answer.TheVariants as answers
@@ -14,7 +14,7 @@ use Rattle.cf_string.specs.Units.{replaced}
 use Rattle.cf_syntax.specs.declared.script.ClassLine.{ClassLine}
 use Rattle.cf_syntax.specs.declared.statement.Statement.{Statement}
 use Rattle.cf_syntax.specs.declared.statement.Statement.TheVariants as forms
-use Rattle.cf_contents.specs.Contents.{Content, text_content, data_content, number_content, Object, string_class, data_class, number_class, first_class, instance_of}
+use Rattle.cf_contents.specs.Contents.{Content, text_content, data_content, number_content, instance_content, Object, present, string_class, data_class, number_class, first_class, instance_of}
 use Rattle.cf_contents.specs.Descriptions.{description}
 
 -- where the object comes from that a statement binds: there is none, and the variable is empty, or it is new
@@ -22,24 +22,36 @@ pub data Source : Type 0 where
   nowhere : Source
   fresh : Object → Source
 
--- what a statement answers where nothing else decides its answer, what it binds, and what the first object that it
--- uses contains after it, where that changes
+-- an edit of places: from a place on so many go out, and others come in there, each empty or one of the objects that
+-- are used, by its number among them
+pub record Splice : Type 0 where
+  pub at : ℕ
+  pub out : ℕ
+  pub enter : List (Option ℕ)
+
+-- what becomes of the first object that a statement uses: nothing, other contents, or an edit of its places
+pub data Change : Type 0 where
+  unchanged : Change
+  contents : Content → Change
+  places : Splice → Change
+
+-- what a statement answers where nothing else decides its answer, what it binds, and what it changes
 pub record Deed : Type 0 where
   pub answer : Answer
   pub source : Source
-  pub change : Option Content
+  pub change : Change
 
 abbrev pub answered : Answer → Deed
-answered a = record { answer = a; source = nowhere; change = None }
+answered a = record { answer = a; source = nowhere; change = unchanged }
 
 abbrev pub skipped : Deed
 skipped = answered answers.Skip
 
 abbrev pub made : ℕ → Content → Deed
-made class content = record { answer = answers.Skip; source = fresh (record { class = class; content = content }); change = None }
+made class content = record { answer = answers.Skip; source = fresh (record { class = class; content = content }); change = unchanged }
 
 abbrev pub changed_to : Content → Deed
-changed_to content = record { answer = answers.Ok; source = nowhere; change = Some content }
+changed_to content = record { answer = answers.Ok; source = nowhere; change = contents content }
 
 -- by an object, where there is one of the kind; else the statement is skipped
 abbrev pub with_object : Option Object → (Object → Deed) → Deed
@@ -99,7 +111,7 @@ as_kind kind n = if fits_kind kind n.value then answered (answers.Number n.value
 
 abbrev pub fresh_if : Option Object → Deed
 fresh_if None = skipped
-fresh_if (Some o) = record { answer = answers.Skip; source = fresh o; change = None }
+fresh_if (Some o) = record { answer = answers.Skip; source = fresh o; change = unchanged }
 
 abbrev pub line_of : List ClassLine → ℕ → Option ClassLine
 line_of classes class = slice_get classes (class - first_class)
@@ -143,13 +155,82 @@ object_of objects (Some o) = slice_get objects o
 abbrev pub deed_at : List ClassLine → List Object → Statement → List (Option ℕ) → Deed
 deed_at classes objects s used = deed_of classes s (object_of objects (first_of used)) (object_of objects (second_of used))
 
--- the objects with another content of one of them
-abbrev pub with_content : ℕ → Content → List Object → List Object
-with_content o content [] = []
-with_content zero content (ob ∷ obs) = record ob { content = content } ∷ obs
-with_content (suc o) content (ob ∷ obs) = ob ∷ with_content o content obs
+-- one of the objects that are used, by its number among them, and a change with the objects that come in
+abbrev pub used_at : List (Option ℕ) → ℕ → Option ℕ
+used_at [] i = None
+used_at (o ∷ os) zero = o
+used_at (o ∷ os) (suc i) = used_at os i
 
-abbrev pub changed_by : Option ℕ → Option Content → List Object → List Object
-changed_by None content objects = objects
-changed_by (Some o) None objects = objects
-changed_by (Some o) (Some content) objects = with_content o content objects
+abbrev pub chosen : List (Option ℕ) → Option ℕ → Option ℕ
+chosen used None = None
+chosen used (Some i) = used_at used i
+
+abbrev pub resolved : List (Option ℕ) → Change → Change
+resolved used unchanged = unchanged
+resolved used (contents content) = contents content
+resolved used (places e) = places (record { at = e.at; out = e.out; enter = map (chosen used) e.enter })
+
+-- places after an edit, and what it takes out of them
+abbrev pub spliced : List (Option ℕ) → Splice → List (Option ℕ)
+spliced ps e = splice ps e.at (e.at + e.out) e.enter
+
+abbrev pub removed : List (Option ℕ) → Splice → List (Option ℕ)
+removed ps e = take e.out (drop e.at ps)
+
+-- contents after an edit of their places, and the objects that it takes in and gives out
+abbrev pub edited : Content → Splice → Content
+edited (text_content mutable units) e = text_content mutable units
+edited (data_content mutable bytes) e = data_content mutable bytes
+edited (number_content n) e = number_content n
+edited (instance_content key fields) e = instance_content key (spliced fields e)
+
+abbrev pub entering : Content → Splice → List ℕ
+entering (text_content mutable units) e = []
+entering (data_content mutable bytes) e = []
+entering (number_content n) e = []
+entering (instance_content key fields) e = present e.enter
+
+abbrev pub leaving : Content → Splice → List ℕ
+leaving (text_content mutable units) e = []
+leaving (data_content mutable bytes) e = []
+leaving (number_content n) e = []
+leaving (instance_content key fields) e = present (removed fields e)
+
+-- contents after a change, and the objects that it takes in and gives out
+abbrev pub content_after : Change → Content → Content
+content_after unchanged c = c
+content_after (contents content) c = content
+content_after (places e) c = edited c e
+
+abbrev pub taken_by : Change → Content → List ℕ
+taken_by unchanged c = []
+taken_by (contents content) c = []
+taken_by (places e) c = entering c e
+
+abbrev pub given_by : Change → Content → List ℕ
+given_by unchanged c = []
+given_by (contents content) c = []
+given_by (places e) c = leaving c e
+
+abbrev pub taken_in : Option Object → Change → List ℕ
+taken_in None change = []
+taken_in (Some ob) change = taken_by change ob.content
+
+abbrev pub given_out : Option Object → Change → List ℕ
+given_out None change = []
+given_out (Some ob) change = given_by change ob.content
+
+-- the objects with one of them changed
+abbrev pub with_content : ℕ → Change → List Object → List Object
+with_content o change [] = []
+with_content zero change (ob ∷ obs) = record ob { content = content_after change ob.content } ∷ obs
+with_content (suc o) change (ob ∷ obs) = ob ∷ with_content o change obs
+
+abbrev pub with_change : ℕ → Change → List Object → List Object
+with_change o unchanged objects = objects
+with_change o (contents content) objects = with_content o (contents content) objects
+with_change o (places e) objects = with_content o (places e) objects
+
+abbrev pub changed_by : Option ℕ → Change → List Object → List Object
+changed_by None change objects = objects
+changed_by (Some o) change objects = with_change o change objects

@@ -1,15 +1,22 @@
 -- The test on references tells equal ones and no others.
-use Rattle.std.proofs.Common.{◌≡◌, ℕ, true, refl, sym, ap, ◌∙◌, eqb}
+use Rattle.std.proofs.Common.{◌≡◌, ℕ, zero, suc, true, refl, sym, ap, ◌∙◌, eqb}
 use Rattle.std.proofs.lemmas.Bool.{and_from, and_parts, eqb-true, eq-eqb}
-use Rattle.cf_graph.specs.Holders.{Holder, variable, Code, code_of, same_code, same_holder}
+use Rattle.cf_graph.specs.Holders.{Holder, variable, owed, slot, Code, code_of, same_code, same_holder}
 use Rattle.cf_graph.specs.Edges.{Reference, same}
 
 holder_from : Code → Holder
-holder_from c = variable c.first c.second
+holder_from c = kind_from c.kind
+  where
+    kind_from : ℕ → Holder
+    kind_from zero = variable c.first c.second
+    kind_from (suc zero) = owed c.first
+    kind_from (suc (suc k)) = slot c.first
 
 holder_from-code_of : (h : Holder) → holder_from (code_of h) ≡ h
 unfolding holder_from
 holder_from-code_of (variable t v) = refl
+holder_from-code_of (owed t) = refl
+holder_from-code_of (slot b) = refl
 
 code_from : (a b : Code) → a.kind ≡ b.kind → a.first ≡ b.first → a.second ≡ b.second → a ≡ b
 code_from a b k f s =

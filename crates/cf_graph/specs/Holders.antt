@@ -3,9 +3,11 @@ use Rattle.std.specs.Prelude.{ℕ, Bool, true, false, ◌&&◌, ◌==◌}
 use Rattle.cf_graph.specs.declared.edge.Owner.{Owner}
 use Rattle.cf_graph.specs.declared.edge.Owner.TheVariants.{Thread, Parcel, Slot, Mode, Common}
 
--- what a variable of a thread holds
+-- a variable of a thread; a thread that was given out a reference and owes its release; a slot of a body
 pub data Holder : Type 0 where
   variable : (thread var : ℕ) → Holder
+  owed : (thread : ℕ) → Holder
+  slot : (body : ℕ) → Holder
 
 -- a holder as numbers, by which two of them are told apart
 pub record Code : Type 0 where
@@ -15,6 +17,8 @@ pub record Code : Type 0 where
 
 abbrev pub code_of : Holder → Code
 code_of (variable t v) = record { kind = 0; first = t; second = v }
+code_of (owed t) = record { kind = 1; first = t; second = 0 }
+code_of (slot b) = record { kind = 2; first = b; second = 0 }
 
 abbrev pub same_code : Code → Code → Bool
 same_code a b = (a.kind == b.kind) && ((a.first == b.first) && (a.second == b.second))
@@ -25,6 +29,8 @@ same_holder a b = same_code (code_of a) (code_of b)
 -- the owner that callers see
 abbrev pub owner_of : Holder → Owner
 owner_of (variable t v) = Thread t
+owner_of (owed t) = Thread t
+owner_of (slot b) = Slot b
 
 -- threads and parcels own what they hold; all others hold it for an owner
 abbrev pub is_owning : Owner → Bool
@@ -41,3 +47,11 @@ is_thread t (Parcel u) = false
 is_thread t (Slot b) = false
 is_thread t (Mode u m) = false
 is_thread t (Common u) = false
+
+-- the owner is this body
+abbrev pub is_slot : ℕ → Owner → Bool
+is_slot b (Thread u) = false
+is_slot b (Parcel u) = false
+is_slot b (Slot c) = b == c
+is_slot b (Mode u m) = false
+is_slot b (Common u) = false

@@ -1,26 +1,15 @@
 -- The balance of each object: its finals, and one more if a reference leads to it, are one if it was
--- made, and else nothing. It holds after every legal journal, and says all that there is to say of finals.
-use Rattle.std.proofs.Common.{◌≡◌, ℕ, ◌+◌, ◌<◌, ◌≤◌, Bool, true, false, cond, List, [], ◌∷◌, ◌++◌, length, Some, None, Option, eqb, ltb, refl, sym, ap, ◌∙◌, subst, arith, length-append, inl, inr, ◌==◌, add-zero}
+-- made, and else nothing. Steps that add references keep it, and so does one that cuts a reference.
+use Rattle.std.proofs.Common.{◌≡◌, ℕ, ◌+◌, ◌<◌, ◌≤◌, ◌⊎◌, Bool, true, false, cond, List, [], ◌∷◌, ◌++◌, length, Some, None, eqb, refl, ap, ◌∙◌, subst, arith, inl, inr, ◌==◌}
 use Rattle.std.proofs.lemmas.Bool.Decides.{nat_tests, eqb_tells}
-use Rattle.std.proofs.lemmas.Bool.{and_parts, eqb-true, eq-eqb, ltb-true}
+use Rattle.std.proofs.lemmas.Bool.{eqb-true, eq-eqb, cases_lt}
 use Rattle.std.specs.Prelude.{nat_lt}
 use Rattle.cf_graph.specs.Edges.{Reference, same, leading_to, counted}
-use Rattle.cf_graph.specs.Operations.{without, run}
+use Rattle.cf_graph.specs.Operations.{Operation, add, move, cut, without, moved, run, CanRun}
 use Rattle.cf_graph.proofs.Same.{same-equal}
-use Rattle.cf_syntax.specs.declared.script.Script.{Script}
-use Rattle.cf_syntax.specs.declared.script.ClassLine.{ClassLine}
-use Rattle.cf_syntax.specs.declared.statement.Statement.{Statement}
-use Rattle.cf_syntax.specs.Forms.{touch_of}
-use Rattle.cf_syntax.specs.declared.statement.Touch.{Touch}
-use Rattle.cf_syntax.specs.declared.statement.Touch.TheVariants.{Nothing, Binds, Plus, Minus}
-use Rattle.cf_model.specs.declared.action.Entry.{Entry}
-use Rattle.cf_contents.specs.Contents.{Object}
-use Rattle.cf_contents.specs.Deeds.{Source, nowhere, fresh, first_of, deed_at, changed_by}
-use Rattle.cf_contents.proofs.ContentLaws.{length-changed_by}
-use Rattle.cf_model.specs.State.{State, start, times, degree}
-use Rattle.cf_model.specs.Actions.{Site, site_of}
-use Rattle.cf_model.specs.Steps.{Step, step_of, reference, found, target, operations_of, made_by, objects_after, finalised_by, finalised_at, statement_in, step_with, step_at, state_by, effect}
-use Rattle.cf_model.specs.Journals.{MayUse, MayUseAll, IsLegalFrom, IsLegal, state_from, After, used_at}
+use Rattle.cf_graph.proofs.Counts.{weigh-without}
+use Rattle.cf_model.specs.State.{State, times, degree}
+use Rattle.cf_model.specs.Steps.{Step, finals_of, state_after}
 
 -- the balance of an object, as numbers
 abbrev pub Balances : List ℕ → List Reference → ℕ → ℕ → Type 0
@@ -35,13 +24,13 @@ one_if n h = grind (arith, nat_tests)
 none_if : (n : ℕ) → n ≡ 0 → counted (nat_lt 0 n) ≡ 0
 none_if n h = grind (arith, nat_tests)
 
-made_one : (o made : ℕ) → o < made → counted (nat_lt o made) ≡ 1
+pub made_one : (o made : ℕ) → o < made → counted (nat_lt o made) ≡ 1
 made_one o made h = grind (arith, nat_tests)
 
-not_made : (o made : ℕ) → made ≤ o → counted (nat_lt o made) ≡ 0
+pub not_made : (o made : ℕ) → made ≤ o → counted (nat_lt o made) ≡ 0
 not_made o made h = grind (arith, nat_tests)
 
-made_more : (o made : ℕ) → (made ≡ o → ⊥) → counted (nat_lt o (made + 1)) ≡ counted (nat_lt o made)
+made_more : (o made : ℕ) → (o ≡ made → ⊥) → counted (nat_lt o (made + 1)) ≡ counted (nat_lt o made)
 made_more o made h = grind (arith, nat_tests)
 
 counted_no : (m n : ℕ) → (m ≡ n → ⊥) → counted (eqb m n) ≡ 0
@@ -59,49 +48,59 @@ pub degree-without : (r : Reference) (es : List Reference) (o : ℕ) → (r.obje
 degree-without r [] o h = refl
 degree-without r (e ∷ es) o h = without_cases r e es o (same r e) refl h (degree-without r es o h)
 
--- the object that a step uses is live
-abbrev pub IsLiveIf : List ℕ → ℕ → Option ℕ → Type 0
-IsLiveIf finalised made None = Unit {0}
-IsLiveIf finalised made (Some o) = (times o finalised ≡ 0) × (o < made)
+-- ---- steps that add and move
 
-abbrev NewBalances : ℕ → Touch → Source → Option ℕ → List ℕ → List Reference → ℕ → ℕ → Type 0
-NewBalances t touch source used finalised es made q =
-    let object = target touch (found made source) used in
-    let left = run (operations_of t touch object) es in
-    Balances (finalised_by touch object left ++ finalised) left (made + length (made_by touch source)) q
+-- operations that cut nothing, and how many references to an object they add
+abbrev pub CutsNothing : List Operation → Type 0
+CutsNothing [] = Unit {0}
+CutsNothing (add r ∷ ops) = CutsNothing ops
+CutsNothing (move r h ∷ ops) = CutsNothing ops
+CutsNothing (cut r ∷ ops) = ⊥
 
-stays : (finalised : List ℕ) (es : List Reference) (made q : ℕ) → Balances finalised es made q → Balances finalised es (made + 0) q
-stays finalised es made q h = rw add-zero h
+abbrev pub added : ℕ → List Operation → ℕ
+added o [] = 0
+added o (add r ∷ ops) = leading_to o r + added o ops
+added o (move r h ∷ ops) = added o ops
+added o (cut r ∷ ops) = added o ops
 
-binds_fresh : (t v : ℕ) (finalised : List ℕ) (es : List Reference) (made q : ℕ) → Balances finalised es made q → Balances finalised (reference t v made ∷ es) (made + 1) q
-binds_fresh t v finalised es made q h =
-    elim (eqb_tells made q) [
-      | inl same ↦
-          let out = not_made q made (omega (arith, same.1)) in
-          let is = made_one q (made + 1) (omega (arith, same.1)) in
-          let new : counted (eqb made q) ≡ 1 = ap counted same.0 in
-          let some = one_if (degree q (reference t v made ∷ es)) (omega (arith, new)) in
-          omega (arith, h, out, is, some)
-      | inr other ↦
-          let no = counted_no made q other.1 in
-          let e : degree q (reference t v made ∷ es) ≡ degree q es = omega (arith, no) in
-          rw (e, made_more q made other.1) h
-    ]
+pub degree-grown : (o : ℕ) (ops : List Operation) (es : List Reference) → CutsNothing ops → CanRun ops es → degree o (run ops es) ≡ degree o es + added o ops
+degree-grown o [] es n c = omega arith
+degree-grown o (add r ∷ ops) es n c = omega (arith, degree-grown o ops (r ∷ es) n c.1)
+degree-grown o (move r h ∷ ops) es n c = omega (arith, degree-grown o ops (moved r h ∷ without r es) n c.1, weigh-without (leading_to o) r es c.0)
+degree-grown o (cut r ∷ ops) es n c = absurd n
 
-adds : (t v o : ℕ) (finalised : List ℕ) (es : List Reference) (made q : ℕ) → times o finalised ≡ 0 → o < made → Balances finalised es made q → Balances finalised (reference t v o ∷ es) made q
-adds t v o finalised es made q live is h =
-    elim (eqb_tells o q) [
-      | inl same ↦
-          let new : counted (eqb o q) ≡ 1 = ap counted same.0 in
-          let some = one_if (degree q (reference t v o ∷ es)) (omega (arith, new)) in
-          let there = made_one q made (omega (arith, same.1, is)) in
-          let none : times q finalised ≡ 0 = rw same.1 at live in
-          omega (arith, some, there, none)
-      | inr other ↦
-          let no = counted_no o q other.1 in
-          let e : degree q (reference t v o ∷ es) ≡ degree q es = omega (arith, no) in
-          rw e h
-    ]
+-- what operations add references to: objects that are live, and the new object, if there is one
+pub record Adds (finalised : List ℕ) (made size : ℕ) (ops : List Operation) : Type 0 where
+  pub nothing : CutsNothing ops
+  pub live : (o : ℕ) → 0 < added o ops → ((times o finalised ≡ 0) × (o < made)) ⊎ ((o ≡ made) × (size ≡ made + 1))
+  pub new : size ≡ made + 1 → 0 < added made ops
+  pub sizes : (size ≡ made) ⊎ (size ≡ made + 1)
+
+module _ (finalised : List ℕ) (es : List Reference) (made size : ℕ) (ops : List Operation) (can : CanRun ops es) (adds : Adds finalised made size ops) (h : (o : ℕ) → Balances finalised es made o) where
+  some_added : (o : ℕ) → 0 < added o ops → Balances finalised (run ops es) size o
+  some_added o some =
+      let there = one_if (degree o (run ops es)) (omega (arith, some, degree-grown o ops es adds.nothing can)) in
+      elim (adds.live o some) [
+        | inl live ↦
+            let below : o < size = elim adds.sizes [ inl s ↦ omega (arith, live.1, s) | inr s ↦ omega (arith, live.1, s) ] in
+            omega (arith, there, live.0, made_one o size below)
+        | inr fresh ↦ omega (arith, there, h o, not_made o made (omega (arith, fresh.0)), made_one o size (omega (arith, fresh.0, fresh.1)))
+      ]
+
+  none_added : (o : ℕ) → added o ops ≡ 0 → Balances finalised (run ops es) size o
+  none_added o none =
+      let kept : degree o (run ops es) ≡ degree o es = omega (arith, none, degree-grown o ops es adds.nothing can) in
+      elim adds.sizes [
+        | inl same ↦ rw (kept, same) (h o)
+        | inr more ↦
+            let other : o ≡ made → ⊥ = λ e. omega (arith, adds.new more, none, ap (λ (n : ℕ). added n ops) e) in
+            rw (kept, more, made_more o made other) (h o)
+      ]
+
+  pub adds_balance : (o : ℕ) → Balances finalised (run ops es) size o
+  adds_balance o = elim (cases_lt 0 (added o ops)) [ inl some ↦ some_added o some | inr none ↦ none_added o (omega (arith, none)) ]
+
+-- ---- a step that cuts
 
 cuts_last : (o : ℕ) (finalised : List ℕ) (left : List Reference) (made : ℕ) (b : Bool) → (degree o left == 0) ≡ b → times o finalised ≡ 0 → o < made → Balances (cond b (o ∷ []) [] ++ finalised) left made o
 cuts_last o finalised left made true e live is =
@@ -115,57 +114,35 @@ times_other : (o q : ℕ) (b : Bool) (finalised : List ℕ) → (o ≡ q → ⊥
 times_other o q true finalised h = omega (arith, counted_no o q h)
 times_other o q false finalised h = refl
 
-cuts : (t v o : ℕ) (finalised : List ℕ) (es : List Reference) (made q : ℕ) → times o finalised ≡ 0 → o < made → Balances finalised es made q → Balances (finalised_at (Minus v) o (without (reference t v o) es) ++ finalised) (without (reference t v o) es) made q
-cuts t v o finalised es made q live is h =
-    let left = without (reference t v o) es in
+-- a cut of a reference to a live object
+pub cut_balance : (r : Reference) (finalised : List ℕ) (es : List Reference) (made q : ℕ) → times r.object finalised ≡ 0 → r.object < made → Balances finalised es made q → Balances (finals_of (Some r.object) (without r es) ++ finalised) (without r es) made q
+cut_balance r finalised es made q live is h =
+    let o = r.object in
+    let left = without r es in
     elim (eqb_tells o q) [
-      | inl same ↦ subst (λ (p : ℕ). Balances (finalised_at (Minus v) o left ++ finalised) left made p) same.1 (cuts_last o finalised left made (degree o left == 0) refl live is)
-      | inr other ↦ rw (times_other o q (degree o left == 0) finalised other.1, degree-without (reference t v o) es q other.1) h
+      | inl same ↦ subst (λ (p : ℕ). Balances (finals_of (Some o) left ++ finalised) left made p) same.1 (cuts_last o finalised left made (degree o left == 0) refl live is)
+      | inr other ↦ rw (times_other o q (degree o left == 0) finalised other.1, degree-without r es q other.1) h
     ]
 
--- a step keeps the balance of every object
-pub step_balances : (t : ℕ) (touch : Touch) (source : Source) (used : Option ℕ) (finalised : List ℕ) (es : List Reference) (made q : ℕ) → IsLiveIf finalised made used → Balances finalised es made q → NewBalances t touch source used finalised es made q
-step_balances t Nothing source used finalised es made q live h = stays finalised es made q h
-step_balances t (Binds v) nowhere used finalised es made q live h = stays finalised es made q h
-step_balances t (Binds v) (fresh ob) used finalised es made q live h = binds_fresh t v finalised es made q h
-step_balances t (Plus v) source None finalised es made q live h = stays finalised es made q h
-step_balances t (Plus v) source (Some o) finalised es made q live h = rw add-zero (adds t v o finalised es made q live.0 live.1 h)
-step_balances t (Minus v) source None finalised es made q live h = stays finalised es made q h
-step_balances t (Minus v) source (Some o) finalised es made q live h = rw add-zero (cuts t v o finalised es made q live.0 live.1 h)
+-- ---- a step of either kind
 
--- ---- legal journals are balanced
+-- a step that adds and moves references
+pub record Grows (st : State) (step : Step) : Type 0 where
+  pub cuts : step.cuts ≡ None
+  pub can : CanRun step.operations st.edges
+  pub adds : Adds st.finalised (length st.objects) (length step.objects) step.operations
 
--- how many objects a step leaves
-pub objects-length : (step : Step) (objects : List Object) → length (objects_after step objects) ≡ length objects + length (made_by step.touch step.deed.source)
-objects-length step objects =
-    length-append (changed_by step.used step.deed.change objects) (made_by step.touch step.deed.source)
-    ∙ ap (λ (n : ℕ). n + length (made_by step.touch step.deed.source)) (length-changed_by step.used step.deed.change objects)
+-- a step that cuts one reference, to a live object
+pub record Shrinks (st : State) (step : Step) : Type 0 where
+  pub reference : Reference
+  pub operations : step.operations ≡ cut reference ∷ []
+  pub cuts : step.cuts ≡ Some reference.object
+  pub size : length step.objects ≡ length st.objects
+  pub live : times reference.object st.finalised ≡ 0
+  pub made : reference.object < length st.objects
 
-live_parts : (st : State) (t o : ℕ) → MayUse st t o → (times o st.finalised ≡ 0) × (o < length st.objects)
-live_parts st t o h =
-    let p = and_parts (ltb o (length st.objects)) (eqb (times o st.finalised) 0) h.live in
-    (eqb-true (times o st.finalised) 0 p.1, ltb-true o (length st.objects) p.0)
+pub grows_balance : (st : State) (step : Step) → Grows st step → IsBalanced st → IsBalanced (state_after step st)
+grows_balance st step g h = λ o. rw g.cuts (adds_balance st.finalised st.edges (length st.objects) (length step.objects) step.operations g.can g.adds h o)
 
-live_if : (st : State) (t : ℕ) (used : List (Option ℕ)) → MayUseAll st t used → IsLiveIf st.finalised (length st.objects) (first_of used)
-live_if st t [] h = tt
-live_if st t (None ∷ os) h = tt
-live_if st t (Some o ∷ os) h = live_parts st t o h.0
-
-site_balances : (t : ℕ) (classes : List ClassLine) (st : State) (used : List (Option ℕ)) (statement : Option Statement) → MayUseAll st t used → IsBalanced st → IsBalanced (state_by t st (step_with classes st.objects used statement))
-site_balances t classes st used None u h = h
-site_balances t classes st used (Some s) u h = λ q.
-    rw (objects-length (step_of classes st.objects s used) st.objects)
-    (step_balances t (touch_of s) (deed_at classes st.objects s used).source (first_of used) st.finalised st.edges (length st.objects) q (live_if st t used u) (h q))
-
-pub entry_balances : (s : Script) (t : ℕ) (st : State) (site : Option Site) → MayUseAll st t (used_at site) → IsBalanced st → IsBalanced (state_by t st (step_at s st site))
-entry_balances s t st None u h = h
-entry_balances s t st (Some site) u h = site_balances t s.classes st site.used (statement_in s site.block site.number) u h
-
--- legal entries keep the balance
-pub legal_balances : (s : Script) (st : State) (es : List Entry) → IsLegalFrom s st es → IsBalanced st → IsBalanced (state_from s st es)
-legal_balances s st [] h b = b
-legal_balances s st (e ∷ es) h b = legal_balances s (effect s e.thread st e.action) es h.1 (entry_balances s e.thread st (site_of e.action) h.0.uses b)
-
--- each object is in balance after a legal journal
-pub balanced : (s : Script) (es : List Entry) → IsLegal s es → IsBalanced (After s es)
-balanced s es h = legal_balances s start es h (λ o. sym (not_made o 0 (omega arith)))
+pub shrinks_balance : (st : State) (step : Step) → Shrinks st step → IsBalanced st → IsBalanced (state_after step st)
+shrinks_balance st step c h = λ o. rw (c.cuts, c.operations, c.size) (cut_balance c.reference st.finalised st.edges (length st.objects) o c.live c.made (h o))

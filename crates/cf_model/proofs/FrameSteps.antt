@@ -8,11 +8,11 @@ use Rattle.cf_syntax.specs.declared.statement.Touch.{Touch}
 use Rattle.cf_syntax.specs.declared.statement.Touch.TheVariants.{Nothing, Binds, Plus, Minus}
 use Rattle.cf_syntax.specs.Forms.{touch_of}
 use Rattle.cf_ids.specs.declared.answer.Answer.{Answer}
-use Rattle.cf_model.specs.State.{State, Frame}
 use Rattle.cf_contents.specs.Deeds.{first_of}
+use Rattle.cf_model.specs.State.{State, Frame}
 use Rattle.cf_model.specs.Actions.{Site, site_of, action_of}
-use Rattle.cf_model.specs.Steps.{Step, step_of, step_with, step_at, step_for, statement_in}
-use Rattle.cf_model.specs.Journals.{used_objects, next_of, demanded}
+use Rattle.cf_model.specs.Steps.{Step, step_with, step_at, step_for, statement_step, done_step, statement_in}
+use Rattle.cf_model.specs.Journals.{used_objects, next_of, demanded, used_of}
 use Rattle.cf_model.specs.Finals.{final_if, final_of}
 
 -- the site of a statement's action is where it was made
@@ -24,17 +24,26 @@ site_of-action_of _ site = refl
 abbrev pub site_in : Frame → Statement → Site
 site_in f s = record { block = f.block; number = f.number; used = used_objects f.bindings s }
 
-abbrev pub frame_step : List ClassLine → State → Option Statement → Option Step
-frame_step classes st None = None
-frame_step classes st (Some s) = Some (step_of classes st.objects s (used_objects st.frame.bindings s))
+abbrev pub frame_step : List ClassLine → ℕ → State → Option Statement → Step
+frame_step classes t st None = done_step st
+frame_step classes t st (Some s) = statement_step classes t s (used_objects st.frame.bindings s) st
 
-demanded_by : (s : Script) (st : State) (o : Option Statement) → statement_in s st.frame.block st.frame.number ≡ o → step_for s st (next_of st.frame o) ≡ frame_step s.classes st o
-demanded_by s st None e = refl
-demanded_by s st (Some x) e =
-    ap (step_at s st) (site_of-action_of x (site_in st.frame x)) ∙ ap (step_with s.classes st.objects (used_objects st.frame.bindings x)) e
+step_for-action_of : (s : Script) (t : ℕ) (st : State) (x : Statement) (site : Site) → step_for s t st (action_of x site) ≡ step_at s t st (Some site)
+step_for-action_of s t st (forms.Release v) site = refl
+step_for-action_of s t st _ site = refl
 
-pub step_for-demanded : (s : Script) (st : State) → step_for s st (demanded s st.frame) ≡ frame_step s.classes st (statement_in s st.frame.block st.frame.number)
-step_for-demanded s st = demanded_by s st (statement_in s st.frame.block st.frame.number) refl
+demanded_by : (s : Script) (t : ℕ) (st : State) (o : Option Statement) → statement_in s st.frame.block st.frame.number ≡ o → step_for s t st (next_of st.frame o) ≡ frame_step s.classes t st o
+demanded_by s t st None e = refl
+demanded_by s t st (Some x) e =
+    step_for-action_of s t st x (site_in st.frame x) ∙ ap (step_with s.classes t st (used_objects st.frame.bindings x)) e
+
+pub step_for-demanded : (s : Script) (t : ℕ) (st : State) → step_for s t st (demanded s st.frame) ≡ frame_step s.classes t st (statement_in s st.frame.block st.frame.number)
+step_for-demanded s t st = demanded_by s t st (statement_in s st.frame.block st.frame.number) refl
+
+-- what a frame's next action uses
+pub used_of-action_of : (x : Statement) (site : Site) → used_of (action_of x site) ≡ site.used
+used_of-action_of (forms.Release v) site = refl
+used_of-action_of _ site = refl
 
 -- only a touch that takes a reference finalises
 abbrev pub final_at : Touch → Answer → Option ℕ → Option ℕ

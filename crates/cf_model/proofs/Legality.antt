@@ -1,33 +1,35 @@
--- What a statement of an owned script uses may be used, so that the demanded action is a legal entry; and
--- what its step is.
-use Rattle.std.proofs.Common.{◌≡◌, ℕ, zero, suc, ◌+◌, ◌-◌, ◌<◌, Bool, true, false, List, [], ◌∷◌, ◌++◌, length, take, map, replicate, Option, Some, None, eqb, ltb, refl, ap, ◌∙◌, arith}
+-- What a statement of an owned script uses may be used, and so may what is owed and what a slot gives up: each
+-- demanded action is a legal entry; and what its step is.
+use Rattle.std.proofs.Common.{◌≡◌, ℕ, zero, suc, ◌+◌, ◌-◌, ◌<◌, ◌≤◌, Bool, true, false, ◌&&◌, ◌||◌, List, [], ◌∷◌, ◌++◌, length, take, map, replicate, Option, Some, None, eqb, ltb, refl, ap, ◌∙◌, arith}
 use Rattle.std.specs.Prelude.{slice_get}
 use Rattle.std.proofs.lemmas.Bool.{and_parts, and_from, eqb-true, eq-eqb}
 use Rattle.std.proofs.lemmas.Bool.Decides.{nat_tests}
-use Rattle.cf_graph.specs.Edges.{Reference, same, weigh, one, counted, leading_to, from_thread}
+use Rattle.cf_graph.specs.Holders.{owner_of, is_thread}
+use Rattle.cf_graph.specs.Edges.{Reference, same, weigh, one, counted, leading_to}
+use Rattle.cf_graph.proofs.Same.{same-equal}
 use Rattle.cf_graph.proofs.Counts.{weigh-le}
 use Rattle.cf_syntax.specs.declared.script.Script.{Script}
-use Rattle.cf_syntax.specs.declared.script.ClassLine.{ClassLine}
-use Rattle.cf_contents.specs.Contents.{Object}
 use Rattle.cf_syntax.specs.declared.statement.Statement.{Statement}
+use Rattle.cf_syntax.specs.declared.statement.Statement.TheVariants as forms
 use Rattle.cf_syntax.specs.declared.statement.Touch.{Touch}
 use Rattle.cf_syntax.specs.declared.statement.Touch.TheVariants.{Nothing, Binds, Plus, Minus}
 use Rattle.cf_syntax.specs.Forms.{touch_of, touched, read_by, used_by}
 use Rattle.cf_syntax.specs.Owned.{bound, may_use, may_use_all, may_touch, is_fit, Owned}
-use Rattle.cf_model.specs.State.{State, Binding, look, times, degree, is_live}
-use Rattle.cf_contents.specs.Deeds.{deed_at}
-use Rattle.cf_model.specs.Actions.{action_of}
-use Rattle.cf_model.specs.Steps.{reference, found, target, step_for, state_by, state_after, done_after, step_of, step_answer, answer_by, effect, answer_to}
-use Rattle.cf_model.specs.Journals.{setup, object_at, used_objects, used_of, next_of, demanded, IsLegalEntry, MayUse, MayUseAll}
+use Rattle.cf_model.specs.State.{State, Binding, Work, release_of, slots_of, look, times, left_of, degree, is_live}
+use Rattle.cf_model.specs.Actions.{Site, action_of}
+use Rattle.cf_model.specs.Steps.{Step, reference, owed_reference, slot_reference, step_for, state_after, statement_step, done_step, step_answer, effect, answer_to}
+use Rattle.cf_model.specs.Journals.{setup, object_at, used_objects, used_of, named_of, next_of, demanded, is_named, reaching, IsLegalEntry, MayUse, MayUseAll}
 use Rattle.cf_ids.specs.declared.answer.Answer.TheVariants as answers
 use Rattle.cf_model.specs.declared.action.Action.{Action}
 use Rattle.cf_model.specs.declared.action.Action.TheVariants as actions
 use Rattle.cf_model.specs.declared.action.Entry.{Entry}
 use Rattle.cf_model.proofs.Balance.{IsBalanced}
-use Rattle.cf_model.proofs.FrameSteps.{frame_step, step_for-demanded, site_of-action_of, site_in}
-use Rattle.cf_model.proofs.Finality.{may_use_live}
+use Rattle.cf_model.proofs.FrameSteps.{frame_step, step_for-demanded, used_of-action_of, site_in}
+use Rattle.cf_model.proofs.Kept.{times_own}
+use Rattle.cf_model.proofs.Along.{live_parts}
 use Rattle.cf_model.proofs.Holding.{Holds, looked, may_use_parts}
-use Rattle.cf_model.proofs.Soundness.{fit_at, fit_parts, IsSound, none_leads, owned_blocks, one_leads, one_from, first_used, use_first, frame_statement}
+use Rattle.cf_model.proofs.Soundness.{fit_at, fit_parts, IsSound, none_leads, owned_blocks, one_leads, use_first, frame_statement}
+use Rattle.cf_model.proofs.Working.{owed_in}
 
 live_from : (st : State) (o : ℕ) → IsBalanced st → 0 < degree o st.edges → is_live st o ≡ true
 live_from st o b some =
@@ -42,69 +44,103 @@ live_from st o b some =
         live_test true m h = (refl, omega arith)
         live_test false m h = absurd (omega arith)
 
-may_use_one : (s : Script) (st : State) (v : ℕ) (o : ℕ) → IsSound s st → look v st.frame.bindings ≡ Some o → may_use (take st.frame.number (setup s)) v ≡ true → MayUse st 0 o
+-- a reference of the thread, or of the body that is named, reaches its object
+one_reaches : (named : Option ℕ) (r e : Reference) (b : Bool) → same r e ≡ b → (is_thread 0 (owner_of r.holder) || is_named named (owner_of r.holder)) ≡ true → counted b ≤ reaching 0 named r.object e
+one_reaches named r e true t h =
+    let whole : reaching 0 named r.object r ≡ 1 = rw h (ap (λ (c : Bool). counted (c && true)) (eq-eqb r.object r.object refl)) in
+    omega (arith, whole, ap (λ (x : Reference). reaching 0 named r.object x) (same-equal r e t))
+one_reaches named r e false t h = omega arith
+
+-- what a reference of theirs leads to may be used
+may_use_by : (s : Script) (st : State) (named : Option ℕ) (r : Reference) → IsSound s st → (is_thread 0 (owner_of r.holder) || is_named named (owner_of r.holder)) ≡ true → 0 < weigh (one r) st.edges → MayUse st 0 named r.object
+may_use_by s st named r h from here =
+    let reaches = weigh-le (one r) (reaching 0 named r.object) st.edges (λ e. one_reaches named r e (same r e) refl from) in
+    let leads = weigh-le (one r) (leading_to r.object) st.edges (λ e. one_leads r e (same r e) refl) in
+    record { live = live_from st r.object h.kept.balance (omega (arith, here, leads)); edge = omega (arith, here, reaches) }
+
+may_use_one : (s : Script) (st : State) (v : ℕ) (o : ℕ) → IsSound s st → look v st.frame.bindings ≡ Some o → may_use (take st.frame.number (setup s)) v ≡ true → MayUse st 0 None o
 may_use_one s st v o h is used =
     let p = may_use_parts (take st.frame.number (setup s)) v used in
-    let here : 0 < weigh (one (reference 0 v o)) st.edges = omega (arith, h.holds.held v o is, p.1) in
-    let from = weigh-le (one (reference 0 v o)) (from_thread 0 o) st.edges (λ e. one_from v o e (same (reference 0 v o) e) refl) in
-    let leads = weigh-le (one (reference 0 v o)) (leading_to o) st.edges (λ e. one_leads (reference 0 v o) e (same (reference 0 v o) e) refl) in
-    record { live = live_from st o h.balance (omega (arith, here, leads)); edge = omega (arith, here, from) }
+    may_use_by s st None (reference 0 v o) h refl (omega (arith, h.holds.held v o is, p.1))
 
-no_objects : (st : State) (bs : List Binding) (k : ℕ) → MayUseAll st 0 (map (object_at bs) (replicate k None))
+no_objects : (st : State) (bs : List Binding) (k : ℕ) → MayUseAll st 0 None (map (object_at bs) (replicate k None))
 no_objects st bs zero = tt
 no_objects st bs (suc k) = no_objects st bs k
 
-use_object : (s : Script) (st : State) (v : ℕ) (object : Option ℕ) (os : List (Option ℕ)) → IsSound s st → look v st.frame.bindings ≡ object → may_use (take st.frame.number (setup s)) v ≡ true → MayUseAll st 0 os → MayUseAll st 0 (object ∷ os)
+use_object : (s : Script) (st : State) (v : ℕ) (object : Option ℕ) (os : List (Option ℕ)) → IsSound s st → look v st.frame.bindings ≡ object → may_use (take st.frame.number (setup s)) v ≡ true → MayUseAll st 0 None os → MayUseAll st 0 None (object ∷ os)
 use_object s st v None os h is used rest = rest
 use_object s st v (Some o) os h is used rest = (may_use_one s st v o h is used, rest)
 
-use_objects : (s : Script) (st : State) (vs : List ℕ) (k : ℕ) → IsSound s st → may_use_all (take st.frame.number (setup s)) vs ≡ true → MayUseAll st 0 (map (object_at st.frame.bindings) (map Some vs ++ replicate k None))
+use_objects : (s : Script) (st : State) (vs : List ℕ) (k : ℕ) → IsSound s st → may_use_all (take st.frame.number (setup s)) vs ≡ true → MayUseAll st 0 None (map (object_at st.frame.bindings) (map Some vs ++ replicate k None))
 use_objects s st [] k h used = no_objects st st.frame.bindings k
 use_objects s st (v ∷ vs) k h used =
     let earlier = take st.frame.number (setup s) in
     let p = and_parts (may_use earlier v) (may_use_all earlier vs) used in
     use_object s st v (look v st.frame.bindings) (map (object_at st.frame.bindings) (map Some vs ++ replicate k None)) h refl p.0 (use_objects s st vs k h p.1)
 
-uses_by : (s : Script) (st : State) (o : Option Statement) → Owned s → IsSound s st → slice_get (setup s) st.frame.number ≡ o → MayUseAll st 0 (used_of (next_of st.frame o))
+named_of-action_of : (x : Statement) (site : Site) → named_of (action_of x site) ≡ None
+named_of-action_of (forms.Release v) site = refl
+named_of-action_of _ site = refl
+
+uses_by : (s : Script) (st : State) (o : Option Statement) → Owned s → IsSound s st → slice_get (setup s) st.frame.number ≡ o → MayUseAll st 0 (named_of (next_of st.frame o)) (used_of (next_of st.frame o))
 uses_by s st None own h e = tt
 uses_by s st (Some x) own h e =
     let earlier = take st.frame.number (setup s) in
     let fit : is_fit earlier x ≡ true = fit_at [] (setup s) st.frame.number x (owned_blocks s.blocks own) e in
     let parts = fit_parts earlier x fit in
-    rw (site_of-action_of x (site_in st.frame x)) (use_objects s st (used_by x) (3 - length (used_by x)) h parts.1)
+    rw (used_of-action_of x (site_in st.frame x), named_of-action_of x (site_in st.frame x)) (use_objects s st (used_by x) (3 - length (used_by x)) h parts.1)
 
--- the demanded action, with the answer that the state gives, is a legal entry
-pub legal_demanded : (s : Script) (st : State) (e : Entry) → Owned s → IsSound s st → st.frame.is_done ≡ false → e.thread ≡ 0 → e.action ≡ demanded s st.frame → e.answer ≡ answer_to s 0 st e.action → length st.objects < 65536 → IsLegalEntry s st e
-legal_demanded s st e own h going thread action answer room = record {
-  next = rw (thread, going, action) refl;
+-- the demanded action, where there is no work before it, with the answer that the state gives, is a legal entry
+pub legal_demanded : (s : Script) (st : State) (e : Entry) → Owned s → IsSound s st → st.frame.is_done ≡ false → st.frame.work ≡ [] → e.thread ≡ 0 → e.action ≡ demanded s st.frame → e.answer ≡ answer_to s 0 st e.action → length st.objects < 65536 → IsLegalEntry s st e
+legal_demanded s st e own h going idle thread action answer room = record {
+  next = rw (thread, going, idle, action) refl;
   uses = rw (thread, action, frame_statement s st h) (uses_by s st (slice_get (setup s) st.frame.number) own h refl);
   answer = rw thread answer;
   room = λ _. room;
 }
 
+-- and so is an owed release
+pub legal_owed : (s : Script) (st : State) (e : Entry) (o : ℕ) (rest : List Work) → IsSound s st → st.frame.is_done ≡ false → st.frame.work ≡ release_of o ∷ rest → e.thread ≡ 0 → e.action ≡ actions.Owed o → e.answer ≡ answer_to s 0 st e.action → IsLegalEntry s st e
+legal_owed s st e o rest h going work thread action answer =
+    let here : weigh (one (owed_reference 0 o)) st.edges ≡ owed_in o (release_of o ∷ rest) = h.worked.owed o ∙ ap (owed_in o) work in
+    record {
+      next = rw (thread, going, work, action) refl;
+      uses = rw (thread, action) (may_use_by s st None (owed_reference 0 o) h refl (omega (arith, here, times_own o [])), tt);
+      answer = rw thread answer;
+      room = λ makes. let never : ◌≡◌ {A = Bool} false true = rw action at makes in absurd cc;
+    }
+
+-- and a slot that a finalised body has left
+pub legal_drop : (s : Script) (st : State) (e : Entry) (b o : ℕ) (rest : List Work) (os : List ℕ) → IsSound s st → st.frame.is_done ≡ false → st.frame.work ≡ slots_of b ∷ rest → left_of st.objects st.dropped b ≡ o ∷ os → e.thread ≡ 0 → e.action ≡ actions.DropSlot b (times b st.dropped) o → e.answer ≡ answer_to s 0 st e.action → IsLegalEntry s st e
+legal_drop s st e b o rest os h going work left thread action answer =
+    let here : weigh (one (slot_reference b o)) st.edges ≡ times o (o ∷ os) = h.kept.slots b o ∙ ap (times o) left in
+    record {
+      next = rw (thread, going, work, left, action) refl;
+      uses = rw (thread, action) (may_use_by s st (Some b) (slot_reference b o) h (eq-eqb b b refl) (omega (arith, here, times_own o os)), tt);
+      answer = rw thread answer;
+      room = λ makes. let never : ◌≡◌ {A = Bool} false true = rw action at makes in absurd cc;
+    }
+
 -- ---- what a step of a legal journal is
 
--- the effect of the demanded action is the step of setup's next statement
-pub effect-demanded : (s : Script) (st : State) (x : Statement) (t : ℕ) (a : Action) → IsSound s st → slice_get (setup s) st.frame.number ≡ Some x → t ≡ 0 → a ≡ demanded s st.frame → effect s t st a ≡ state_after 0 (step_of s.classes st.objects x (used_objects st.frame.bindings x)) st
+-- the step of the demanded action is that of setup's next statement
+pub step-demanded : (s : Script) (st : State) (o : Option Statement) (a : Action) → IsSound s st → slice_get (setup s) st.frame.number ≡ o → a ≡ demanded s st.frame → step_for s 0 st a ≡ frame_step s.classes 0 st o
+step-demanded s st o a h e action =
+    ap (step_for s 0 st) action ∙ step_for-demanded s 0 st ∙ ap (frame_step s.classes 0 st) (frame_statement s st h ∙ e)
+
+pub effect-demanded : (s : Script) (st : State) (x : Statement) (t : ℕ) (a : Action) → IsSound s st → slice_get (setup s) st.frame.number ≡ Some x → t ≡ 0 → a ≡ demanded s st.frame → effect s t st a ≡ state_after (statement_step s.classes 0 x (used_objects st.frame.bindings x) st) st
 effect-demanded s st x t a h e thread action =
-    let step : step_for s st a ≡ frame_step s.classes st (Some x) = ap (step_for s st) action ∙ step_for-demanded s st ∙ ap (frame_step s.classes st) (frame_statement s st h ∙ e) in
-    ap (λ (u : ℕ). state_by u st (step_for s st a)) thread ∙ ap (state_by 0 st) step
+    ap (λ (u : ℕ). effect s u st a) thread ∙ ap (λ (step : Step). state_after step st) (step-demanded s st (Some x) a h e action)
 
-pub effect-done : (s : Script) (st : State) (t : ℕ) (a : Action) → IsSound s st → slice_get (setup s) st.frame.number ≡ None → a ≡ demanded s st.frame → effect s t st a ≡ done_after st
-effect-done s st t a h e action =
-    ap (state_by t st) (ap (step_for s st) action ∙ step_for-demanded s st ∙ ap (frame_step s.classes st) (frame_statement s st h ∙ e))
+pub effect-done : (s : Script) (st : State) (t : ℕ) (a : Action) → IsSound s st → slice_get (setup s) st.frame.number ≡ None → t ≡ 0 → a ≡ demanded s st.frame → effect s t st a ≡ state_after (done_step st) st
+effect-done s st t a h e thread action =
+    ap (λ (u : ℕ). effect s u st a) thread ∙ ap (λ (step : Step). state_after step st) (step-demanded s st None a h e action)
 
-pub answer-demanded : (s : Script) (st : State) (x : Statement) (a : Action) → IsSound s st → slice_get (setup s) st.frame.number ≡ Some x → a ≡ demanded s st.frame → answer_to s 0 st a ≡ step_answer 0 (step_of s.classes st.objects x (used_objects st.frame.bindings x)) st
-answer-demanded s st x a h e action =
-    ap (answer_by 0 st) (ap (step_for s st) action ∙ step_for-demanded s st ∙ ap (frame_step s.classes st) (frame_statement s st h ∙ e))
+pub answer-demanded : (s : Script) (st : State) (x : Statement) (a : Action) → IsSound s st → slice_get (setup s) st.frame.number ≡ Some x → a ≡ demanded s st.frame → answer_to s 0 st a ≡ step_answer (statement_step s.classes 0 x (used_objects st.frame.bindings x) st) st
+answer-demanded s st x a h e action = ap (λ (step : Step). step_answer step st) (step-demanded s st (Some x) a h e action)
 
 pub answer-done : (s : Script) (st : State) (a : Action) → IsSound s st → slice_get (setup s) st.frame.number ≡ None → a ≡ demanded s st.frame → answer_to s 0 st a ≡ answers.Ok
-answer-done s st a h e action =
-    ap (answer_by 0 st) (ap (step_for s st) action ∙ step_for-demanded s st ∙ ap (frame_step s.classes st) (frame_statement s st h ∙ e))
-
--- the object that a step touches is the one of the variable that it touches
-pub step_object : (classes : List ClassLine) (objects : List Object) (x : Statement) (bs : List Binding) → (step_of classes objects x (used_objects bs x)).object ≡ target (touch_of x) (found (length objects) (deed_at classes objects x (used_objects bs x)).source) (looked (touch_of x) bs)
-step_object classes objects x bs = first_used (touch_of x) (read_by x) (found (length objects) (deed_at classes objects x (used_objects bs x)).source) bs
+answer-done s st a h e action = ap (λ (step : Step). step_answer step st) (step-demanded s st None a h e action)
 
 -- the demanded action of a statement
 pub demanded-statement : (s : Script) (st : State) (x : Statement) → IsSound s st → slice_get (setup s) st.frame.number ≡ Some x → demanded s st.frame ≡ action_of x (record { block = 0; number = st.frame.number; used = used_objects st.frame.bindings x })
@@ -132,8 +168,9 @@ there_from : (s : Script) (st : State) (v o : ℕ) → IsSound s st → look v s
 there_from s st v o h is used =
     let p = may_use_parts (take st.frame.number (setup s)) v used in
     let here : 0 < weigh (one (reference 0 v o)) st.edges = omega (arith, h.holds.held v o is, p.1) in
-    let m = may_use_live st 0 o (may_use_one s st v o h is used) in
-    record { reference = here; made = m.1; degree = m.2 }
+    let may = may_use_one s st v o h is used in
+    let leads = weigh-le (one (reference 0 v o)) (leading_to o) st.edges (λ e. one_leads (reference 0 v o) e (same (reference 0 v o) e) refl) in
+    record { reference = here; made = (live_parts st 0 None o may).1; degree = omega (arith, here, leads) }
 
 touched_if : (s : Script) (st : State) (v : ℕ) (object : Option ℕ) → IsSound s st → look v st.frame.bindings ≡ object → may_use (take st.frame.number (setup s)) v ≡ true → TouchesThere st (Minus v) object × TouchesThere st (Plus v) object
 touched_if s st v None h is used = (tt, tt)

@@ -1,7 +1,13 @@
 pub mod Growth
 pub mod Balance
+pub mod Slots
+pub mod Demands
 pub mod FrameSteps
+pub mod Kept
+pub mod Keeping
+pub mod Along
 pub mod Finality
 pub mod Holding
+pub mod Working
 pub mod Soundness
 pub mod Legality

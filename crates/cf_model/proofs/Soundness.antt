@@ -1,10 +1,12 @@
--- Along the legal journals of an owned script each variable holds what it owns, and each object is in
--- balance.
-use Rattle.std.proofs.Common.{◌≡◌, ℕ, zero, suc, ◌+◌, ◌≤◌, Bool, true, false, ◌&&◌, List, [], ◌∷◌, ◌++◌, length, take, map, Option, Some, None, ltb, refl, ap, ◌∙◌, arith, append_assoc, append-nil}
+-- Along the legal journals of an owned script all is kept, each variable holds what it owns, and work is in order.
+use Rattle.std.proofs.Common.{◌≡◌, ℕ, zero, suc, ◌+◌, ◌<◌, ◌≤◌, Bool, true, false, ◌&&◌, List, [], ◌∷◌, ◌++◌, length, take, map, Option, Some, None, ltb, refl, sym, ap, ◌∙◌, subst, arith, append_assoc, append-nil}
 use Rattle.std.specs.Prelude.{slice_get}
 use Rattle.std.proofs.lemmas.Bool.{and_parts, and_from, eq-eqb}
 use Rattle.std.proofs.lemmas.Bool.Decides.{nat_tests}
+use Rattle.cf_ids.specs.declared.answer.Answer.{Answer}
+use Rattle.cf_graph.specs.Holders.{Holder, variable, owed, slot, code_of}
 use Rattle.cf_graph.specs.Edges.{Reference, same, weigh, one, counted, leading_to, from_thread}
+use Rattle.cf_graph.specs.Operations.{run, without, CanRun}
 use Rattle.cf_graph.proofs.Same.{same-equal}
 use Rattle.cf_graph.proofs.Counts.{weigh-le}
 use Rattle.cf_syntax.specs.declared.script.Script.{Script}
@@ -14,16 +16,25 @@ use Rattle.cf_syntax.specs.declared.statement.Touch.{Touch}
 use Rattle.cf_syntax.specs.declared.statement.Touch.TheVariants.{Nothing, Binds, Plus, Minus}
 use Rattle.cf_syntax.specs.Forms.{touch_of, touched, read_by, used_by, is_known, padded}
 use Rattle.cf_syntax.specs.Owned.{may_use, may_use_all, may_touch, is_fit, are_fit, blocks_fit, Owned}
-use Rattle.cf_model.specs.State.{State, Binding, start, times, degree}
-use Rattle.cf_contents.specs.Deeds.{first_of, deed_at}
-use Rattle.cf_model.specs.Actions.{site_of}
-use Rattle.cf_model.specs.Steps.{reference, found, target, statement_of, statement_in, step_for, state_by, effect}
-use Rattle.cf_model.specs.Journals.{statements_in, setup, object_at, used_objects, state_from, After, IsLegalEntry, IsLegalFrom, IsLegal}
+use Rattle.cf_contents.specs.Contents.{Object, times}
+use Rattle.cf_contents.specs.Deeds.{Source, Change, first_of, second_of, object_of, deed_at, resolved, taken_in, given_out}
+use Rattle.cf_contents.proofs.SlotLaws.{MakesEmpty, LeavesEmpty, FindsEmpty, leaves-resolved, finds-resolved}
+use Rattle.cf_contents.proofs.FormLaws.{form_keeps}
+use Rattle.cf_model.specs.declared.action.Action.{Action}
 use Rattle.cf_model.specs.declared.action.Entry.{Entry}
-use Rattle.cf_model.proofs.Balance.{IsBalanced, balanced, entry_balances}
-use Rattle.cf_model.proofs.FrameSteps.{frame_step, step_for-demanded}
-use Rattle.cf_model.proofs.Finality.{legal_is_demanded}
+use Rattle.cf_model.specs.State.{State, Binding, start, degree}
+use Rattle.cf_model.specs.Actions.{action_of}
+use Rattle.cf_model.specs.Steps.{Step, reference, owed_reference, slot_reference, found, target, operations_of, bindings_by, change_operations, touch_step, statement_step, done_step, owed_step, drop_step, statement_of, statement_in, step_for, state_after, effect}
+use Rattle.cf_model.specs.Journals.{statements_in, setup, object_at, used_objects, used_of, named_of, next_of, MayUseAll, state_from, After, IsLegalEntry, IsLegalFrom, IsLegal}
+use Rattle.cf_model.proofs.Balance.{IsBalanced}
+use Rattle.cf_model.proofs.Demands.{Demand, of_frame, of_owed, of_slot, legal_is_demanded}
+use Rattle.cf_model.proofs.FrameSteps.{frame_step, site_in, step_for-demanded, used_of-action_of}
+use Rattle.cf_model.proofs.Slots.{operations_in, one_apart, other_weigh, weigh-without-other, weigh-change}
+use Rattle.cf_model.proofs.Kept.{IsKept, kept_after}
+use Rattle.cf_model.proofs.Keeping.{IsLive, IsLiveIf, change_can, done_kept}
+use Rattle.cf_model.proofs.Along.{live_if, taken_live, statement_kept, action_kept, start_kept}
 use Rattle.cf_model.proofs.Holding.{Holds, looked, touch_holds}
+use Rattle.cf_model.proofs.Working.{IsWorked, WorksStep, worked_after, reference_works, change_works, done_works, owed_works, drop_works}
 
 pub take_next : (xs : List Statement) (n : ℕ) (x : Statement) → slice_get xs n ≡ Some x → take (n + 1) xs ≡ take n xs ++ x ∷ []
 take_next [] n x e = absurd cc
@@ -51,17 +62,41 @@ fit_parts earlier x h =
     let p = and_parts (may_touch earlier (touch_of x) && may_use_all earlier (used_by x)) (is_known x) h in
     and_parts (may_touch earlier (touch_of x)) (may_use_all earlier (used_by x)) p.0
 
+-- ---- references of variables
+
+kind_of : Reference → ℕ
+kind_of r = (code_of r.holder).kind
+
+variable_of_owed : (v o p : ℕ) → one (reference 0 v o) (owed_reference 0 p) ≡ 0
+unfolding kind_of
+variable_of_owed v o p = one_apart (reference 0 v o) (owed_reference 0 p) (λ q. let n : 0 ≡ 1 = ap kind_of q in absurd (omega arith))
+
+variable_of_slot : (v o b p : ℕ) → one (reference 0 v o) (slot_reference b p) ≡ 0
+unfolding kind_of
+variable_of_slot v o b p = one_apart (reference 0 v o) (slot_reference b p) (λ q. let n : 0 ≡ 2 = ap kind_of q in absurd (omega arith))
+
+variable_by_owed : (v : ℕ) → variable 0 v ≡ owed 0 → ⊥
+variable_by_owed v q = absurd (let n : ◌≡◌ {A = ℕ} 0 1 = ap (λ (k : Holder). (code_of k).kind) q in omega (arith, n))
+
+variable_by_slot : (v b : ℕ) → variable 0 v ≡ slot b → ⊥
+variable_by_slot v b q = absurd (let n : ◌≡◌ {A = ℕ} 0 2 = ap (λ (k : Holder). (code_of k).kind) q in omega (arith, n))
+
+-- what variables hold stays where their references do
+holds_same : (earlier : List Statement) (bs : List Binding) (es fs : List Reference) → ((v o : ℕ) → weigh (one (reference 0 v o)) fs ≡ weigh (one (reference 0 v o)) es) → Holds earlier bs es → Holds earlier bs fs
+holds_same earlier bs es fs same h = record { held = λ v o e. omega (arith, same v o, h.held v o e); unbound = h.unbound }
+
 -- ---- along a journal
 
 pub none_leads : (made m n : ℕ) → m + counted (ltb 0 n) ≡ counted (ltb made made) → n ≡ 0
 none_leads made m zero h = refl
 none_leads made m (suc n) h = absurd (let no : counted (ltb made made) ≡ 0 = grind (arith, nat_tests) in let yes : counted (ltb 0 (suc n)) ≡ 1 = grind (arith, nat_tests) in omega arith)
 
--- what a state has of an owned script: setup's frame, whose variables hold what they own, and balance
+-- what a state has of an owned script: setup's frame, whose variables hold what they own, and what journals keep
 pub record IsSound (s : Script) (st : State) : Type 0 where
   pub block : st.frame.block ≡ 0
   pub holds : Holds (take st.frame.number (setup s)) st.frame.bindings st.edges
-  pub balance : IsBalanced st
+  pub kept : IsKept st
+  pub worked : IsWorked st
 
 pub owned_blocks : (bs : List Block) → blocks_fit bs ≡ true → are_fit [] (statements_in (slice_get bs 0)) ≡ true
 owned_blocks [] h = refl
@@ -80,13 +115,6 @@ one_from v o e true t =
     omega (arith, ap (λ (x : Reference). from_thread 0 o x) (same-equal (reference 0 v o) e t), ap (λ (c : Bool). counted (c && true)) (eq-eqb o o refl))
 one_from v o e false t = omega arith
 
-none_to_new : (st : State) (v : ℕ) → IsBalanced st → weigh (one (reference 0 v (length st.objects))) st.edges ≡ 0
-none_to_new st v b =
-    let made = length st.objects in
-    let le = weigh-le (one (reference 0 v made)) (leading_to made) st.edges (λ e. one_leads (reference 0 v made) e (same (reference 0 v made) e) refl) in
-    let none : degree made st.edges ≡ 0 = none_leads made (times made st.finalised) (degree made st.edges) (b made) in
-    omega (arith, le, none)
-
 pub first_used : (touch : Touch) (read : List ℕ) (f : Option ℕ) (bs : List Binding) → target touch f (first_of (map (object_at bs) (padded (touched touch ++ read)))) ≡ target touch f (looked touch bs)
 first_used Nothing read f bs = refl
 first_used (Binds v) read f bs = refl
@@ -99,34 +127,122 @@ use_first earlier (v ∷ vs) ws h =
     let p = and_parts (may_use earlier v) (may_use_all earlier (vs ++ ws)) h in
     and_from (may_use earlier v) (may_use_all earlier vs) p.0 (use_first earlier vs ws p.1)
 
-statement_sound : (s : Script) (st : State) (x : Statement) → Owned s → IsSound s st → slice_get (setup s) st.frame.number ≡ Some x → IsBalanced (state_by 0 st (frame_step s.classes st (Some x))) → IsSound s (state_by 0 st (frame_step s.classes st (Some x)))
-statement_sound s st x own h e balance =
-    let earlier = take st.frame.number (setup s) in
-    let fit : is_fit earlier x ≡ true = fit_at [] (setup s) st.frame.number x (owned_blocks s.blocks own) e in
-    let parts = fit_parts earlier x fit in
+none_to_new : (st : State) (v : ℕ) → IsBalanced st → weigh (one (reference 0 v (length st.objects))) st.edges ≡ 0
+none_to_new st v b =
     let made = length st.objects in
-    let source = (deed_at s.classes st.objects x (used_objects st.frame.bindings x)).source in
-    let after = touch_holds x earlier st.frame.bindings st.edges h.holds (touch_of x) source made refl parts.0 (use_first earlier (touched (touch_of x)) (read_by x) parts.1) (λ v. none_to_new st v h.balance) in
-    record {
-      block = h.block;
-      holds = rw (take_next (setup s) st.frame.number x e, first_used (touch_of x) (read_by x) (found made source) st.frame.bindings) after;
-      balance = balance;
-    }
-
-option_sound : (s : Script) (st : State) (o : Option Statement) → Owned s → IsSound s st → slice_get (setup s) st.frame.number ≡ o → IsBalanced (state_by 0 st (frame_step s.classes st o)) → IsSound s (state_by 0 st (frame_step s.classes st o))
-option_sound s st None own h e balance = record { block = h.block; holds = h.holds; balance = balance }
-option_sound s st (Some x) own h e balance = statement_sound s st x own h e balance
+    let le = weigh-le (one (reference 0 v made)) (leading_to made) st.edges (λ e. one_leads (reference 0 v made) e (same (reference 0 v made) e) refl) in
+    let none : degree made st.edges ≡ 0 = none_leads made (Rattle.cf_contents.specs.Contents.times made st.finalised) (degree made st.edges) (b made) in
+    omega (arith, le, none)
 
 pub frame_statement : (s : Script) (st : State) → IsSound s st → statement_in s st.frame.block st.frame.number ≡ slice_get (setup s) st.frame.number
 frame_statement s st h = ap (λ (b : ℕ). statement_in s b st.frame.number) h.block ∙ setup_statement s.blocks st.frame.number
 
+-- a change leaves variables what they hold
+change_same : (used : Option ℕ) (change : Change) (st : State) → ((b : ℕ) → used ≡ Some b → CanRun (operations_in 0 b (slice_get st.objects b) change) st.edges) → (v o : ℕ) → weigh (one (reference 0 v o)) (run (change_operations 0 used (object_of st.objects used) change) st.edges) ≡ weigh (one (reference 0 v o)) st.edges
+change_same None change st can v o = refl
+change_same (Some b) change st can v o =
+    let ts = taken_in (slice_get st.objects b) change in
+    let gs = given_out (slice_get st.objects b) change in
+    omega (arith, weigh-change (one (reference 0 v o)) 0 b ts gs st.edges (can b refl), other_weigh (reference 0 v o) (slot b) gs (variable_by_slot v b), other_weigh (reference 0 v o) (slot b) ts (variable_by_slot v b), other_weigh (reference 0 v o) (owed 0) gs (variable_by_owed v))
+
+-- the operations of a change can be done
+can_used : (used : Option ℕ) (change : Change) (st : State) → IsKept st → LeavesEmpty change → FindsEmpty (object_of st.objects used) change → IsLiveIf st used → ((o : ℕ) → 0 < times o (taken_in (object_of st.objects used) change) → IsLive st o) → (b : ℕ) → used ≡ Some b → CanRun (operations_in 0 b (slice_get st.objects b) change) st.edges
+can_used None change st h leaves finds live enters b e = absurd cc
+can_used (Some c) change st h leaves finds live enters b e =
+    subst (λ (d : ℕ). CanRun (operations_in 0 d (slice_get st.objects d) change) st.edges) (object_eq c b e) (change_can 0 c Rattle.cf_ids.specs.declared.answer.Answer.TheVariants.Ok change st h leaves finds live enters)
+  where
+    object_eq : (c b : ℕ) → ◌≡◌ {A = Option ℕ} (Some c) (Some b) → c ≡ b
+    object_eq c b e = cc
+
+live_used : (st : State) (used : Option ℕ) (b : ℕ) → IsLiveIf st used → used ≡ Some b → times b st.finalised ≡ 0
+live_used st None b live e = absurd cc
+live_used st (Some c) b live e =
+    let is : c ≡ b = cc in
+    subst (λ (d : ℕ). times d st.finalised ≡ 0) is live.0
+
+-- a touch's step keeps what variables hold, and its work is in order
+touch_sound : (touch : Touch) (answer : Answer) (source : Source) (used : Option ℕ) (change : Change) (st : State) (later : List Statement) → let step = touch_step 0 touch answer source used change st in let object = target touch (found (length st.objects) source) used in IsWorked st → MakesEmpty source → ((b : ℕ) → used ≡ Some b → times b st.finalised ≡ 0) → ((b : ℕ) → used ≡ Some b → CanRun (operations_in 0 b (slice_get st.objects b) change) st.edges) → Holds later (bindings_by touch object ++ st.frame.bindings) (run (operations_of 0 touch object) st.edges) → Holds later (step.bindings ++ st.frame.bindings) (run step.operations st.edges) × WorksStep st step
+touch_sound Nothing answer source used change st later w makes live can h =
+    (holds_same later st.frame.bindings st.edges (run (change_operations 0 used (object_of st.objects used) change) st.edges) (change_same used change st can) h, change_works answer used change st w live can)
+touch_sound (Binds v) answer source used change st later w makes live can h = (h, reference_works 0 (Binds v) answer source used st w makes)
+touch_sound (Plus v) answer source used change st later w makes live can h = (h, reference_works 0 (Plus v) answer source used st w makes)
+touch_sound (Minus v) answer source used change st later w makes live can h = (h, reference_works 0 (Minus v) answer source used st w makes)
+
+-- the frame goes on by one statement
+step_number : (touch : Touch) (answer : Answer) (source : Source) (used : Option ℕ) (change : Change) (st : State) → (touch_step 0 touch answer source used change st).number ≡ st.frame.number + 1
+step_number Nothing answer source used change st = refl
+step_number (Binds v) answer source used change st = refl
+step_number (Plus v) answer source used change st = refl
+step_number (Minus v) answer source used change st = refl
+
+statement_sound : (s : Script) (st : State) (x : Statement) (body : Option ℕ) → Owned s → IsSound s st → slice_get (setup s) st.frame.number ≡ Some x → MayUseAll st 0 body (used_objects st.frame.bindings x) → IsSound s (state_after (statement_step s.classes 0 x (used_objects st.frame.bindings x) st) st)
+statement_sound s st x body own h e uses =
+    let used = used_objects st.frame.bindings x in
+    let step = statement_step s.classes 0 x used st in
+    let deed = deed_at s.classes st.objects x used in
+    let change = resolved used deed.change in
+    let a = object_of st.objects (first_of used) in
+    let form = form_keeps s.classes x a (object_of st.objects (second_of used)) in
+    let leaves = leaves-resolved used deed.change form.plain.leaves in
+    let finds = finds-resolved used deed.change a form.finds in
+    let live = live_if st 0 body used uses in
+    let enters = λ (o : ℕ) (some : 0 < times o (taken_in a change)). taken_live st 0 body used uses o a deed.change some in
+    let earlier = take st.frame.number (setup s) in
+    let fit : is_fit earlier x ≡ true = fit_at [] (setup s) st.frame.number x (owned_blocks s.blocks own) e in
+    let parts = fit_parts earlier x fit in
+    let made = length st.objects in
+    let holds = touch_holds x earlier st.frame.bindings st.edges h.holds (touch_of x) deed.source made refl parts.0 (use_first earlier (touched (touch_of x)) (read_by x) parts.1) (λ v. none_to_new st v h.kept.balance) in
+    let object = first_used (touch_of x) (read_by x) (found made deed.source) st.frame.bindings in
+    let both = touch_sound (touch_of x) deed.answer deed.source (first_of used) change st (earlier ++ x ∷ []) h.worked form.plain.makes (λ b q. live_used st (first_of used) b live q) (can_used (first_of used) change st h.kept leaves finds live enters) (rw object holds) in
+    record {
+      block = h.block;
+      holds = rw (step_number (touch_of x) deed.answer deed.source (first_of used) change st, take_next (setup s) st.frame.number x e) both.0;
+      kept = kept_after st step h.kept (statement_kept s.classes 0 body x used st h.kept uses);
+      worked = worked_after st step both.1;
+    }
+
+-- the step of each demanded action
+frame_sound : (s : Script) (st : State) (o : Option Statement) → Owned s → IsSound s st → slice_get (setup s) st.frame.number ≡ o → MayUseAll st 0 (named_of (next_of st.frame o)) (used_of (next_of st.frame o)) → IsSound s (state_after (frame_step s.classes 0 st o) st)
+frame_sound s st None own h e uses = record {
+  block = h.block;
+  holds = h.holds;
+  kept = kept_after st (done_step st) h.kept (done_kept st h.kept);
+  worked = worked_after st (done_step st) (done_works st h.worked);
+}
+frame_sound s st (Some x) own h e uses =
+    let site = site_in st.frame x in
+    statement_sound s st x (named_of (action_of x site)) own h e (subst (MayUseAll st 0 (named_of (action_of x site))) (used_of-action_of x site) uses)
+
+action_sound : (s : Script) (st : State) (a : Action) → Owned s → IsSound s st → Demand s st st.frame.work a → MayUseAll st 0 (named_of a) (used_of a) → IsSound s (effect s 0 st a)
+action_sound s st a own h (of_frame w e) uses =
+    let o = slice_get (setup s) st.frame.number in
+    let next : a ≡ next_of st.frame o = e ∙ ap (next_of st.frame) (frame_statement s st h) in
+    let step : step_for s 0 st a ≡ frame_step s.classes 0 st o = ap (step_for s 0 st) e ∙ step_for-demanded s 0 st ∙ ap (frame_step s.classes 0 st) (frame_statement s st h) in
+    let sound = frame_sound s st o own h refl (subst (λ (x : Action). MayUseAll st 0 (named_of x) (used_of x)) next uses) in
+    subst (λ (x : Step). IsSound s (state_after x st)) (sym step) sound
+action_sound s st a own h (of_owed o rest w e) uses =
+    let kept_step = action_kept s 0 st a h.kept (of_owed o rest w e) uses in
+    let step : step_for s 0 st a ≡ owed_step 0 o st = ap (step_for s 0 st) e in
+    record {
+      block = h.block;
+      holds = rw step (holds_same _ st.frame.bindings st.edges (without (owed_reference 0 o) st.edges) (λ v p. weigh-without-other (one (reference 0 v p)) (owed_reference 0 o) st.edges (variable_of_owed v p o)) h.holds);
+      kept = kept_after st (step_for s 0 st a) h.kept kept_step;
+      worked = rw step (worked_after st (owed_step 0 o st) (owed_works o rest st h.worked w));
+    }
+action_sound s st a own h (of_slot b o rest os w l e) uses =
+    let kept_step = action_kept s 0 st a h.kept (of_slot b o rest os w l e) uses in
+    let step : step_for s 0 st a ≡ drop_step b o st = ap (step_for s 0 st) e in
+    record {
+      block = h.block;
+      holds = rw step (holds_same _ st.frame.bindings st.edges (without (slot_reference b o) st.edges) (λ v p. weigh-without-other (one (reference 0 v p)) (slot_reference b o) st.edges (variable_of_slot v p b o)) h.holds);
+      kept = kept_after st (step_for s 0 st a) h.kept kept_step;
+      worked = rw step (worked_after st (drop_step b o st) (drop_works b o rest st h.worked w));
+    }
+
 pub entry_sound : (s : Script) (st : State) (e : Entry) → Owned s → IsSound s st → IsLegalEntry s st e → IsSound s (effect s e.thread st e.action)
 entry_sound s st e own h legal =
     let d = legal_is_demanded s st e legal.next in
-    let step : step_for s st e.action ≡ frame_step s.classes st (slice_get (setup s) st.frame.number) = ap (step_for s st) d.action ∙ step_for-demanded s st ∙ ap (frame_step s.classes st) (frame_statement s st h) in
-    let whole : effect s e.thread st e.action ≡ state_by 0 st (frame_step s.classes st (slice_get (setup s) st.frame.number)) = ap (λ (t : ℕ). state_by t st (step_for s st e.action)) d.thread ∙ ap (state_by 0 st) step in
-    let balance : IsBalanced (effect s e.thread st e.action) = entry_balances s e.thread st (site_of e.action) legal.uses h.balance in
-    rw whole (option_sound s st (slice_get (setup s) st.frame.number) own h refl (rw whole at balance))
+    rw d.thread (action_sound s st e.action own h d.demand (rw d.thread at legal.uses))
 
 sound_from : (s : Script) (st : State) (es : List Entry) → Owned s → IsSound s st → IsLegalFrom s st es → IsSound s (state_from s st es)
 sound_from s st [] own h legal = h
@@ -136,7 +252,8 @@ start_sound : (s : Script) → IsSound s start
 start_sound s = record {
   block = refl;
   holds = record { held = λ v o e. absurd cc; unbound = λ v e. (refl, refl, refl) };
-  balance = balanced s [] tt;
+  kept = start_kept;
+  worked = record { owed = λ o. refl; given_up = λ b some none. refl; trim = refl };
 }
 
 -- after each legal journal of an owned script each variable holds what it owns

@@ -53,6 +53,8 @@ site_of (actions.DataReplace b n u) = Some (record { block = b; number = n; used
 site_of (actions.DataDelete b n u) = Some (record { block = b; number = n; used = u })
 site_of (actions.NumAs b n u) = Some (record { block = b; number = n; used = u })
 site_of actions.Done = None
+site_of (actions.Owed o) = None
+site_of (actions.DropSlot b k o) = None
 
 -- the forms that make an object
 abbrev pub makes_object : Statement → Bool

@@ -12,13 +12,15 @@ use Rattle.cf_model.specs.State.{State, is_made}
 use Rattle.cf_contents.specs.Deeds.{first_of}
 use Rattle.cf_model.specs.Journals.{After, used_of}
 
--- the object that an entry finalises: it is a release, and it answers so
+-- the object that an entry finalises: it is a release or a drop, and it answers so
 abbrev pub final_if : Answer → Option ℕ → Option ℕ
 final_if (answers.Final c) o = o
 final_if _ o = None
 
 abbrev pub final_of : Action → Answer → Option ℕ
 final_of (actions.Release b n used) answer = final_if answer (first_of used)
+final_of (actions.Owed o) answer = final_if answer (Some o)
+final_of (actions.DropSlot b k o) answer = final_if answer (Some o)
 final_of _ answer = None
 
 abbrev pub one_at : ℕ → Option ℕ → ℕ

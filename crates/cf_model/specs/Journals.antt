@@ -1,6 +1,6 @@
 -- Legal journals: each entry is the next action of its thread, uses live objects to which its thread has
 -- a reference, and has the answer that the state gives. This project's own.
-use Rattle.std.specs.Prelude.{◌≡◌, ℕ, ◌<◌, true, IsTrue, List, [], ◌∷◌, length, map, Option, Some, None, slice_get, ◌==◌, if◌then◌else◌}
+use Rattle.std.specs.Prelude.{◌≡◌, ℕ, ◌<◌, Bool, true, false, ◌&&◌, ◌||◌, IsTrue, List, [], ◌∷◌, length, map, Option, Some, None, slice_get, ◌==◌, if◌then◌else◌}
 use Rattle.cf_syntax.specs.declared.script.Script.{Script}
 use Rattle.cf_syntax.specs.declared.script.Block.{Block}
 use Rattle.cf_syntax.specs.declared.statement.Statement.{Statement}
@@ -8,7 +8,10 @@ use Rattle.cf_syntax.specs.Forms.{used_by, padded}
 use Rattle.cf_model.specs.declared.action.Action.{Action}
 use Rattle.cf_model.specs.declared.action.Action.TheVariants as actions
 use Rattle.cf_model.specs.declared.action.Entry.{Entry}
-use Rattle.cf_model.specs.State.{State, Frame, Binding, start, look, is_live, degree_from}
+use Rattle.cf_graph.specs.declared.edge.Owner.{Owner}
+use Rattle.cf_graph.specs.Holders.{owner_of, is_thread, is_slot}
+use Rattle.cf_graph.specs.Edges.{Reference, weigh, counted}
+use Rattle.cf_model.specs.State.{State, Frame, Binding, Work, release_of, slots_of, start, look, times, left_of, is_live}
 use Rattle.cf_model.specs.Actions.{Site, site_of, action_of}
 use Rattle.cf_model.specs.Steps.{statement_in, effect, answer_to, makes}
 
@@ -32,37 +35,63 @@ abbrev pub next_of : Frame → Option Statement → Action
 next_of f None = actions.Done
 next_of f (Some s) = action_of s (record { block = f.block; number = f.number; used = used_objects f.bindings s })
 
--- the action that a frame demands: that of its next statement, or at the end of its block that the
+-- the action that a frame demands behind its work: that of its next statement, or at the end of its block that the
 -- thread is done
 abbrev pub demanded : Script → Frame → Action
 demanded s f = next_of f (statement_in s f.block f.number)
 
+-- the first slot that is left to a body is given up: its place is how many were before
+abbrev pub drop_of : ℕ → List ℕ → List ℕ → Option Action
+drop_of b dropped [] = None
+drop_of b dropped (o ∷ os) = Some (actions.DropSlot b (times b dropped) o)
+
+-- the action of the first item of work, or what the frame demands behind it
+abbrev pub worked : Script → State → List Work → Option Action
+worked s st [] = Some (demanded s st.frame)
+worked s st (release_of o ∷ work) = Some (actions.Owed o)
+worked s st (slots_of b ∷ work) = drop_of b st.dropped (left_of st.objects st.dropped b)
+
 -- the next action of a thread: none where it is not started, or done
 abbrev pub Next : Script → State → ℕ → Option Action
-Next s st t = if t == 0 then (if st.frame.is_done then None else Some (demanded s st.frame)) else None
+Next s st t = if t == 0 then (if st.frame.is_done then None else worked s st st.frame.work) else None
 
 -- the objects that an action uses
-abbrev pub used_at : Option Site → List (Option ℕ)
-used_at None = []
-used_at (Some site) = site.used
+abbrev pub used_by_site : Option Site → List (Option ℕ)
+used_by_site None = []
+used_by_site (Some site) = site.used
 
 abbrev pub used_of : Action → List (Option ℕ)
-used_of a = used_at (site_of a)
+used_of (actions.Owed o) = Some o ∷ []
+used_of (actions.DropSlot b k o) = Some o ∷ []
+used_of a = used_by_site (site_of a)
 
--- a thread may use an object that is live and to which it has a reference
-pub record MayUse (st : State) (t o : ℕ) : Type 0 where
+-- the body that an action names beside its thread
+abbrev pub named_of : Action → Option ℕ
+named_of (actions.DropSlot b k o) = Some b
+named_of _ = None
+
+abbrev pub is_named : Option ℕ → Owner → Bool
+is_named None owner = false
+is_named (Some b) owner = is_slot b owner
+
+-- how many references to an object come from a thread or from the body that is named
+abbrev pub reaching : ℕ → Option ℕ → ℕ → Reference → ℕ
+reaching t body o e = counted ((e.object == o) && (is_thread t (owner_of e.holder) || is_named body (owner_of e.holder)))
+
+-- an action may use an object that is live and to which its thread, or the body that it names, has a reference
+pub record MayUse (st : State) (t : ℕ) (body : Option ℕ) (o : ℕ) : Type 0 where
   pub live : IsTrue (is_live st o)
-  pub edge : 0 < degree_from t o st.edges
+  pub edge : 0 < weigh (reaching t body o) st.edges
 
-abbrev pub MayUseAll : State → ℕ → List (Option ℕ) → Type 0
-MayUseAll st t [] = Unit {0}
-MayUseAll st t (None ∷ os) = MayUseAll st t os
-MayUseAll st t (Some o ∷ os) = MayUse st t o × MayUseAll st t os
+abbrev pub MayUseAll : State → ℕ → Option ℕ → List (Option ℕ) → Type 0
+MayUseAll st t body [] = Unit {0}
+MayUseAll st t body (None ∷ os) = MayUseAll st t body os
+MayUseAll st t body (Some o ∷ os) = MayUse st t body o × MayUseAll st t body os
 
 -- an entry is legal in a state
 pub record IsLegalEntry (s : Script) (st : State) (e : Entry) : Type 0 where
   pub next : Next s st e.thread ≡ Some e.action
-  pub uses : MayUseAll st e.thread (used_of e.action)
+  pub uses : MayUseAll st e.thread (named_of e.action) (used_of e.action)
   pub answer : e.answer ≡ answer_to s e.thread st e.action
   pub room : IsTrue (makes s e.action) → length st.objects < 65536
 
@@ -82,7 +111,12 @@ IsLegalFrom s st (e ∷ es) = IsLegalEntry s st e × IsLegalFrom s (effect s e.t
 abbrev pub IsLegal : Script → List Entry → Type 0
 IsLegal s es = IsLegalFrom s start es
 
--- a legal journal after which every thread is done
+-- a finalised object has no slot left
+abbrev pub HasGivenUp : State → Type 0
+HasGivenUp st = (b : ℕ) → 0 < times b st.finalised → left_of st.objects st.dropped b ≡ []
+
+-- a legal journal after which every thread is done, and no slot of a finalised object is left
 pub record IsWhole (s : Script) (es : List Entry) : Type 0 where
   pub legal : IsLegal s es
   pub done : (After s es).frame.is_done ≡ true
+  pub given_up : HasGivenUp (After s es)

@@ -42,9 +42,16 @@ line_if t action (Some o) (Some answer) = Some (object_line t action o answer)
 line_if t action (Some o) None = None
 line_if t action None answer = None
 
--- the line of an entry, where it is written: a release that finalises an object, and an object that is shown
+-- the words of a slot that a body gives up
+abbrev pub drop_words : ℕ → ℕ → List ℕ
+drop_words b k = joined (codes "drop" ∷ number_word b ∷ decimal k ∷ [])
+
+-- the line of an entry, where it is written: a release or a drop that finalises an object, and an object that is
+-- shown
 abbrev pub line_of : List ClassLine → ℕ → Action → Answer → Option (List ℕ)
 line_of classes t (actions.Release b n used) answer = line_if t (codes "release") (first_of used) (final_words classes answer)
+line_of classes t (actions.Owed o) answer = line_if t (codes "release") (Some o) (final_words classes answer)
+line_of classes t (actions.DropSlot b k o) answer = line_if t (drop_words b k) (Some o) (final_words classes answer)
 line_of classes t (actions.Show b n used) answer = line_if t (codes "show") (first_of used) (shown_words answer)
 line_of classes t _ answer = None
 

@@ -1,41 +1,56 @@
--- The state after a journal: the objects made, those finalised, the references, and where the thread
--- stands. There are no counts in it: a count is a number of references. This project's own.
-use Rattle.std.specs.Prelude.{ℕ, Bool, false, List, [], ◌∷◌, length, Option, None, ◌==◌, ◌+◌, nat_lt, ◌&&◌, if◌then◌else◌}
+-- The state after a journal: the objects made, those finalised, the references, the slots that finalised bodies have
+-- given up, and where the thread stands. There are no counts in it: a count is a number of references. This
+-- project's own.
+use Rattle.std.specs.Prelude.{ℕ, Bool, false, List, [], ◌∷◌, length, drop, Option, None, slice_get, ◌==◌, nat_lt, ◌&&◌, if◌then◌else◌}
 use Rattle.cf_graph.specs.Edges.{Reference, weigh, leading_to, from_thread}
-use Rattle.cf_contents.specs.Contents.{Object}
+use Rattle.cf_contents.specs.Contents.{Object, slots_at}
+pub use Rattle.cf_contents.specs.Contents.{times}
 
 -- the object of a variable that was bound, or none where the variable is empty
 pub record Binding : Type 0 where
   pub variable : ℕ
   pub object : Option ℕ
 
--- where a thread stands in a block: the number of its next statement, and what its variables are bound
--- to, the newest first
+-- work of a thread: the release of an object that it was given out, and the slots of a finalised body
+pub data Work : Type 0 where
+  release_of : ℕ → Work
+  slots_of : ℕ → Work
+
+-- where a thread stands in a block: the number of its next statement, what its variables are bound to, the newest
+-- first, and the work that comes before that statement
 pub record Frame : Type 0 where
   pub block : ℕ
   pub number : ℕ
   pub bindings : List Binding
+  pub work : List Work
   pub is_done : Bool
 
 pub record State : Type 0 where
   pub objects : List Object
   pub finalised : List ℕ
   pub edges : List Reference
+  pub dropped : List ℕ
   pub frame : Frame
 
 -- no object, no reference, and setup at its first statement
 abbrev pub start : State
-start = record { objects = []; finalised = []; edges = []; frame = record { block = 0; number = 0; bindings = []; is_done = false } }
+start = record { objects = []; finalised = []; edges = []; dropped = []; frame = record { block = 0; number = 0; bindings = []; work = []; is_done = false } }
 
 -- the object of a variable, or none where it is empty or not bound
 abbrev pub look : ℕ → List Binding → Option ℕ
 look v [] = None
 look v (b ∷ bs) = if b.variable == v then b.object else look v bs
 
--- how often a number stands in a list
-abbrev pub times : ℕ → List ℕ → ℕ
-times n [] = 0
-times n (m ∷ ms) = (if m == n then 1 else 0) + times n ms
+-- the slots that are left to a body
+abbrev pub left_of : List Object → List ℕ → ℕ → List ℕ
+left_of objects dropped b = drop (times b dropped) (slots_at (slice_get objects b))
+
+-- work from the first item on that has something left
+abbrev pub trimmed : List Object → List ℕ → List Work → List Work
+trimmed objects dropped [] = []
+trimmed objects dropped (release_of o ∷ work) = release_of o ∷ work
+trimmed objects dropped (slots_of b ∷ work) =
+    if length (left_of objects dropped b) == 0 then trimmed objects dropped work else slots_of b ∷ work
 
 abbrev pub is_made : State → ℕ → Bool
 is_made st o = nat_lt o (length st.objects)

@@ -1,7 +1,7 @@
 -- What an entry does to the state, and what it answers, over what all forms have in common. After the
 -- ownership rule: a new object has one reference, retain adds one, release takes one, and the last
--- release finalises the object.
-use Rattle.std.specs.Prelude.{ℕ, ◌+◌, Bool, true, false, List, [], ◌∷◌, ◌++◌, length, Option, Some, None, ◌==◌, slice_get, if◌then◌else◌}
+-- release finalises the object, which then gives up its slots one by one.
+use Rattle.std.specs.Prelude.{ℕ, ◌+◌, Bool, true, false, List, [], ◌∷◌, ◌++◌, length, map, Option, Some, None, ◌==◌, slice_get, if◌then◌else◌}
 use Rattle.cf_ids.specs.declared.answer.Answer.{Answer}
 use Rattle.cf_ids.specs.declared.answer.Answer.TheVariants as answers
 use Rattle.cf_syntax.specs.declared.script.Script.{Script}
@@ -11,13 +11,14 @@ use Rattle.cf_syntax.specs.declared.statement.Statement.{Statement}
 use Rattle.cf_syntax.specs.declared.statement.Touch.{Touch}
 use Rattle.cf_syntax.specs.declared.statement.Touch.TheVariants.{Nothing, Binds, Plus, Minus}
 use Rattle.cf_syntax.specs.Forms.{touch_of}
-use Rattle.cf_graph.specs.Holders.{variable}
+use Rattle.cf_graph.specs.Holders.{Holder, variable, owed, slot}
 use Rattle.cf_graph.specs.Edges.{Reference}
-use Rattle.cf_graph.specs.Operations.{Operation, add, cut, run}
+use Rattle.cf_graph.specs.Operations.{Operation, add, move, cut, run}
 use Rattle.cf_contents.specs.Contents.{Object}
-use Rattle.cf_contents.specs.Deeds.{Source, nowhere, fresh, Deed, first_of, deed_at, changed_by}
+use Rattle.cf_contents.specs.Deeds.{Source, nowhere, fresh, Change, first_of, object_of, deed_at, resolved, changed_by, taken_in, given_out}
 use Rattle.cf_model.specs.declared.action.Action.{Action}
-use Rattle.cf_model.specs.State.{Binding, State, degree}
+use Rattle.cf_model.specs.declared.action.Action.TheVariants as actions
+use Rattle.cf_model.specs.State.{Binding, Work, release_of, slots_of, State, trimmed, degree}
 use Rattle.cf_model.specs.Actions.{Site, site_of, makes_object}
 
 -- the statement at a place of a block
@@ -28,9 +29,71 @@ statement_of (Some block) n = slice_get block.statements n
 abbrev pub statement_in : Script → ℕ → ℕ → Option Statement
 statement_in s b n = statement_of (slice_get s.blocks b) n
 
--- the reference that a variable of a thread holds
+-- the references that a variable of a thread holds, that a thread owes the release of, and that a body's slots hold
+abbrev pub held_by : Holder → ℕ → Reference
+held_by h o = record { holder = h; object = o }
+
 abbrev pub reference : ℕ → ℕ → ℕ → Reference
-reference t v o = record { holder = variable t v; object = o }
+reference t v o = held_by (variable t v) o
+
+abbrev pub owed_reference : ℕ → ℕ → Reference
+owed_reference t o = held_by (owed t) o
+
+abbrev pub slot_reference : ℕ → ℕ → Reference
+slot_reference b o = held_by (slot b) o
+
+-- what an action does: its answer where it cuts no reference, what it does to references, the object whose reference
+-- it cuts, the objects after it, what it binds, the number of the next statement, the bodies that give up a slot, and
+-- the work after it, but for the slots of what it finalises
+pub record Step : Type 0 where
+  pub answer : Answer
+  pub operations : List Operation
+  pub cuts : Option ℕ
+  pub objects : List Object
+  pub bindings : List Binding
+  pub number : ℕ
+  pub drops : List ℕ
+  pub work : List Work
+  pub is_done : Bool
+
+-- a cut that leaves no reference finalises the object
+abbrev pub finals_of : Option ℕ → List Reference → List ℕ
+finals_of None es = []
+finals_of (Some o) es = if degree o es == 0 then o ∷ [] else []
+
+-- the type of an object, or 0 where it was not made
+abbrev pub class_in : Option Object → ℕ
+class_in None = 0
+class_in (Some ob) = ob.class
+
+abbrev pub class_of : List Object → ℕ → ℕ
+class_of obs o = class_in (slice_get obs o)
+
+-- a cut answers whether it was the last
+abbrev pub cut_answer : Option ℕ → List Object → List Reference → Answer → Answer
+cut_answer None objects es other = other
+cut_answer (Some o) objects es other = if degree o es == 0 then answers.Final (class_of objects o) else answers.More
+
+-- the references, the whole state and the answer that a step leaves
+abbrev pub edges_after : Step → List Reference → List Reference
+edges_after step es = run step.operations es
+
+abbrev pub work_after : Step → State → List Work
+work_after step st = trimmed step.objects (step.drops ++ st.dropped) (map slots_of (finals_of step.cuts (edges_after step st.edges)) ++ step.work)
+
+abbrev pub state_after : Step → State → State
+state_after step st = record {
+  objects = step.objects;
+  finalised = finals_of step.cuts (edges_after step st.edges) ++ st.finalised;
+  edges = edges_after step st.edges;
+  dropped = step.drops ++ st.dropped;
+  frame = record { block = st.frame.block; number = step.number; bindings = step.bindings ++ st.frame.bindings; work = work_after step st; is_done = step.is_done };
+}
+
+abbrev pub step_answer : Step → State → Answer
+step_answer step st = cut_answer step.cuts st.objects (edges_after step st.edges) step.answer
+
+-- ---- the step of a statement
 
 -- the object that a source gives, in a state with so many objects
 abbrev pub found : ℕ → Source → Option ℕ
@@ -55,6 +118,13 @@ abbrev pub operations_of : ℕ → Touch → Option ℕ → List Operation
 operations_of t touch None = []
 operations_of t touch (Some o) = operations_at t touch o
 
+-- the object whose reference a touch takes
+abbrev pub cut_by : Touch → Option ℕ → Option ℕ
+cut_by Nothing object = None
+cut_by (Binds v) object = None
+cut_by (Plus v) object = None
+cut_by (Minus v) object = object
+
 -- the object that a source makes, which is bound
 abbrev pub made_from : Source → List Object
 made_from nowhere = []
@@ -73,100 +143,118 @@ bindings_by (Binds v) o = record { variable = v; object = o } ∷ []
 bindings_by (Plus v) o = []
 bindings_by (Minus v) o = []
 
--- a release that leaves no reference finalises its object
-abbrev pub finalised_at : Touch → ℕ → List Reference → List ℕ
-finalised_at Nothing o es = []
-finalised_at (Binds v) o es = []
-finalised_at (Plus v) o es = []
-finalised_at (Minus v) o es = if degree o es == 0 then o ∷ [] else []
+-- the answer of a touch that cuts nothing: an empty variable is passed over, what is bound answers its object, and
+-- else the deed decides
+abbrev pub answer_with : Touch → Answer → Answer
+answer_with Nothing other = other
+answer_with (Binds v) other = other
+answer_with (Plus v) other = answers.Skip
+answer_with (Minus v) other = answers.Skip
 
-abbrev pub finalised_by : Touch → Option ℕ → List Reference → List ℕ
-finalised_by touch None es = []
-finalised_by touch (Some o) es = finalised_at touch o es
+abbrev pub answer_at : Touch → ℕ → Answer → Answer
+answer_at Nothing o other = other
+answer_at (Binds v) o other = answers.Object o
+answer_at (Plus v) o other = other
+answer_at (Minus v) o other = other
 
--- the type of an object, or 0 where it was not made
-abbrev pub class_in : Option Object → ℕ
-class_in None = 0
-class_in (Some ob) = ob.class
+abbrev pub answer_of : Touch → Option ℕ → Answer → Answer
+answer_of touch None other = answer_with touch other
+answer_of touch (Some o) other = answer_at touch o other
 
-abbrev pub class_of : List Object → ℕ → ℕ
-class_of obs o = class_in (slice_get obs o)
+-- a change of a body: it takes in what comes, and gives out to the thread what goes
+abbrev pub change_operations : ℕ → Option ℕ → Option Object → Change → List Operation
+change_operations t None ob change = []
+change_operations t (Some b) ob change =
+    map (λ o. add (slot_reference b o)) (taken_in ob change) ++ map (λ o. move (slot_reference b o) (owed t)) (given_out ob change)
 
--- the answer of a touch, given what is left: an empty variable is passed over, what is bound answers its
--- object, a release tells whether it was the last, and else the deed decides
-abbrev pub answer_at : Touch → ℕ → List Object → List Reference → Answer → Answer
-answer_at Nothing o obs es other = other
-answer_at (Binds v) o obs es other = answers.Object o
-answer_at (Plus v) o obs es other = other
-answer_at (Minus v) o obs es other = if degree o es == 0 then answers.Final (class_of obs o) else answers.More
-
-abbrev pub answer_without : Touch → Answer → Answer
-answer_without Nothing other = other
-answer_without (Binds v) other = other
-answer_without (Plus v) other = answers.Skip
-answer_without (Minus v) other = answers.Skip
-
-abbrev pub answer_of : Touch → Option ℕ → List Object → List Reference → Answer → Answer
-answer_of touch None obs es other = answer_without touch other
-answer_of touch (Some o) obs es other = answer_at touch o obs es other
-
--- a step of a statement: what it touches, its deed, the first object that it uses, and the object that it touches
-pub record Step : Type 0 where
-  pub touch : Touch
-  pub deed : Deed
-  pub used : Option ℕ
-  pub object : Option ℕ
-
-abbrev pub step_by : Touch → Deed → Option ℕ → ℕ → Step
-step_by touch deed used made = record { touch = touch; deed = deed; used = used; object = target touch (found made deed.source) used }
-
-abbrev pub step_of : List ClassLine → List Object → Statement → List (Option ℕ) → Step
-step_of classes objects s used = step_by (touch_of s) (deed_at classes objects s used) (first_of used) (length objects)
-
--- the objects that a step leaves: the contents of the first that it uses may change, and one may be made
-abbrev pub objects_after : Step → List Object → List Object
-objects_after step objects = changed_by step.used step.deed.change objects ++ made_by step.touch step.deed.source
-
--- the references, and the whole state, that a step of a thread leaves
-abbrev pub edges_after : ℕ → Step → List Reference → List Reference
-edges_after t step es = run (operations_of t step.touch step.object) es
-
-abbrev pub state_after : ℕ → Step → State → State
-state_after t step st =
-    let es = edges_after t step st.edges in
+-- the step of a touch that takes or binds a reference, by the source of what is bound and the object that is used
+abbrev pub reference_step : ℕ → Touch → Answer → Source → Option ℕ → State → Step
+reference_step t touch answer source used st =
+    let object = target touch (found (length st.objects) source) used in
     record {
-      objects = objects_after step st.objects;
-      finalised = finalised_by step.touch step.object es ++ st.finalised;
-      edges = es;
-      frame = record st.frame { number = st.frame.number + 1; bindings = bindings_by step.touch step.object ++ st.frame.bindings };
+      answer = answer_of touch object answer;
+      operations = operations_of t touch object;
+      cuts = cut_by touch object;
+      objects = st.objects ++ made_by touch source;
+      bindings = bindings_by touch object;
+      number = st.frame.number + 1;
+      drops = [];
+      work = st.frame.work;
+      is_done = st.frame.is_done;
     }
 
-abbrev pub step_answer : ℕ → Step → State → Answer
-step_answer t step st = answer_of step.touch step.object st.objects (edges_after t step st.edges) step.deed.answer
+-- the step of a statement that may change the first object that it uses
+abbrev pub change_step : ℕ → Answer → Option ℕ → Change → State → Step
+change_step t answer used change st = record {
+  answer = answer;
+  operations = change_operations t used (object_of st.objects used) change;
+  cuts = None;
+  objects = changed_by used change st.objects;
+  bindings = [];
+  number = st.frame.number + 1;
+  drops = [];
+  work = map release_of (given_out (object_of st.objects used) change) ++ st.frame.work;
+  is_done = st.frame.is_done;
+}
 
--- the step of an action, where a statement writes it
-abbrev pub step_with : List ClassLine → List Object → List (Option ℕ) → Option Statement → Option Step
-step_with classes objects used None = None
-step_with classes objects used (Some statement) = Some (step_of classes objects statement used)
+-- a statement takes or binds a reference, or else it may change an object
+abbrev pub touch_step : ℕ → Touch → Answer → Source → Option ℕ → Change → State → Step
+touch_step t Nothing answer source used change st = change_step t answer used change st
+touch_step t (Binds v) answer source used change st = reference_step t (Binds v) answer source used st
+touch_step t (Plus v) answer source used change st = reference_step t (Plus v) answer source used st
+touch_step t (Minus v) answer source used change st = reference_step t (Minus v) answer source used st
 
-abbrev pub step_at : Script → State → Option Site → Option Step
-step_at s st None = None
-step_at s st (Some site) = step_with s.classes st.objects site.used (statement_in s site.block site.number)
+abbrev pub statement_step : List ClassLine → ℕ → Statement → List (Option ℕ) → State → Step
+statement_step classes t s used st =
+    let deed = deed_at classes st.objects s used in
+    touch_step t (touch_of s) deed.answer deed.source (first_of used) (resolved used deed.change) st
 
-abbrev pub step_for : Script → State → Action → Option Step
-step_for s st a = step_at s st (site_of a)
+-- ---- the steps that no statement writes
+
+-- a step that changes nothing yet
+abbrev pub idle : State → Step
+idle st = record {
+  answer = answers.Ok;
+  operations = [];
+  cuts = None;
+  objects = st.objects;
+  bindings = [];
+  number = st.frame.number;
+  drops = [];
+  work = st.frame.work;
+  is_done = st.frame.is_done;
+}
 
 -- the thread is done
-abbrev pub done_after : State → State
-done_after st = record st { frame = record st.frame { is_done = true } }
+abbrev pub done_step : State → Step
+done_step st = record (idle st) { is_done = true }
 
-abbrev pub state_by : ℕ → State → Option Step → State
-state_by t st None = done_after st
-state_by t st (Some step) = state_after t step st
+-- the work behind the first item
+abbrev pub rest_of : List Work → List Work
+rest_of [] = []
+rest_of (w ∷ work) = work
 
-abbrev pub answer_by : ℕ → State → Option Step → Answer
-answer_by t st None = answers.Ok
-answer_by t st (Some step) = step_answer t step st
+-- an owed release
+abbrev pub owed_step : ℕ → ℕ → State → Step
+owed_step t o st = record (idle st) { operations = cut (owed_reference t o) ∷ []; cuts = Some o; work = rest_of st.frame.work }
+
+-- a finalised body gives up a slot
+abbrev pub drop_step : ℕ → ℕ → State → Step
+drop_step b o st = record (idle st) { operations = cut (slot_reference b o) ∷ []; cuts = Some o; drops = b ∷ [] }
+
+-- the step of an action
+abbrev pub step_with : List ClassLine → ℕ → State → List (Option ℕ) → Option Statement → Step
+step_with classes t st used None = done_step st
+step_with classes t st used (Some statement) = statement_step classes t statement used st
+
+abbrev pub step_at : Script → ℕ → State → Option Site → Step
+step_at s t st None = done_step st
+step_at s t st (Some site) = step_with s.classes t st site.used (statement_in s site.block site.number)
+
+abbrev pub step_for : Script → ℕ → State → Action → Step
+step_for s t st (actions.Owed o) = owed_step t o st
+step_for s t st (actions.DropSlot b k o) = drop_step b o st
+step_for s t st a = step_at s t st (site_of a)
 
 -- an action makes an object where its statement is of such a form
 abbrev pub makes_if : Option Statement → Bool
@@ -179,10 +267,10 @@ makes_at s (Some site) = makes_if (statement_in s site.block site.number)
 
 -- the state that an action of a thread leaves, its answer, and whether it makes an object
 abbrev pub effect : Script → ℕ → State → Action → State
-effect s t st a = state_by t st (step_for s st a)
+effect s t st a = state_after (step_for s t st a) st
 
 abbrev pub answer_to : Script → ℕ → State → Action → Answer
-answer_to s t st a = answer_by t st (step_for s st a)
+answer_to s t st a = step_answer (step_for s t st a) st
 
 abbrev pub makes : Script → Action → Bool
 makes s a = makes_at s (site_of a)

@@ -102,6 +102,15 @@ pub enum Action {
     },
     /// The thread's block is at its end.
     Done,
+    /// The release of a reference that the thread was given out, written `release`.
+    Owed(ObjId),
+    /// A finalised body gives up the first slot that is left to it, at this place of those that it had, written
+    /// `drop`.
+    DropSlot {
+        body: ObjId,
+        place: u32,
+        object: ObjId,
+    },
 }
 
 // The action of a form, at its site.

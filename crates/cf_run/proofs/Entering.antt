@@ -17,21 +17,21 @@ use Rattle.cf_graph.specs.Operations.{without, run}
 use Rattle.cf_graph.proofs.Counts.{weigh-without}
 use Rattle.cf_model.specs.declared.action.Action.TheVariants.{Done}
 use Rattle.cf_model.specs.declared.action.Entry.{Entry}
-use Rattle.cf_contents.specs.Contents.{Content, Object}
-use Rattle.cf_contents.specs.Deeds.{Source, nowhere, fresh, Deed, first_of, deed_at, changed_by}
+use Rattle.cf_contents.specs.Contents.{Object}
+use Rattle.cf_contents.specs.Deeds.{Source, nowhere, fresh, Change, Deed, first_of, deed_at, changed_by}
 use Rattle.cf_contents.proofs.ContentLaws.{class-changed_by}
 use Rattle.cf_model.specs.State.{State, Binding, start, degree}
 use Rattle.cf_model.specs.Actions.{action_of}
-use Rattle.cf_model.specs.Steps.{Step, step_of, reference, found, target, operations_of, made_by, objects_after, finalised_by, answer_of, state_after, done_after, effect, answer_to, class_of}
+use Rattle.cf_model.specs.Steps.{reference, found, target, operations_of, made_by, done_step, state_after, effect, answer_to, class_of}
 use Rattle.cf_model.specs.Journals.{setup, After, IsLegalEntry, object_at, used_objects, demanded}
 use Rattle.cf_model.specs.Serial.{picked}
 use Rattle.cf_model.proofs.Growth.{state_from-append, legal_more, serial_more, pointer_after, pointer_after-more}
-use Rattle.cf_model.proofs.Balance.{objects-length}
 use Rattle.cf_model.proofs.Holding.{looked}
 use Rattle.cf_model.proofs.Soundness.{IsSound, sound}
 use Rattle.cf_model.proofs.Legality.{legal_demanded, effect-demanded, answer-demanded, demanded-statement, demanded-done, effect-done, answer-done, touches_there, TouchesThere, binds_new, none_to_next}
 use Rattle.cf_run.specs.Lines.{class_at}
 use Rattle.cf_run.specs.Tally.{held_at, object_held, released, answer_now, references_after, table_after, finals_after, CanCount, BindsWithin, Counts, Tables, IsAt, IsOver}
+use Rattle.cf_run.proofs.Plain.{Step, step_of, objects_after, finalised_by, answer_by, plain_after, objects-length, objects_free, none_left, statement_plain, answer_plain}
 use Rattle.cf_run.proofs.Counting.{Changes, TouchesMade, counts_after}
 use Rattle.cf_run.proofs.Tables.{somes_le-length, tables_after, objects_same}
 
@@ -57,8 +57,8 @@ class_made (ob ∷ obs) zero h = refl
 class_made (ob ∷ obs) (suc o) h = class_made obs o (omega arith)
 
 -- the answer by the numbers is the answer by the references
-answers_agree : (touch : Touch) (source : Source) (used u : Option ℕ) (content : Option Content) (objects : List Object) (es : List Reference) (references : List ℕ) (other : Answer) → Changes touch used es → TouchesMade touch used (length objects) → Counts (length objects) es references
-    → answer_now touch (target touch (found (length objects) source) used) (changed_by u content objects) references other ≡ answer_of touch (target touch (found (length objects) source) used) objects (run (operations_of 0 touch (target touch (found (length objects) source) used)) es) other
+answers_agree : (touch : Touch) (source : Source) (used u : Option ℕ) (content : Change) (objects : List Object) (es : List Reference) (references : List ℕ) (other : Answer) → Changes touch used es → TouchesMade touch used (length objects) → Counts (length objects) es references
+    → answer_now touch (target touch (found (length objects) source) used) (changed_by u content objects) references other ≡ answer_by touch (target touch (found (length objects) source) used) objects (run (operations_of 0 touch (target touch (found (length objects) source) used)) es) other
 answers_agree Nothing source used u content objects es references other there made h = refl
 answers_agree (Binds v) nowhere used u content objects es references other there made h = refl
 answers_agree (Binds v) (fresh ob) used u content objects es references other there made h = refl
@@ -205,11 +205,13 @@ module _ (s : Script) (journal : List Entry) (objects : List Object) (references
       ∙ ap (λ (os : List (Option ℕ)). answer_with object st.objects os) used_same
       ∙ ap (λ (o : Option ℕ). answer_with o st.objects used) (object_here object is)
       ∙ answers_agree (touch_of x) deed.source (first_of used) (first_of used) deed.change st.objects st.edges references deed.answer changes_here made_here here.counts
-      ∙ sym (answer-demanded s st x e.action sound_here next action) in
-      legal_demanded s st e own sound_here going is.thread action answer (omega (arith, few_objects (length st.objects) st.frame.bindings table here.tables))
+      ∙ sym (answer-demanded s st x e.action sound_here next action ∙ answer_plain s.classes x used st) in
+      legal_demanded s st e own sound_here going here.idle is.thread action answer (omega (arith, few_objects (length st.objects) st.frame.bindings table here.tables))
 
-  after_here : (object : Option ℕ) → IsEntryOf s journal objects references table x object e → After s (journal ++ e ∷ []) ≡ state_after 0 step_here (After s journal)
-  after_here object is = After-more s journal e ∙ effect-demanded s (After s journal) x e.thread e.action sound_here next is.thread (action_here object is)
+  after_here : (object : Option ℕ) → IsEntryOf s journal objects references table x object e → After s (journal ++ e ∷ []) ≡ plain_after step_here (After s journal)
+  after_here object is =
+      After-more s journal e ∙ effect-demanded s (After s journal) x e.thread e.action sound_here next is.thread (action_here object is)
+      ∙ statement_plain s.classes x (used_objects (After s journal).frame.bindings x) (After s journal) here.idle here.free
 
   -- the run after the entry, by the step
   entered_by : (object : Option ℕ) → IsEntryOf s journal objects references table x object e → IsAt s (journal ++ e ∷ []) (objects_after step_here (After s journal).objects) (references_after (touch_of x) step_here.deed.source step_here.object references) (table_after (touch_of x) step_here.object table) (finals + finals_after (touch_of x) step_here.object references)
@@ -228,11 +230,13 @@ module _ (s : Script) (journal : List Entry) (objects : List Object) (references
         order = serial_more s start 0 journal e here.order (rw is.thread (picked-setup s st (pointer_after 0 journal) here.pointer going));
         pointer = rw (pointer_after-more 0 journal e) (omega (arith, is.thread));
         store = ap (λ (t : State). t.objects) (sym after);
-        counts = rw (after, size) (counts_after touch source used made st.edges references changes_here made_here (none_to_next st sound_here.balance) here.counts);
+        counts = rw (after, size) (counts_after touch source used made st.edges references changes_here made_here (none_to_next st sound_here.kept.balance) here.counts);
         tables = rw (after, size) (tables_after touch source used made st.frame.bindings table is.within (binds_new s st x own sound_here next) here.tables);
         count = rw (after, length-append (finalised_by touch at left) st.finalised) (omega (arith, here.count, finals_agree touch source used made st.edges references changes_here made_here here.counts));
         few = λ p. rw (after, length_push journal e) (omega (arith, here.few p, degree_grows touch at st.edges p (changes_target touch (found made source) used st.edges changes_here)));
         few_finals = rw (after, length_push journal e, length-append (finalised_by touch at left) st.finalised) (omega (arith, here.few_finals, finals_agree touch source used made st.edges references changes_here made_here here.counts, finals_after-le touch at references));
+        idle = rw after refl;
+        free = rw after (objects_free s.classes st.objects x (used_objects st.frame.bindings x) here.free);
       }
 
   pub entered : (object : Option ℕ) → IsEntryOf s journal objects references table x object e → IsAt s (journal ++ e ∷ []) (objects_after (step_in s objects table x) objects) (references_after (touch_of x) (step_in s objects table x).deed.source object references) (table_after (touch_of x) object table) (finals + finals_after (touch_of x) object references)
@@ -251,15 +255,16 @@ ended s journal objects references table finals e own here next going is =
     let thread : e.thread ≡ 0 = ap (λ (f : Entry). f.thread) is in
     let action : e.action ≡ demanded s st.frame = ap (λ (f : Entry). f.action) is ∙ sym (demanded-done s st h next) in
     let answer : e.answer ≡ answer_to s 0 st e.action = ap (λ (f : Entry). f.answer) is ∙ sym (answer-done s st e.action h next action) in
-    let legal = legal_demanded s st e own h going thread action answer (omega (arith, few_objects (length st.objects) st.frame.bindings table here.tables)) in
-    let after : After s (journal ++ e ∷ []) ≡ done_after st = After-more s journal e ∙ effect-done s st e.thread e.action h next action in
+    let legal = legal_demanded s st e own h going here.idle thread action answer (omega (arith, few_objects (length st.objects) st.frame.bindings table here.tables)) in
+    let after : After s (journal ++ e ∷ []) ≡ state_after (done_step st) st = After-more s journal e ∙ effect-done s st e.thread e.action h next thread action in
     record {
-      whole = record { legal = legal_more s start journal e here.legal legal; done = ap (λ (t : State). t.frame.is_done) after };
+      whole = record { legal = legal_more s start journal e here.legal legal; done = ap (λ (t : State). t.frame.is_done) after; given_up = λ b some. rw after (none_left st.objects st.dropped b here.free) };
       order = serial_more s start 0 journal e here.order (rw thread (picked-setup s st (pointer_after 0 journal) here.pointer going));
       store = rw after here.store;
       counts = rw after here.counts;
       count = rw after here.count;
       few = omega (arith, here.counts.size, few_objects (length st.objects) st.frame.bindings table here.tables);
+      free = rw after here.free;
     }
 
 -- a run that has not begun
@@ -274,6 +279,8 @@ begun s table size none = record {
   count = refl;
   few = λ o. omega arith;
   few_finals = omega arith;
+  idle = refl;
+  free = λ b. refl;
 }
 
 -- ---- what the code of a step owes

@@ -1,5 +1,6 @@
 pub mod Counting
 pub mod Tables
+pub mod Plain
 pub mod Entering
 pub mod Words
 pub mod Writing

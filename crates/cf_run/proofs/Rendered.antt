@@ -1,5 +1,5 @@
 -- The text of a run by its numbers is the rendering of its journal.
-use Rattle.std.proofs.Common.{◌≡◌, ℕ, zero, suc, ◌+◌, ◌<◌, ◌==◌, ◌&&◌, not, lit<, Bool, true, false, cond, List, [], ◌∷◌, ◌++◌, length, take, Option, Some, refl, sym, ap, ◌∙◌, arith, append_assoc, append-nil, add-zero, ◌≤◌}
+use Rattle.std.proofs.Common.{◌≡◌, ℕ, zero, suc, ◌+◌, ◌<◌, ◌==◌, not, lit<, Bool, true, false, cond, List, [], ◌∷◌, ◌++◌, length, take, Option, Some, refl, sym, ap, ◌∙◌, arith, append_assoc, append-nil, add-zero, ◌≤◌}
 use Rattle.std.specs.Prelude.{slice_index, slice_index_or, codes, nat_lt}
 use Rattle.std.specs.Fmt.{decimal}
 use Rattle.std.proofs.lemmas.Bool.Decides.{nat_tests}
@@ -8,8 +8,7 @@ use Rattle.std.proofs.lemmas.List.{take_more, length-take, take_all}
 use Rattle.cf_ids.specs.Words.{number_word}
 use Rattle.cf_syntax.specs.declared.script.Script.{Script}
 use Rattle.cf_syntax.specs.declared.script.ClassLine.{ClassLine}
-use Rattle.cf_graph.specs.Holders.{Holder, variable, owner_of, is_owning}
-use Rattle.cf_graph.specs.Edges.{Reference, weigh, counted, owning, holding}
+use Rattle.cf_graph.specs.Edges.{Reference, weigh, one, counted, owning}
 use Rattle.cf_model.specs.declared.action.Entry.{Entry}
 use Rattle.cf_model.specs.declared.ending.Ending.TheVariants.{Done}
 use Rattle.cf_contents.specs.Contents.{text_content, Object}
@@ -18,29 +17,12 @@ use Rattle.cf_model.specs.State.{State, times, degree}
 use Rattle.cf_model.specs.Journals.{After}
 use Rattle.cf_model.specs.Rendering.{joined, entry_lines, text_of_lines, alive_line, alive_from, alive_lines, end_line, rendering}
 use Rattle.cf_model.proofs.Growth.{text_of_lines-append}
-use Rattle.cf_model.proofs.Balance.{IsBalanced, balanced}
+use Rattle.cf_model.proofs.Balance.{IsBalanced}
+use Rattle.cf_model.proofs.Along.{kept}
+use Rattle.cf_model.specs.Steps.{slot_reference}
+use Rattle.cf_run.proofs.Plain.{none_left, none_held, all_owned}
 use Rattle.cf_run.specs.Tally.{Counts, IsOver}
 use Rattle.cf_run.specs.Lines.{class_at, alive_words, alive_if, alive_below, end_words, ends_of, run_text}
-
--- with the holders so far each reference is owned
-owner_owns : (h : Holder) → is_owning (owner_of h) ≡ true
-owner_owns (variable t v) = refl
-
-owned_test : (a b : Bool) → b ≡ true → counted (a && b) ≡ counted a
-owned_test true b e = ap counted e
-owned_test false b e = refl
-
-held_test : (a b : Bool) → b ≡ true → counted (a && not b) ≡ 0
-held_test true b e = ap (λ (c : Bool). counted (not c)) e
-held_test false b e = refl
-
-all_owned : (o : ℕ) (es : List Reference) → weigh (owning o) es ≡ degree o es
-all_owned o [] = refl
-all_owned o (e ∷ es) = omega (arith, all_owned o es, owned_test (e.object == o) (is_owning (owner_of e.holder)) (owner_owns e.holder))
-
-none_held : (o : ℕ) (es : List Reference) → weigh (holding o) es ≡ 0
-none_held o [] = refl
-none_held o (e ∷ es) = omega (arith, none_held o es, held_test (e.object == o) (is_owning (owner_of e.holder)) (owner_owns e.holder))
 
 -- an object that was made is unfinalised where references are left
 left_test : (m n : ℕ) → m + counted (nat_lt 0 n) ≡ 1 → (m == 0) ≡ not (n == 0)
@@ -51,19 +33,23 @@ left_test m (suc n) h =
     let no : (suc n == 0) ≡ false = grind (arith, nat_tests) in
     rw (e, no) refl
 
+-- no slot has a reference
+abbrev NoneHeld : List Reference → Type 0
+NoneHeld es = (b q : ℕ) → weigh (one (slot_reference b q)) es ≡ 0
+
 -- the line of an object, by its number of references
-line_same : (classes : List ClassLine) (k : ℕ) (ob : Object) (es : List Reference) → joined (alive_words k (class_name classes ob.class) (degree k es)) ≡ alive_line classes k ob es
-line_same classes k ob es =
-    ap (λ (n : ℕ). joined (codes "alive" ∷ number_word k ∷ class_name classes ob.class ∷ codes "owners" ∷ decimal n ∷ codes "slots" ∷ codes "0" ∷ [])) (sym (all_owned k es))
-    ∙ ap (λ (z : List ℕ). joined (codes "alive" ∷ number_word k ∷ class_name classes ob.class ∷ codes "owners" ∷ decimal (weigh (owning k) es) ∷ codes "slots" ∷ z ∷ [])) (sym (decimal_digit 0 (lit< tt)) ∙ ap decimal (sym (none_held k es)))
+line_same : (classes : List ClassLine) (k : ℕ) (ob : Object) (es : List Reference) → NoneHeld es → joined (alive_words k (class_name classes ob.class) (degree k es)) ≡ alive_line classes k ob es
+line_same classes k ob es none =
+    ap (λ (n : ℕ). joined (codes "alive" ∷ number_word k ∷ class_name classes ob.class ∷ codes "owners" ∷ decimal n ∷ codes "slots" ∷ codes "0" ∷ [])) (sym (all_owned k es none))
+    ∙ ap (λ (z : List ℕ). joined (codes "alive" ∷ number_word k ∷ class_name classes ob.class ∷ codes "owners" ∷ decimal (weigh (owning k) es) ∷ codes "slots" ∷ z ∷ [])) (sym (decimal_digit 0 (lit< tt)) ∙ ap decimal (sym (none_held k es none)))
 
 cond_not : (b : Bool) (line : List ℕ) → cond {A = List (List ℕ)} b [] (line ∷ []) ≡ cond {A = List (List ℕ)} (not b) (line ∷ []) []
 cond_not true line = refl
 cond_not false line = refl
 
-object_same : (classes : List ClassLine) (k : ℕ) (ob : Object) (st : State) → times k st.finalised + counted (nat_lt 0 (degree k st.edges)) ≡ 1 → alive_if classes k (Some ob.class) (degree k st.edges) ≡ alive_from classes k (ob ∷ []) st
-object_same classes k ob st balance =
-    ap (λ (l : List ℕ). cond {A = List (List ℕ)} (degree k st.edges == 0) [] (l ∷ [])) (line_same classes k ob st.edges)
+object_same : (classes : List ClassLine) (k : ℕ) (ob : Object) (st : State) → times k st.finalised + counted (nat_lt 0 (degree k st.edges)) ≡ 1 → NoneHeld st.edges → alive_if classes k (Some ob.class) (degree k st.edges) ≡ alive_from classes k (ob ∷ []) st
+object_same classes k ob st balance none =
+    ap (λ (l : List ℕ). cond {A = List (List ℕ)} (degree k st.edges == 0) [] (l ∷ [])) (line_same classes k ob st.edges none)
     ∙ cond_not (degree k st.edges == 0) (alive_line classes k ob st.edges)
     ∙ ap (λ (b : Bool). cond {A = List (List ℕ)} b (alive_line classes k ob st.edges ∷ []) []) (sym (left_test (times k st.finalised) (degree k st.edges) balance))
     ∙ sym (append-nil (cond {A = List (List ℕ)} (times k st.finalised == 0) (alive_line classes k ob st.edges ∷ []) []))
@@ -80,19 +66,19 @@ class_read (ob ∷ obs) zero d h = refl
 class_read (ob ∷ obs) (suc i) d h = class_read obs i d (omega arith)
 
 -- the lines below a number are those of the first objects
-alive_same : (classes : List ClassLine) (st : State) (references : List ℕ) (d : Object) → Counts (length st.objects) st.edges references → IsBalanced st → (n : ℕ) → n ≤ length st.objects → alive_below classes st.objects references n ≡ alive_from classes 0 (take n st.objects) st
-alive_same classes st references d counts balance zero h = refl
-alive_same classes st references d counts balance (suc n) h =
+alive_same : (classes : List ClassLine) (st : State) (references : List ℕ) (d : Object) → Counts (length st.objects) st.edges references → IsBalanced st → NoneHeld st.edges → (n : ℕ) → n ≤ length st.objects → alive_below classes st.objects references n ≡ alive_from classes 0 (take n st.objects) st
+alive_same classes st references d counts balance held zero h = refl
+alive_same classes st references d counts balance held (suc n) h =
     let lt : n < length st.objects = omega arith in
     let ob = slice_index_or st.objects n d in
     let made : counted (nat_lt n (length st.objects)) ≡ 1 = grind (arith, nat_tests) in
     let more : suc n ≡ n + 1 = omega arith in
     let place : 0 + length (take n st.objects) ≡ n = omega (arith, length-take n st.objects) in
-    ap (λ (ls : List (List ℕ)). ls ++ alive_if classes n (class_at st.objects n) (slice_index references n)) (alive_same classes st references d counts balance n (omega arith))
+    ap (λ (ls : List (List ℕ)). ls ++ alive_if classes n (class_at st.objects n) (slice_index references n)) (alive_same classes st references d counts balance held n (omega arith))
     ∙ ap (λ (ls : List (List ℕ)). alive_from classes 0 (take n st.objects) st ++ ls) (
     ap (λ (c : Option ℕ). alive_if classes n c (slice_index references n)) (class_read st.objects n d lt)
     ∙ ap (alive_if classes n (Some ob.class)) (counts.at n lt)
-    ∙ object_same classes n ob st (balance n ∙ made)
+    ∙ object_same classes n ob st (balance n ∙ made) held
     ∙ ap (λ (k : ℕ). alive_from classes k (ob ∷ []) st) (sym place))
     ∙ sym (alive_from-append classes 0 (take n st.objects) (ob ∷ []) st)
     ∙ ap (λ (obs : List Object). alive_from classes 0 obs st) (sym (take_more st.objects n d lt) ∙ ap (λ (k : ℕ). take k st.objects) (sym more))
@@ -101,12 +87,14 @@ alive_same classes st references d counts balance (suc n) h =
 pub run_text-rendering : (s : Script) (journal : List Entry) (objects : List Object) (references : List ℕ) (finals : ℕ) → IsOver s journal objects references finals → run_text s.classes journal objects references finals ≡ rendering s journal Done
 run_text-rendering s journal objects references finals over =
     let st = After s journal in
+    let keeps = kept s journal over.whole.legal in
+    let held : NoneHeld st.edges = λ b q. keeps.slots b q ∙ ap (times q) (none_left st.objects st.dropped b over.free) in
     let none : Object = record { class = 0; content = text_content false [] } in
     let size : length references ≡ length st.objects = over.counts.size in
     let alive : alive_below s.classes objects references (length references) ≡ alive_lines s.classes st =
     ap (λ (obs : List Object). alive_below s.classes obs references (length references)) over.store
     ∙ ap (alive_below s.classes st.objects references) size
-    ∙ alive_same s.classes st references none over.counts (balanced s journal over.whole.legal) (length st.objects) (omega arith)
+    ∙ alive_same s.classes st references none over.counts keeps.balance held (length st.objects) (omega arith)
     ∙ ap (λ (obs : List Object). alive_from s.classes 0 obs st) (take_all (length st.objects) st.objects (omega arith)) in
     let last : joined (end_words (length journal) (length references) finals (length (alive_below s.classes objects references (length references)))) ≡ end_line journal st Done (length (alive_lines s.classes st)) = rw (alive, size, over.count) refl in
     let ends : ends_of s.classes (length journal) objects references finals ≡ alive_lines s.classes st ++ end_line journal st Done (length (alive_lines s.classes st)) ∷ [] = rw (last, alive) refl in

@@ -1,16 +1,16 @@
 -- What a run keeps in place of references: one number for each object, and the objects of the variables.
-use Rattle.std.specs.Prelude.{◌≡◌, ℕ, suc, ◌+◌, ◌-◌, ◌<◌, ◌≤◌, ◌^◌, List, [], ◌∷◌, ◌++◌, length, Option, Some, None, slice_set, slice_index, slice_index_or, ◌==◌, if◌then◌else◌}
+use Rattle.std.specs.Prelude.{◌≡◌, ℕ, suc, ◌+◌, ◌-◌, ◌<◌, ◌≤◌, ◌^◌, List, [], ◌∷◌, ◌++◌, length, Option, Some, None, slice_get, slice_set, slice_index, slice_index_or, ◌==◌, if◌then◌else◌}
 use Rattle.cf_ids.specs.declared.answer.Answer.{Answer}
 use Rattle.cf_ids.specs.declared.answer.Answer.TheVariants as answers
 use Rattle.cf_syntax.specs.declared.script.Script.{Script}
 use Rattle.cf_syntax.specs.declared.statement.Touch.{Touch}
 use Rattle.cf_syntax.specs.declared.statement.Touch.TheVariants.{Nothing, Binds, Plus, Minus}
 use Rattle.cf_graph.specs.Edges.{Reference}
-use Rattle.cf_contents.specs.Contents.{Object}
+use Rattle.cf_contents.specs.Contents.{Object, slots_at}
 use Rattle.cf_contents.specs.Deeds.{Source, nowhere, fresh}
 use Rattle.cf_model.specs.declared.action.Entry.{Entry}
 use Rattle.cf_model.specs.State.{Binding, start, look, degree}
-use Rattle.cf_model.specs.Steps.{answer_without}
+use Rattle.cf_model.specs.Steps.{answer_with}
 use Rattle.cf_model.specs.Journals.{After, IsLegal, IsWhole}
 use Rattle.cf_model.specs.Serial.{IsSerialFrom}
 use Rattle.cf_model.proofs.Growth.{pointer_after}
@@ -50,7 +50,7 @@ answer_at (Plus v) o objects references other = other
 answer_at (Minus v) o objects references other = released (class_at objects o) (slice_index references o)
 
 abbrev pub answer_now : Touch → Option ℕ → List Object → List ℕ → Answer → Answer
-answer_now touch None objects references other = answer_without touch other
+answer_now touch None objects references other = answer_with touch other
 answer_now touch (Some o) objects references other = answer_at touch o objects references other
 
 -- the numbers after a touch
@@ -119,6 +119,10 @@ pub record Tables (made : ℕ) (bindings : List Binding) (table : List (Option �
   pub at : (v : ℕ) → held_at table v ≡ look v bindings
   pub room : made ≤ somes table
 
+-- no object has slots: no form so far makes any
+abbrev pub SlotFree : List Object → Type 0
+SlotFree objects = (b : ℕ) → slots_at (slice_get objects b) ≡ []
+
 -- a run as far as it has come
 pub record IsAt (s : Script) (journal : List Entry) (objects : List Object) (references : List ℕ) (table : List (Option ℕ)) (finals : ℕ) : Type 0 where
   pub legal : IsLegal s journal
@@ -130,6 +134,8 @@ pub record IsAt (s : Script) (journal : List Entry) (objects : List Object) (ref
   pub count : finals ≡ length (After s journal).finalised
   pub few : (o : ℕ) → degree o (After s journal).edges ≤ length journal
   pub few_finals : length (After s journal).finalised ≤ length journal
+  pub idle : (After s journal).frame.work ≡ []
+  pub free : SlotFree (After s journal).objects
 
 -- a run that is over: its journal is whole and in the serial order, and its numbers are those that are left
 pub record IsOver (s : Script) (journal : List Entry) (objects : List Object) (references : List ℕ) (finals : ℕ) : Type 0 where
@@ -139,3 +145,4 @@ pub record IsOver (s : Script) (journal : List Entry) (objects : List Object) (r
   pub counts : Counts (length (After s journal).objects) (After s journal).edges references
   pub count : finals ≡ length (After s journal).finalised
   pub few : length references < 65536
+  pub free : SlotFree (After s journal).objects

@@ -1,7 +1,7 @@
 //! The lines that are written, each ended by a line feed.
 ghost use Rattle.std.specs.Prelude.{◌≡◌, ◌+◌, ◌<◌, ◌++◌, ◌∷◌, [], codes, length, slice_index_or, IfOk, OnOk};
 ghost use Rattle.std.specs.String.{string_bytes};
-ghost use Rattle.cf_model.specs.Rendering.{joined, object_line, line_of, lines_if, text_of_lines};
+ghost use Rattle.cf_model.specs.Rendering.{joined, object_line, drop_words, line_of, lines_if, text_of_lines};
 ghost use Rattle.cf_run.specs.Outcomes.{reason_word as word_of, refusal_text};
 ghost use Rattle.cf_run.specs.Lines.{lent, gap, text_of, class_at, alive_words, alive_if, alive_below, end_words, ends_of, text_in};
 
@@ -22,37 +22,65 @@ fn push_word(line: &mut Vec<u8>, words: &[&[u8]], number: usize) -> Result<(), A
     line.extend_from_slice(words[number])
 }
 
-// A line of these words, joined by single spaces.
-fn line(alloc: Global, words: &[&[u8]]) -> Result<Vec<u8>, AllocError>
-    ensures { IfOk result (λ l. l.items ≡ joined (lent words.now) ++ 10 ∷ []) }
+// These words, joined by single spaces.
+fn join(alloc: Global, words: &[&[u8]]) -> Result<Vec<u8>, AllocError>
+    ensures { IfOk result (λ l. l.items ≡ joined (lent words.now)) }
 {
     let mut line = Vec::new(alloc);
     for number in 0..words.len() {
         push_word(&mut line, words, number)?;
     }
+    Ok(line)
+}
+
+// A line of these words.
+fn line(alloc: Global, words: &[&[u8]]) -> Result<Vec<u8>, AllocError>
+    ensures { IfOk result (λ l. l.items ≡ joined (lent words.now) ++ 10 ∷ []) }
+{
+    let mut line = join(alloc, words)?;
     line.push(b'\n')?;
     Ok(line)
 }
 
-// The line of a release that finalises an object of a type of this name.
+// The line of an action that finalises an object of a type of this name.
 fn final_line(
     alloc: Global,
     thread: ThreadId,
+    action: &[u8],
     object: ObjId,
     name: &[u8],
 ) -> Result<Vec<u8>, AllocError>
-    ensures { IfOk result (λ l. l.items ≡ object_line thread (codes "release") object (codes "final" ∷ name.now ∷ []) ++ 10 ∷ []) }
+    ensures { IfOk result (λ l. l.items ≡ object_line thread action.now object (codes "final" ∷ name.now ∷ []) ++ 10 ∷ []) }
 {
     let thread = thread.to_string(alloc)?;
     let object = object.to_string(alloc)?;
-    let words = [
-        thread.as_bytes(),
-        b"release",
-        object.as_bytes(),
-        b"final",
-        name,
-    ];
+    let words = [thread.as_bytes(), action, object.as_bytes(), b"final", name];
     line(alloc, &words)
+}
+
+// The words of a slot that a body gives up.
+fn slot_words(alloc: Global, body: ObjId, place: u32) -> Result<Vec<u8>, AllocError>
+    ensures { IfOk result (λ w. w.items ≡ drop_words body place) }
+{
+    let body = body.to_string(alloc)?;
+    let place = place.to_string(alloc)?;
+    let words = [b"drop".as_slice(), body.as_bytes(), place.as_bytes()];
+    join(alloc, &words)
+}
+
+// The line of a slot that a body gives up, where that finalises the object.
+fn drop_line(
+    alloc: Global,
+    thread: ThreadId,
+    body: ObjId,
+    place: u32,
+    object: ObjId,
+    name: &[u8],
+) -> Result<Vec<u8>, AllocError>
+    ensures { IfOk result (λ l. l.items ≡ object_line thread (drop_words body place) object (codes "final" ∷ name.now ∷ []) ++ 10 ∷ []) }
+{
+    let action = slot_words(alloc, body, place)?;
+    final_line(alloc, thread, &action, object, name)
 }
 
 // The line of an object that is shown.
@@ -84,7 +112,25 @@ pub fn entry_line(
                 return Ok(None);
             };
             let name = class_name(classes, *class);
-            Ok(Some(final_line(alloc, entry.thread, object, name)?))
+            let line = final_line(alloc, entry.thread, b"release", object, name)?;
+            Ok(Some(line))
+        }
+        (Action::Owed(object), Answer::Final(class)) => {
+            let name = class_name(classes, *class);
+            let line = final_line(alloc, entry.thread, b"release", *object, name)?;
+            Ok(Some(line))
+        }
+        (
+            Action::DropSlot {
+                body,
+                place,
+                object,
+            },
+            Answer::Final(class),
+        ) => {
+            let name = class_name(classes, *class);
+            let line = drop_line(alloc, entry.thread, *body, *place, *object, name)?;
+            Ok(Some(line))
         }
         (Action::Show { used, .. }, Answer::Shown(description)) => {
             let Some(object) = used[0] else {

@@ -1,7 +1,7 @@
 -- What the store tells of a statement that was applied.
 use Rattle.std.specs.Prelude.{◌≡◌, ℕ, List, Option, None, Some, Result, Ok, Err}
 use Rattle.cf_contents.specs.Contents.{Content, Object}
-use Rattle.cf_contents.specs.Deeds.{Source, nowhere, fresh, Deed, changed_by}
+use Rattle.cf_contents.specs.Deeds.{Source, nowhere, fresh, Deed, content_after, changed_by}
 use Rattle.cf_store.specs.declared.store.Applied.{Applied}
 
 -- a body that is new, or none
@@ -13,11 +13,6 @@ source_of (Some o) = fresh o
 pub record IsDeed (deed : Deed) (a : Applied) : Type 0 where
   pub answer : a.answer ≡ deed.answer
   pub source : source_of a.fresh ≡ deed.source
-
--- a content after a change, if there is one
-abbrev pub content_after : Option Content → Content → Content
-content_after None content = content
-content_after (Some changed) content = changed
 
 -- the deed is done to a content, or a refusal has left it as it was
 abbrev pub DoneTo : {E : Type 0} → Deed → (old new : Content) → Result Applied E → Type 0

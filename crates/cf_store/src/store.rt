@@ -3,7 +3,7 @@ ghost use Rattle.std.specs.Prelude.{◌≡◌, ◌++◌, ◌∷◌, ◌<◌, [],
 ghost use Rattle.std.specs.Option.{option_map, option_copied};
 ghost use Rattle.cf_contents.specs.Contents.{text_content, data_content};
 ghost use Rattle.cf_contents.specs.Descriptions.{description};
-ghost use Rattle.cf_contents.specs.Deeds.{made, answered, changed_to, with_object, with_text, with_mutable_text, with_mutable_data, with_number, edited_text, edited_data, part_of, as_kind, first_of, object_of, deed_of, deed_at, changed_by};
+ghost use Rattle.cf_contents.specs.Deeds.{unchanged, made, answered, changed_to, with_object, with_text, with_mutable_text, with_mutable_data, with_number, edited_text, edited_data, part_of, as_kind, first_of, object_of, deed_of, deed_at, resolved, changed_by};
 ghost use Rattle.cf_store.specs.Bodies.{content_of, text_of};
 ghost use Rattle.cf_store.specs.Applies.{IsDeed, DoneAmong};
 
@@ -108,7 +108,7 @@ impl Store {
     ) -> Result<Applied, NoMemory>
         ensures deed { IfOk result (λ a. IsDeed (deed_at classes.now self.old statement.now used.now) a) }
         ensures objects { OnOk result (self.new
-            ≡ changed_by (first_of used.now) (deed_at classes.now self.old statement.now used.now).change self.old) }
+            ≡ changed_by (first_of used.now) (resolved used.now (deed_at classes.now self.old statement.now used.now).change) self.old) }
         ensures refused { OnErr result (self.new ≡ self.old) }
     {
         let [first, second, _] = *used;
@@ -203,7 +203,7 @@ impl Store {
     /// Reads a number as one of a kind.
     fn read_as(&self, o: Option<ObjId>, kind: NumKind) -> Applied
         ensures told { IsDeed (with_number (object_of self.now o) (as_kind kind)) result }
-        ensures kept { (with_number (object_of self.now o) (as_kind kind)).change ≡ None }
+        ensures kept { (with_number (object_of self.now o) (as_kind kind)).change ≡ unchanged }
     {
         let Some(number) = self.body(o).and_then(Body::number) else {
             return Applied::answered(Answer::Skip);

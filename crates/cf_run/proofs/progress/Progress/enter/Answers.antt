@@ -3,6 +3,7 @@ use Rattle.std.specs.Prelude.{OnOk}
 use Rattle.cf_model.specs.declared.action.Entry.{Entry}
 use Rattle.cf_model.specs.Steps.{found}
 use Rattle.cf_store.specs.Applies.{source_of}
+use Rattle.cf_run.proofs.Plain.{resolved_plain}
 use Rattle.cf_run.proofs.Entering.{StepTold, WentOn, step_goes, few_made, can_count, touched_told, used_in, on_ok}
 use Rattle.cf_run.proofs.progress.Progress.enter.Goals as goal
 
@@ -38,7 +39,7 @@ went c =
       touch_is = c.touch-touch.ensures;
       used_is = c.used_objects-used.ensures;
       made_is = c.count-made.ensures;
-      mid_is = rw classes at c.in_ok-answer.ensures.objects;
+      mid_is = (rw classes at c.in_ok-answer.ensures.objects) ∙ resolved_plain s.classes self.store x c.used_objects-used.result;
       other_is = rw classes at deed.answer;
       source_is = rw classes at deed.source;
       object_is = c.object_touched-object.ensures;

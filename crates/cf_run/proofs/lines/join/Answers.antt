@@ -1,9 +1,9 @@
-use Rattle.std.proofs.Common.{◌≤◌, ◌<◌, ◌++◌, ◌∷◌, [], List, ℕ, length, ap, ◌∙◌, arith}
+use Rattle.std.proofs.Common.{◌≤◌, ◌<◌, length, arith}
 use Rattle.std.proofs.lemmas.List.{length-map}
 use Rattle.cf_model.specs.Rendering.{joined}
 use Rattle.cf_run.specs.Lines.{lent}
 use Rattle.cf_run.proofs.Words.{word_written, words_written}
-use Rattle.cf_run.proofs.lines.line.Goals as goal
+use Rattle.cf_run.proofs.lines.join.Goals as goal
 
 pub loop-number-preserved : goal.loop-number-preserved
 loop-number-preserved c =
@@ -15,4 +15,4 @@ pub returns : goal.returns
 returns c =
     let words = c.args.words.now in
     let past : length (lent words) ≤ c.loop-number.number = omega (arith, length-map words (λ w. w.now)) in
-    c.in_ok-push.ensures.items ∙ ap (λ (l : List ℕ). l ++ 10 ∷ []) (words_written (lent words) c.loop-number.number c.loop-number.line.items (joined (lent words)) past c.loop-number.invariant)
+    words_written (lent words) c.loop-number.number c.loop-number.line.items (joined (lent words)) past c.loop-number.invariant

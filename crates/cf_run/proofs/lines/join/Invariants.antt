@@ -2,7 +2,7 @@ use Rattle.std.proofs.Common.{◌≡◌, ◌++◌, drop}
 use Rattle.cf_model.specs.Rendering.{joined}
 use Rattle.cf_run.specs.Lines.{lent}
 use Rattle.cf_run.proofs.Words.{rest_of}
-use Rattle.cf_run.proofs.lines.line.Given as goal
+use Rattle.cf_run.proofs.lines.join.Given as goal
 
 -- what was written, and what is still to be written
 abbrev pub invariant-loop-number : goal.invariant-loop-number

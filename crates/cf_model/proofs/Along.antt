@@ -1,0 +1,132 @@
+-- Along legal journals all is kept.
+use Rattle.std.proofs.Common.{◌≡◌, ℕ, zero, suc, ◌<◌, List, [], ◌∷◌, map, length, Option, Some, None, eqb, ltb, refl, sym, ap, ◌∙◌, subst, arith, inl, inr}
+use Rattle.std.proofs.lemmas.Bool.{and_parts, eqb-true, ltb-true}
+use Rattle.std.proofs.lemmas.Bool.Decides.{eqb_tells}
+use Rattle.cf_ids.specs.declared.answer.Answer.{Answer}
+use Rattle.cf_graph.specs.Edges.{counted}
+use Rattle.cf_syntax.specs.declared.script.Script.{Script}
+use Rattle.cf_syntax.specs.declared.script.ClassLine.{ClassLine}
+use Rattle.cf_syntax.specs.declared.statement.Statement.{Statement}
+use Rattle.cf_syntax.specs.declared.statement.Touch.{Touch}
+use Rattle.cf_syntax.specs.declared.statement.Touch.TheVariants.{Nothing, Binds, Plus, Minus}
+use Rattle.cf_syntax.specs.Forms.{touch_of}
+use Rattle.cf_contents.specs.Contents.{Content, text_content, data_content, number_content, instance_content, Object, times, present}
+use Rattle.cf_contents.specs.Deeds.{Source, Splice, Change, unchanged, contents, places, first_of, second_of, object_of, deed_at, used_at, chosen, resolved, entering, taken_in}
+use Rattle.cf_contents.proofs.SlotLaws.{MakesEmpty, LeavesEmpty, FindsEmpty, leaves-resolved, finds-resolved}
+use Rattle.cf_contents.proofs.FormLaws.{form_keeps}
+use Rattle.cf_model.specs.declared.action.Action.{Action}
+use Rattle.cf_model.specs.declared.action.Entry.{Entry}
+use Rattle.cf_model.specs.State.{State, Work, slots_of, start}
+use Rattle.cf_model.specs.Actions.{action_of}
+use Rattle.cf_model.specs.Steps.{touch_step, statement_step, step_for, effect, statement_in}
+use Rattle.cf_model.specs.Journals.{MayUse, MayUseAll, next_of, used_of, named_of, IsLegalEntry, IsLegalFrom, IsLegal, state_from, After}
+use Rattle.cf_model.proofs.Balance.{not_made}
+use Rattle.cf_model.proofs.Demands.{Demand, of_frame, of_owed, of_slot, legal_is_demanded}
+use Rattle.cf_model.proofs.FrameSteps.{frame_step, site_in, step_for-demanded, used_of-action_of}
+use Rattle.cf_model.proofs.Kept.{AllFinal, IsKept, KeepsStep, kept_after}
+use Rattle.cf_model.proofs.Keeping.{IsLive, IsLiveIf, reference_kept, change_kept, done_kept, owed_kept, drop_kept}
+
+-- what may be used is live
+pub live_parts : (st : State) (t : ℕ) (body : Option ℕ) (o : ℕ) → MayUse st t body o → IsLive st o
+live_parts st t body o h =
+    let p = and_parts (ltb o (length st.objects)) (eqb (times o st.finalised) 0) h.live in
+    (eqb-true (times o st.finalised) 0 p.1, ltb-true o (length st.objects) p.0)
+
+pub live_if : (st : State) (t : ℕ) (body : Option ℕ) (used : List (Option ℕ)) → MayUseAll st t body used → IsLiveIf st (first_of used)
+live_if st t body [] h = tt
+live_if st t body (None ∷ os) h = tt
+live_if st t body (Some o ∷ os) h = live_parts st t body o h.0
+
+object_is : (o p : ℕ) → ◌≡◌ {A = Option ℕ} (Some p) (Some o) → p ≡ o
+object_is o p e = cc
+
+used_live : (st : State) (t : ℕ) (body : Option ℕ) (used : List (Option ℕ)) (i o : ℕ) → MayUseAll st t body used → used_at used i ≡ Some o → IsLive st o
+used_live st t body [] i o h e = absurd cc
+used_live st t body (None ∷ os) zero o h e = absurd cc
+used_live st t body (None ∷ os) (suc i) o h e = used_live st t body os i o h e
+used_live st t body (Some p ∷ os) zero o h e = subst (IsLive st) (object_is o p e) (live_parts st t body p h.0)
+used_live st t body (Some p ∷ os) (suc i) o h e = used_live st t body os i o h.1 e
+
+-- what comes into places is live
+module _ (st : State) (t : ℕ) (body : Option ℕ) (used : List (Option ℕ)) (h : MayUseAll st t body used) (o : ℕ) where
+  place_live : (p : Option ℕ) (i : ℕ) (ps : List (Option ℕ)) → used_at used i ≡ p → (0 < times o (present ps) → IsLive st o) → 0 < times o (present (p ∷ ps)) → IsLive st o
+  place_live None i ps e rest some = rest some
+  place_live (Some q) i ps e rest some = elim (eqb_tells q o) [
+    | inl here ↦ subst (IsLive st) here.1 (used_live st t body used i q h e)
+    | inr other ↦ rest (let none : counted (eqb q o) ≡ 0 = ap counted other.0 in omega arith)
+  ]
+
+  chosen_live : (is : List (Option ℕ)) → 0 < times o (present (map (chosen used) is)) → IsLive st o
+  chosen_live [] some = absurd (omega arith)
+  chosen_live (None ∷ is) some = chosen_live is some
+  chosen_live (Some i ∷ is) some = place_live (used_at used i) i (map (chosen used) is) refl (chosen_live is) some
+
+  entering_live : (c : Content) (e : Splice) → 0 < times o (entering c (record { at = e.at; out = e.out; enter = map (chosen used) e.enter })) → IsLive st o
+  entering_live (text_content mutable units) e some = absurd (omega arith)
+  entering_live (data_content mutable bytes) e some = absurd (omega arith)
+  entering_live (number_content n) e some = absurd (omega arith)
+  entering_live (instance_content key fields) e some = chosen_live e.enter some
+
+  pub taken_live : (ob : Option Object) (change : Change) → 0 < times o (taken_in ob (resolved used change)) → IsLive st o
+  taken_live None change some = absurd (omega arith)
+  taken_live (Some ob) unchanged some = absurd (omega arith)
+  taken_live (Some ob) (contents content) some = absurd (omega arith)
+  taken_live (Some ob) (places e) some = entering_live ob.content e some
+
+touch_kept : (t : ℕ) (touch : Touch) (answer : Answer) (source : Source) (used : Option ℕ) (change : Change) (st : State) → IsKept st → MakesEmpty source → LeavesEmpty change → FindsEmpty (object_of st.objects used) change → IsLiveIf st used → ((o : ℕ) → 0 < times o (taken_in (object_of st.objects used) change) → IsLive st o) → KeepsStep st (touch_step t touch answer source used change st)
+touch_kept t Nothing answer source used change st h makes leaves finds live enters = change_kept t answer used change st h leaves finds live enters
+touch_kept t (Binds v) answer source used change st h makes leaves finds live enters = reference_kept t (Binds v) answer source used st h makes live
+touch_kept t (Plus v) answer source used change st h makes leaves finds live enters = reference_kept t (Plus v) answer source used st h makes live
+touch_kept t (Minus v) answer source used change st h makes leaves finds live enters = reference_kept t (Minus v) answer source used st h makes live
+
+-- the step of each statement, by what its form keeps of slots
+pub statement_kept : (classes : List ClassLine) (t : ℕ) (body : Option ℕ) (x : Statement) (used : List (Option ℕ)) (st : State) → IsKept st → MayUseAll st t body used → KeepsStep st (statement_step classes t x used st)
+statement_kept classes t body x used st h uses =
+    let deed = deed_at classes st.objects x used in
+    let a = object_of st.objects (first_of used) in
+    let form = form_keeps classes x a (object_of st.objects (second_of used)) in
+    touch_kept t (touch_of x) deed.answer deed.source (first_of used) (resolved used deed.change) st h form.plain.makes
+    (leaves-resolved used deed.change form.plain.leaves) (finds-resolved used deed.change a form.finds)
+    (live_if st t body used uses) (λ o some. taken_live st t body used uses o a deed.change some)
+
+frame_kept : (classes : List ClassLine) (t : ℕ) (st : State) (o : Option Statement) → IsKept st → MayUseAll st t (named_of (next_of st.frame o)) (used_of (next_of st.frame o)) → KeepsStep st (frame_step classes t st o)
+frame_kept classes t st None h uses = done_kept st h
+frame_kept classes t st (Some x) h uses =
+    let site = site_in st.frame x in
+    statement_kept classes t (named_of (action_of x site)) x site.used st h (subst (MayUseAll st t (named_of (action_of x site))) (used_of-action_of x site) uses)
+
+waiting_final : (st : State) (b : ℕ) (rest : List Work) → IsKept st → st.frame.work ≡ slots_of b ∷ rest → 0 < times b st.finalised
+waiting_final st b rest h w = (subst (AllFinal st.finalised) w h.waiting).0
+
+pub action_kept : (s : Script) (t : ℕ) (st : State) (a : Action) → IsKept st → Demand s st st.frame.work a → MayUseAll st t (named_of a) (used_of a) → KeepsStep st (step_for s t st a)
+action_kept s t st a h (of_frame w e) uses =
+    let o = statement_in s st.frame.block st.frame.number in
+    let kept = frame_kept s.classes t st o h (subst (λ (x : Action). MayUseAll st t (named_of x) (used_of x)) e uses) in
+    subst (KeepsStep st) (sym (ap (step_for s t st) e ∙ step_for-demanded s t st)) kept
+action_kept s t st a h (of_owed o rest w e) uses =
+    let may = subst (λ (x : Action). MayUseAll st t (named_of x) (used_of x)) e uses in
+    subst (KeepsStep st) (sym (ap (step_for s t st) e)) (owed_kept t o st h (live_parts st t None o may.0))
+action_kept s t st a h (of_slot b o rest os w l e) uses =
+    let may = subst (λ (x : Action). MayUseAll st t (named_of x) (used_of x)) e uses in
+    subst (KeepsStep st) (sym (ap (step_for s t st) e)) (drop_kept b o os st h l (waiting_final st b rest h w) (live_parts st t (Some b) o may.0))
+
+pub entry_kept : (s : Script) (st : State) (e : Entry) → IsKept st → IsLegalEntry s st e → IsKept (effect s e.thread st e.action)
+entry_kept s st e h legal =
+    let d = legal_is_demanded s st e legal.next in
+    kept_after st (step_for s e.thread st e.action) h (action_kept s e.thread st e.action h d.demand legal.uses)
+
+pub kept_from : (s : Script) (st : State) (es : List Entry) → IsKept st → IsLegalFrom s st es → IsKept (state_from s st es)
+kept_from s st [] h legal = h
+kept_from s st (e ∷ es) h legal = kept_from s (effect s e.thread st e.action) es (entry_kept s st e h legal.0) legal.1
+
+pub start_kept : IsKept start
+start_kept = record {
+  balance = λ o. sym (not_made o 0 (omega arith));
+  slots = λ b o. refl;
+  undropped = λ b e. refl;
+  waiting = tt;
+}
+
+-- after each legal journal all is kept
+pub kept : (s : Script) (es : List Entry) → IsLegal s es → IsKept (After s es)
+kept s es legal = kept_from s start es start_kept legal

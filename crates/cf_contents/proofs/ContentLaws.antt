@@ -1,4 +1,4 @@
--- A change of contents makes and loses no object, and changes no type.
+-- A change of contents makes and loses no object, and changes no type. None at all changes nothing.
 use Rattle.std.proofs.Common.{◌≡◌, ℕ, zero, suc, List, [], ◌∷◌, length, Option, Some, None, refl, ap}
 use Rattle.std.specs.Prelude.{slice_get}
 use Rattle.std.specs.Option.{option_map}
@@ -34,3 +34,7 @@ class-with_change o (places e) objects p = class-with_content o (places e) objec
 pub class-changed_by : (o : Option ℕ) (change : Change) (objects : List Object) (p : ℕ) → option_map (λ (ob : Object). ob.class) (slice_get (changed_by o change objects) p) ≡ option_map (λ (ob : Object). ob.class) (slice_get objects p)
 class-changed_by None change objects p = refl
 class-changed_by (Some o) change objects p = class-with_change o change objects p
+
+pub changed_by-unchanged : (o : Option ℕ) (objects : List Object) → changed_by o unchanged objects ≡ objects
+changed_by-unchanged None objects = refl
+changed_by-unchanged (Some o) objects = refl

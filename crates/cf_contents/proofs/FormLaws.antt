@@ -1,6 +1,7 @@
 -- What each form keeps of slots: a new object has none, and contents that change have none before and after.
 use Rattle.std.proofs.Common.{◌≡◌, ℕ, ℤ, Bool, true, false, cond, List, [], Option, Some, None, refl}
 use Rattle.std.specs.Prelude.{nat_lt, length, ◌+◌}
+use Rattle.cf_ids.specs.declared.answer.Answer.{Answer}
 use Rattle.cf_number.specs.declared.kinds.NumKind.{NumKind}
 use Rattle.cf_number.specs.Numbers.{Number}
 use Rattle.cf_number.specs.Kinds.{fits_kind}
@@ -14,7 +15,7 @@ use Rattle.cf_syntax.specs.declared.statement.Touch.{Touch}
 use Rattle.cf_syntax.specs.declared.statement.Touch.TheVariants.{Nothing, Binds, Plus, Minus}
 use Rattle.cf_syntax.specs.Forms.{touch_of}
 use Rattle.cf_contents.specs.Contents.{Content, text_content, data_content, number_content, Object, slots_in, slots_at, instance_of}
-use Rattle.cf_contents.specs.Deeds.{Change, unchanged, contents, places, Deed, with_object, text_in, mutable_text_in, mutable_data_in, number_in, with_text, unless_cut, edited_text, edited_data, part_of, as_kind, fresh_if, line_of, deed_of, resolved}
+use Rattle.cf_contents.specs.Deeds.{Change, unchanged, contents, places, Deed, answered, with_object, text_in, mutable_text_in, mutable_data_in, number_in, with_text, unless_cut, edited_text, edited_data, part_of, as_kind, fresh_if, line_of, deed_of, resolved}
 use Rattle.cf_contents.proofs.SlotLaws.{present-empty, MakesEmpty, LeavesEmpty, FindsEmpty}
 
 -- no form edits places so far
@@ -38,6 +39,13 @@ pub record KeepsSlots (ob : Option Object) (d : Deed) : Type 0 where
   pub plain : IsPlain d
   pub finds : FindsEmpty ob d.change
 
+-- a deed that only answers
+answers_plain : (a : Answer) → IsPlain (answered a)
+answers_plain a = record { makes = tt; leaves = tt; edits = tt }
+
+answers_keep : (ob : Option Object) (a : Answer) → KeepsSlots ob (answered a)
+answers_keep ob a = record { plain = answers_plain a; finds = tt }
+
 if_plain : (b : Bool) (d e : Deed) → IsPlain d → IsPlain e → IsPlain (cond b d e)
 if_plain true d e p q = p
 if_plain false d e p q = q
@@ -55,34 +63,34 @@ keeps ob d h p = record { plain = p; finds = finds_if (Some ob) d.change h }
 
 mutable_text_keeps : (class : ℕ) (c : Content) (f : List ℕ → Deed) → ((xs : List ℕ) → IsPlain (f xs)) → KeepsSlots (Some (record { class = class; content = c })) (mutable_text_in c f)
 mutable_text_keeps class (text_content true units) f p = keeps _ (f units) refl (p units)
-mutable_text_keeps class _ f p = record { plain = record { makes = tt; leaves = tt; edits = tt }; finds = tt }
+mutable_text_keeps class _ f p = answers_keep _ _
 
 text_keeps : (class : ℕ) (c : Content) (f : List ℕ → Deed) → ((xs : List ℕ) → IsPlain (f xs)) → KeepsSlots (Some (record { class = class; content = c })) (text_in c f)
 text_keeps class (text_content mutable units) f p = keeps _ (f units) refl (p units)
-text_keeps class _ f p = record { plain = record { makes = tt; leaves = tt; edits = tt }; finds = tt }
+text_keeps class _ f p = answers_keep _ _
 
 mutable_data_keeps : (class : ℕ) (c : Content) (f : List ℕ → Deed) → ((xs : List ℕ) → IsPlain (f xs)) → KeepsSlots (Some (record { class = class; content = c })) (mutable_data_in c f)
 mutable_data_keeps class (data_content true bytes) f p = keeps _ (f bytes) refl (p bytes)
-mutable_data_keeps class _ f p = record { plain = record { makes = tt; leaves = tt; edits = tt }; finds = tt }
+mutable_data_keeps class _ f p = answers_keep _ _
 
 number_keeps : (class : ℕ) (c : Content) (f : Number → Deed) → ((n : Number) → IsPlain (f n)) → KeepsSlots (Some (record { class = class; content = c })) (number_in c f)
 number_keeps class (number_content n) f p = keeps _ (f n) refl (p n)
-number_keeps class _ f p = record { plain = record { makes = tt; leaves = tt; edits = tt }; finds = tt }
+number_keeps class _ f p = answers_keep _ _
 
 with_keeps : (ob : Option Object) (f : Object → Deed) → ((o : Object) → KeepsSlots (Some o) (f o)) → KeepsSlots ob (with_object ob f)
-with_keeps None f h = record { plain = record { makes = tt; leaves = tt; edits = tt }; finds = tt }
+with_keeps None f h = answers_keep _ _
 with_keeps (Some o) f h = h o
 
 -- the deed by a second text is plain where it is by each text
 second_plain : (ob : Option Object) (f : List ℕ → Deed) → ((xs : List ℕ) → IsPlain (f xs)) → IsPlain (with_text ob f)
-second_plain None f h = record { makes = tt; leaves = tt; edits = tt }
+second_plain None f h = answers_plain _
 second_plain (Some o) f h = (text_keeps o.class o.content f h).plain
 
 cut_plain : (fault : Option StrFault) (d : Deed) → IsPlain d → IsPlain (unless_cut fault d)
 cut_plain None d p = p
-cut_plain (Some Range) d p = record { makes = tt; leaves = tt; edits = tt }
-cut_plain (Some SplitsPair) d p = record { makes = tt; leaves = tt; edits = tt }
-cut_plain (Some _) d p = record { makes = tt; leaves = tt; edits = tt }
+cut_plain (Some Range) d p = answers_plain _
+cut_plain (Some SplitsPair) d p = answers_plain _
+cut_plain (Some _) d p = answers_plain _
 
 text_plain : (at len : ℕ) (other units : List ℕ) → IsPlain (edited_text units at len other)
 text_plain at len other units = cut_plain (cut_fault units at len) _ (record { makes = tt; leaves = refl; edits = tt })
@@ -91,20 +99,20 @@ part_plain : (at len : ℕ) (units : List ℕ) → IsPlain (part_of units at len
 part_plain at len units = cut_plain (cut_fault units at len) _ (record { makes = refl; leaves = tt; edits = tt })
 
 data_plain : (at len : ℕ) (other bytes : List ℕ) → IsPlain (edited_data bytes at len other)
-data_plain at len other bytes = if_plain (nat_lt (length bytes) (at + len)) _ _ (record { makes = tt; leaves = tt; edits = tt }) (record { makes = tt; leaves = refl; edits = tt })
+data_plain at len other bytes = if_plain (nat_lt (length bytes) (at + len)) _ _ (answers_plain _) (record { makes = tt; leaves = refl; edits = tt })
 
 as_plain : (kind : NumKind) (n : Number) → IsPlain (as_kind kind n)
-as_plain kind n = if_plain (fits_kind kind n.value) _ _ (record { makes = tt; leaves = tt; edits = tt }) (record { makes = tt; leaves = tt; edits = tt })
+as_plain kind n = if_plain (fits_kind kind n.value) _ _ (answers_plain _) (answers_plain _)
 
 instance_keeps : (class : ℕ) (key : ℤ) (line : Option ClassLine) (ob : Option Object) → KeepsSlots ob (fresh_if (instance_of class key line))
-instance_keeps class key None ob = record { plain = record { makes = tt; leaves = tt; edits = tt }; finds = tt }
+instance_keeps class key None ob = answers_keep _ _
 instance_keeps class key (Some line) ob = record { plain = record { makes = present-empty line.fields; leaves = tt; edits = tt }; finds = tt }
 
 -- ---- by forms
 
 pub form_keeps : (classes : List ClassLine) (s : Statement) (a b : Option Object) → KeepsSlots a (deed_of classes s a b)
 form_keeps classes (forms.New v (Some class) key) a b = instance_keeps class key (line_of classes class) a
-form_keeps classes (forms.Show v) a b = with_keeps a _ (λ o. record { plain = record { makes = tt; leaves = tt; edits = tt }; finds = tt })
+form_keeps classes (forms.Show v) a b = with_keeps a _ (λ o. answers_keep _ _)
 form_keeps classes (forms.StrAppend v other) a b = with_keeps a _ (λ o. mutable_text_keeps o.class o.content _ (λ units. second_plain b _ (λ more. record { makes = tt; leaves = refl; edits = tt })))
 form_keeps classes (forms.StrInsert v at text) a b = with_keeps a _ (λ o. mutable_text_keeps o.class o.content _ (text_plain at 0 text))
 form_keeps classes (forms.StrDelete v at len) a b = with_keeps a _ (λ o. mutable_text_keeps o.class o.content _ (text_plain at len []))
@@ -119,7 +127,7 @@ form_keeps classes (forms.MakeMstring v text) a b = record { plain = record { ma
 form_keeps classes (forms.MakeData v bytes) a b = record { plain = record { makes = refl; leaves = tt; edits = tt }; finds = tt }
 form_keeps classes (forms.MakeMdata v bytes) a b = record { plain = record { makes = refl; leaves = tt; edits = tt }; finds = tt }
 form_keeps classes (forms.MakeNumber v n) a b = record { plain = record { makes = refl; leaves = tt; edits = tt }; finds = tt }
-form_keeps classes _ a b = record { plain = record { makes = tt; leaves = tt; edits = tt }; finds = tt }
+form_keeps classes _ a b = answers_keep _ _
 
 -- ---- a statement that takes or binds a reference changes no contents
 

@@ -3,7 +3,7 @@ use Rattle.std.proofs.Common.{◌≡◌, ℕ, zero, suc, ◌+◌, ◌≤◌, Lis
 use Rattle.std.specs.Prelude.{slice_get}
 use Rattle.std.proofs.lemmas.List.{take-append-drop, drop-drop}
 use Rattle.cf_contents.specs.Contents.{Content, text_content, data_content, number_content, instance_content, Object, times, present, slots_in, slots_at}
-use Rattle.cf_contents.specs.Deeds.{Source, nowhere, fresh, Splice, Change, unchanged, contents, places, spliced, removed, edited, entering, leaving, content_after, taken_by, given_by, taken_in, given_out, with_content, with_change, resolved}
+use Rattle.cf_contents.specs.Deeds.{Source, nowhere, fresh, Splice, Change, unchanged, contents, places, spliced, removed, edited, entering, leaving, content_after, coming_in, going_out, taken_in, given_out, with_content, with_change, resolved}
 
 pub times-append : (n : ℕ) (xs ys : List ℕ) → times n (xs ++ ys) ≡ times n xs + times n ys
 times-append n [] ys = omega arith
@@ -52,7 +52,7 @@ FindsEmpty ob (contents content) = slots_at ob ≡ []
 FindsEmpty ob (places e) = Unit {0}
 
 -- the slots after a change, with what it gives out, are those before it with what it takes in
-content_law : (n : ℕ) (ob : Object) (change : Change) → LeavesEmpty change → FindsEmpty (Some ob) change → times n (slots_in (content_after change ob.content)) + times n (given_by change ob.content) ≡ times n (slots_in ob.content) + times n (taken_by change ob.content)
+content_law : (n : ℕ) (ob : Object) (change : Change) → LeavesEmpty change → FindsEmpty (Some ob) change → times n (slots_in (content_after change ob.content)) + times n (going_out change ob.content) ≡ times n (slots_in ob.content) + times n (coming_in change ob.content)
 content_law n ob unchanged l f = refl
 content_law n ob (contents content) l f = rw (l, f) refl
 content_law n ob (places e) l f = edit_law n ob.content e
@@ -94,14 +94,14 @@ leaving_most n (instance_content key fields) e =
     let behind = drop (e.at + e.out) fields in
     omega (arith, times-present n (take e.at fields) (gone ++ behind), times-present n gone behind, ap (λ (ps : List (Option ℕ)). times n (present ps)) (in_parts fields e.at e.out))
 
-given_by_most : (n : ℕ) (change : Change) (c : Content) → times n (given_by change c) ≤ times n (slots_in c)
-given_by_most n unchanged c = omega arith
-given_by_most n (contents content) c = omega arith
-given_by_most n (places e) c = leaving_most n c e
+going_most : (n : ℕ) (change : Change) (c : Content) → times n (going_out change c) ≤ times n (slots_in c)
+going_most n unchanged c = omega arith
+going_most n (contents content) c = omega arith
+going_most n (places e) c = leaving_most n c e
 
 pub given_most : (n : ℕ) (change : Change) (ob : Option Object) → times n (given_out ob change) ≤ times n (slots_at ob)
 given_most n change None = omega arith
-given_most n change (Some ob) = given_by_most n change ob.content
+given_most n change (Some ob) = going_most n change ob.content
 
 -- a new object has no slots
 abbrev pub MakesEmpty : Source → Type 0

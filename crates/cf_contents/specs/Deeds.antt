@@ -202,23 +202,23 @@ content_after unchanged c = c
 content_after (contents content) c = content
 content_after (places e) c = edited c e
 
-abbrev pub taken_by : Change → Content → List ℕ
-taken_by unchanged c = []
-taken_by (contents content) c = []
-taken_by (places e) c = entering c e
+abbrev pub coming_in : Change → Content → List ℕ
+coming_in unchanged c = []
+coming_in (contents content) c = []
+coming_in (places e) c = entering c e
 
-abbrev pub given_by : Change → Content → List ℕ
-given_by unchanged c = []
-given_by (contents content) c = []
-given_by (places e) c = leaving c e
+abbrev pub going_out : Change → Content → List ℕ
+going_out unchanged c = []
+going_out (contents content) c = []
+going_out (places e) c = leaving c e
 
 abbrev pub taken_in : Option Object → Change → List ℕ
 taken_in None change = []
-taken_in (Some ob) change = taken_by change ob.content
+taken_in (Some ob) change = coming_in change ob.content
 
 abbrev pub given_out : Option Object → Change → List ℕ
 given_out None change = []
-given_out (Some ob) change = given_by change ob.content
+given_out (Some ob) change = going_out change ob.content
 
 -- the objects with one of them changed
 abbrev pub with_content : ℕ → Change → List Object → List Object

@@ -23,6 +23,7 @@ use Rattle.cf_model.specs.Journals.{MayUse, MayUseAll, next_of, used_of, named_o
 use Rattle.cf_model.proofs.Balance.{not_made}
 use Rattle.cf_model.proofs.Demands.{Demand, of_frame, of_owed, of_slot, legal_is_demanded}
 use Rattle.cf_model.proofs.FrameSteps.{frame_step, site_in, step_for-demanded, used_of-action_of}
+use Rattle.cf_model.proofs.Holding.{some_is}
 use Rattle.cf_model.proofs.Kept.{AllFinal, IsKept, KeepsStep, kept_after}
 use Rattle.cf_model.proofs.Keeping.{IsLive, IsLiveIf, reference_kept, change_kept, done_kept, owed_kept, drop_kept}
 
@@ -37,14 +38,11 @@ live_if st t body [] h = tt
 live_if st t body (None ∷ os) h = tt
 live_if st t body (Some o ∷ os) h = live_parts st t body o h.0
 
-object_is : (o p : ℕ) → ◌≡◌ {A = Option ℕ} (Some p) (Some o) → p ≡ o
-object_is o p e = cc
-
 used_live : (st : State) (t : ℕ) (body : Option ℕ) (used : List (Option ℕ)) (i o : ℕ) → MayUseAll st t body used → used_at used i ≡ Some o → IsLive st o
 used_live st t body [] i o h e = absurd cc
 used_live st t body (None ∷ os) zero o h e = absurd cc
 used_live st t body (None ∷ os) (suc i) o h e = used_live st t body os i o h e
-used_live st t body (Some p ∷ os) zero o h e = subst (IsLive st) (object_is o p e) (live_parts st t body p h.0)
+used_live st t body (Some p ∷ os) zero o h e = subst (IsLive st) (some_is p o e) (live_parts st t body p h.0)
 used_live st t body (Some p ∷ os) (suc i) o h e = used_live st t body os i o h.1 e
 
 -- what comes into places is live

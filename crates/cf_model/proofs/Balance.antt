@@ -33,7 +33,7 @@ not_made o made h = grind (arith, nat_tests)
 made_more : (o made : ℕ) → (o ≡ made → ⊥) → counted (nat_lt o (made + 1)) ≡ counted (nat_lt o made)
 made_more o made h = grind (arith, nat_tests)
 
-counted_no : (m n : ℕ) → (m ≡ n → ⊥) → counted (eqb m n) ≡ 0
+pub counted_no : (m n : ℕ) → (m ≡ n → ⊥) → counted (eqb m n) ≡ 0
 counted_no m n h = grind (arith, nat_tests)
 
 counted_yes : (n : ℕ) → counted (eqb n n) ≡ 1

@@ -19,8 +19,8 @@ use Rattle.cf_model.specs.State.{Binding, look}
 use Rattle.cf_model.specs.Steps.{reference, found, target, operations_of, bindings_by}
 
 -- the variable's number in the code of a holder
-abbrev second_of : Reference → ℕ
-second_of r = (code_of r.holder).second
+abbrev variable_of : Reference → ℕ
+variable_of r = (code_of r.holder).second
 
 -- what is held by a thread's variables, behind statements
 pub record Holds (earlier : List Statement) (bindings : List Binding) (es : List Reference) : Type 0 where
@@ -29,7 +29,7 @@ pub record Holds (earlier : List Statement) (bindings : List Binding) (es : List
 
 -- a reference that another variable holds is another
 other_test : (v w o p : ℕ) (b : Bool) → same (reference 0 v o) (reference 0 w p) ≡ b → (v ≡ w → ⊥) → one (reference 0 v o) (reference 0 w p) ≡ 0
-other_test v w o p true e h = absurd (h (ap (λ (r : Reference). second_of r) (same-equal (reference 0 v o) (reference 0 w p) e)))
+other_test v w o p true e h = absurd (h (ap (λ (r : Reference). variable_of r) (same-equal (reference 0 v o) (reference 0 w p) e)))
 other_test v w o p false e h = ap counted e
 
 one_other : (v w o p : ℕ) → (v ≡ w → ⊥) → one (reference 0 v o) (reference 0 w p) ≡ 0
@@ -66,7 +66,8 @@ may_use_parts earlier v h =
     let p = and_parts (ltb 0 (bound v earlier)) (ltb (taken v earlier) (given v earlier)) h in
     (ltb-true 0 (bound v earlier) p.0, ltb-true (taken v earlier) (given v earlier) p.1)
 
-some_is : (o p : ℕ) → ◌≡◌ {A = Option ℕ} (Some o) (Some p) → o ≡ p
+-- an object that is named is one
+pub some_is : (o p : ℕ) → ◌≡◌ {A = Option ℕ} (Some o) (Some p) → o ≡ p
 some_is o p e = cc
 
 look_same : (v : ℕ) (o : Option ℕ) (bindings : List Binding) → look v (record { variable = v; object = o } ∷ bindings) ≡ o

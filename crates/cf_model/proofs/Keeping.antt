@@ -2,7 +2,7 @@
 use Rattle.std.proofs.Common.{◌≡◌, ℕ, ◌+◌, ◌<◌, false, List, [], ◌∷◌, ◌++◌, length, drop, map, Option, Some, None, eqb, refl, sym, ap, ◌∙◌, subst, arith, inl, inr, append-nil, length-append}
 use Rattle.std.specs.Prelude.{slice_get}
 use Rattle.std.proofs.lemmas.List.{drop-drop}
-use Rattle.std.proofs.lemmas.Bool.{cases_lt, and_parts, eqb-true, ltb-true}
+use Rattle.std.proofs.lemmas.Bool.{eq-eqb}
 use Rattle.std.proofs.lemmas.Bool.Decides.{eqb_tells}
 use Rattle.cf_ids.specs.declared.answer.Answer.{Answer}
 use Rattle.cf_graph.specs.Holders.{Holder, owed, slot, code_of}
@@ -18,7 +18,7 @@ use Rattle.cf_contents.proofs.SlotLaws.{MakesEmpty, LeavesEmpty, FindsEmpty, slo
 use Rattle.cf_model.specs.State.{State, Work, release_of, slots_of, left_of}
 use Rattle.cf_model.specs.Steps.{Step, reference, owed_reference, slot_reference, reference_step, change_step, done_step, owed_step, drop_step, state_after, rest_of}
 use Rattle.cf_model.proofs.Balance.{IsBalanced, CutsNothing, added, Adds, grows_balance, shrinks_balance}
-use Rattle.cf_model.proofs.Slots.{operations_in, one_apart, one_own, weigh-without-other, own_weigh, other_weigh, adds_to, moves_from, can_change, weigh-change}
+use Rattle.cf_model.proofs.Slots.{kinds_apart, one_of_kinds, operations_in, one_apart, one_own, weigh-without-other, own_weigh, other_weigh, adds_to, moves_from, can_change, weigh-change}
 use Rattle.cf_model.proofs.Kept.{AllFinal, IsKept, KeepsStep, times_own}
 
 -- an object is live, as numbers, and an object that is used is
@@ -28,18 +28,6 @@ IsLive st o = (times o st.finalised ≡ 0) × (o < length st.objects)
 abbrev pub IsLiveIf : State → Option ℕ → Type 0
 IsLiveIf st None = Unit {0}
 IsLiveIf st (Some o) = IsLive st o
-
-kind_of : Reference → ℕ
-kind_of r = (code_of r.holder).kind
-
--- no reference of a variable or of a thread is one of a body
-pub variable_apart : (b o t v p : ℕ) → one (slot_reference b o) (reference t v p) ≡ 0
-unfolding kind_of
-variable_apart b o t v p = one_apart (slot_reference b o) (reference t v p) (λ q. let n : 2 ≡ 0 = ap kind_of q in absurd (omega arith))
-
-pub owed_apart : (b o t p : ℕ) → one (slot_reference b o) (owed_reference t p) ≡ 0
-unfolding kind_of
-owed_apart b o t p = one_apart (slot_reference b o) (owed_reference t p) (λ q. let n : 2 ≡ 1 = ap kind_of q in absurd (omega arith))
 
 -- ---- a step that changes no slot
 
@@ -72,7 +60,7 @@ bound_adds st t v ob =
         | inl e ↦ inr (sym e.1, size)
         | inr e ↦ absurd (let none : counted (eqb made o) ≡ 0 = ap counted e.0 in omega arith)
       ];
-      new = λ e. let one : counted (eqb made made) ≡ 1 = ap counted (Rattle.std.proofs.lemmas.Bool.eq-eqb made made refl) in omega arith;
+      new = λ e. let one : counted (eqb made made) ≡ 1 = ap counted (eq-eqb made made refl) in omega arith;
       sizes = inr size;
     }
 
@@ -96,7 +84,7 @@ reference_kept t (Binds v) answer (fresh ob) used st h e live =
     let step = reference_step t (Binds v) answer (fresh ob) used st in
     quiet_kept st step h
     (grows_balance st step (record { cuts = refl; can = (tt, tt); adds = bound_adds st t v ob }) h.balance)
-    (λ b o. omega (arith, variable_apart b o t v (length st.objects)))
+    (λ b o. omega (arith, one_of_kinds (slot_reference b o) (reference t v (length st.objects)) refl))
     (λ b. slots-more st.objects ob b e) refl h.waiting
 reference_kept t (Plus v) answer source None st h e live =
     nil_kept st (reference_step t (Plus v) answer source None st) h refl refl (append-nil st.objects) refl h.waiting
@@ -104,7 +92,7 @@ reference_kept t (Plus v) answer source (Some p) st h e live =
     let step = reference_step t (Plus v) answer source (Some p) st in
     quiet_kept st step h
     (grows_balance st step (record { cuts = refl; can = (tt, tt); adds = plus_adds st t v p (st.objects ++ []) (ap length (append-nil st.objects)) live }) h.balance)
-    (λ b o. omega (arith, variable_apart b o t v p))
+    (λ b o. omega (arith, one_of_kinds (slot_reference b o) (reference t v p) refl))
     (λ b. rw (append-nil st.objects) refl) refl h.waiting
 reference_kept t (Minus v) answer source None st h e live =
     nil_kept st (reference_step t (Minus v) answer source None st) h refl refl (append-nil st.objects) refl h.waiting
@@ -112,7 +100,7 @@ reference_kept t (Minus v) answer source (Some p) st h e live =
     let step = reference_step t (Minus v) answer source (Some p) st in
     quiet_kept st step h
     (shrinks_balance st step (record { reference = reference t v p; operations = refl; cuts = refl; size = ap length (append-nil st.objects); live = live.0; made = live.1 }) h.balance)
-    (λ b o. weigh-without-other (one (slot_reference b o)) (reference t v p) st.edges (variable_apart b o t v p))
+    (λ b o. weigh-without-other (one (slot_reference b o)) (reference t v p) st.edges (one_of_kinds (slot_reference b o) (reference t v p) refl))
     (λ b. rw (append-nil st.objects) refl) refl h.waiting
 
 -- ---- steps that no statement writes
@@ -130,7 +118,7 @@ owed_kept t o st h live =
     let step = owed_step t o st in
     quiet_kept st step h
     (shrinks_balance st step (record { reference = owed_reference t o; operations = refl; cuts = refl; size = refl; live = live.0; made = live.1 }) h.balance)
-    (λ b p. weigh-without-other (one (slot_reference b p)) (owed_reference t o) st.edges (owed_apart b p t o))
+    (λ b p. weigh-without-other (one (slot_reference b p)) (owed_reference t o) st.edges (one_of_kinds (slot_reference b p) (owed_reference t o) refl))
     (λ b. refl) refl (rest_final st.finalised st.frame.work h.waiting)
 
 drop_more : (n o : ℕ) (xs os : List ℕ) → drop n xs ≡ o ∷ os → drop (1 + n) xs ≡ os
@@ -209,14 +197,14 @@ module _ (t b : ℕ) (answer : Answer) (change : Change) (st : State) (h : IsKep
       let ts = taken_in (slice_get st.objects b) change in
       let gs = given_out (slice_get st.objects b) change in
       let undropped = h.undropped b live.0 in
-      rw undropped (omega (arith, weigh-change (one (slot_reference b o)) t b ts gs st.edges change_can, own_weigh (slot b) o gs, own_weigh (slot b) o ts, other_weigh (slot_reference b o) (owed t) gs (λ q. let n : 2 ≡ 1 = ap (λ (k : Holder). (code_of k).kind) q in absurd (omega arith)), body_slots o, change_law o b change st.objects leaves finds))
+      rw undropped (omega (arith, weigh-change (one (slot_reference b o)) t b ts gs st.edges change_can, own_weigh (slot b) o gs, own_weigh (slot b) o ts, other_weigh (slot_reference b o) (owed t) gs (kinds_apart (slot b) (owed t) refl), body_slots o, change_law o b change st.objects leaves finds))
 
   other_slots : (c o : ℕ) → (b ≡ c → ⊥) → weigh (one (slot_reference c o)) (run (operations_in t b (slice_get st.objects b) change) st.edges) ≡ times o (left_of (with_change b change st.objects) st.dropped c)
   other_slots c o apart =
       let ts = taken_in (slice_get st.objects b) change in
       let gs = given_out (slice_get st.objects b) change in
       let other : slot c ≡ slot b → ⊥ = λ q. apart (sym (ap (λ (k : Holder). (code_of k).first) q)) in
-      rw (others_keep b c change st.objects apart) (omega (arith, weigh-change (one (slot_reference c o)) t b ts gs st.edges change_can, other_weigh (slot_reference c o) (slot b) gs other, other_weigh (slot_reference c o) (slot b) ts other, other_weigh (slot_reference c o) (owed t) gs (λ q. let n : 2 ≡ 1 = ap (λ (k : Holder). (code_of k).kind) q in absurd (omega arith)), h.slots c o))
+      rw (others_keep b c change st.objects apart) (omega (arith, weigh-change (one (slot_reference c o)) t b ts gs st.edges change_can, other_weigh (slot_reference c o) (slot b) gs other, other_weigh (slot_reference c o) (slot b) ts other, other_weigh (slot_reference c o) (owed t) gs (kinds_apart (slot c) (owed t) refl), h.slots c o))
 
   pub body_kept : KeepsStep st (change_step t answer (Some b) change st)
   body_kept = record {

@@ -1,7 +1,8 @@
 -- References that a holder has to objects of a list, and what a change of a body does to weights.
 use Rattle.std.proofs.Common.{Option, ◌≡◌, ℕ, ◌+◌, ◌≤◌, Bool, true, false, List, [], ◌∷◌, ◌++◌, map, eqb, refl, sym, ap, ◌∙◌, subst, arith, inl, inr}
+use Rattle.std.proofs.lemmas.Bool.{eq-eqb}
 use Rattle.std.proofs.lemmas.Bool.Decides.{eqb_tells}
-use Rattle.cf_graph.specs.Holders.{Holder, owed, slot, same_holder}
+use Rattle.cf_graph.specs.Holders.{Holder, code_of, owed, slot, same_holder}
 use Rattle.cf_graph.specs.Edges.{Reference, same, weigh, one, counted}
 use Rattle.cf_graph.specs.Operations.{Operation, add, move, without, run, CanRun, won, lost}
 use Rattle.cf_graph.proofs.Same.{same-equal, same-refl, same_holder-equal, same_holder-refl}
@@ -18,6 +19,16 @@ one_if_apart r q false e h = ap counted e
 -- a reference weighs nothing by another
 pub one_apart : (r q : Reference) → (r ≡ q → ⊥) → one r q ≡ 0
 one_apart r q h = one_if_apart r q (same r q) refl h
+
+-- the kind of a holder; references of holders of other kinds weigh nothing by each other
+abbrev kind_of : Holder → ℕ
+kind_of h = (code_of h).kind
+
+pub kinds_apart : (h k : Holder) → eqb (kind_of h) (kind_of k) ≡ false → h ≡ k → ⊥
+kinds_apart h k e q = let same : eqb (kind_of h) (kind_of k) ≡ true = eq-eqb (kind_of h) (kind_of k) (ap kind_of q) in absurd cc
+
+pub one_of_kinds : (r q : Reference) → eqb (kind_of r.holder) (kind_of q.holder) ≡ false → one r q ≡ 0
+one_of_kinds r q e = one_apart r q (λ same. kinds_apart r.holder q.holder e (ap (λ (p : Reference). p.holder) same))
 
 without_if : (g : Reference → ℕ) (r e : Reference) (es : List Reference) (b : Bool) → same r e ≡ b → g r ≡ 0 → weigh g (without r es) ≡ weigh g es → weigh g (without r (e ∷ es)) ≡ weigh g (e ∷ es)
 without_if g r e es true t h rest = rw t (omega (arith, h, ap g (same-equal r e t)))

@@ -4,7 +4,8 @@ use Rattle.std.specs.Prelude.{slice_get}
 use Rattle.std.proofs.lemmas.Bool.{and_parts, and_from, eq-eqb}
 use Rattle.std.proofs.lemmas.Bool.Decides.{nat_tests}
 use Rattle.cf_ids.specs.declared.answer.Answer.{Answer}
-use Rattle.cf_graph.specs.Holders.{Holder, variable, owed, slot, code_of}
+use Rattle.cf_ids.specs.declared.answer.Answer.TheVariants as answers
+use Rattle.cf_graph.specs.Holders.{variable, owed, slot}
 use Rattle.cf_graph.specs.Edges.{Reference, same, weigh, one, counted, leading_to, from_thread}
 use Rattle.cf_graph.specs.Operations.{run, without, CanRun}
 use Rattle.cf_graph.proofs.Same.{same-equal}
@@ -16,7 +17,7 @@ use Rattle.cf_syntax.specs.declared.statement.Touch.{Touch}
 use Rattle.cf_syntax.specs.declared.statement.Touch.TheVariants.{Nothing, Binds, Plus, Minus}
 use Rattle.cf_syntax.specs.Forms.{touch_of, touched, read_by, used_by, is_known, padded}
 use Rattle.cf_syntax.specs.Owned.{may_use, may_use_all, may_touch, is_fit, are_fit, blocks_fit, Owned}
-use Rattle.cf_contents.specs.Contents.{Object, times}
+use Rattle.cf_contents.specs.Contents.{times}
 use Rattle.cf_contents.specs.Deeds.{Source, Change, first_of, second_of, object_of, deed_at, resolved, taken_in, given_out}
 use Rattle.cf_contents.proofs.SlotLaws.{MakesEmpty, LeavesEmpty, FindsEmpty, leaves-resolved, finds-resolved}
 use Rattle.cf_contents.proofs.FormLaws.{form_keeps}
@@ -29,11 +30,11 @@ use Rattle.cf_model.specs.Journals.{statements_in, setup, object_at, used_object
 use Rattle.cf_model.proofs.Balance.{IsBalanced}
 use Rattle.cf_model.proofs.Demands.{Demand, of_frame, of_owed, of_slot, legal_is_demanded}
 use Rattle.cf_model.proofs.FrameSteps.{frame_step, site_in, step_for-demanded, used_of-action_of}
-use Rattle.cf_model.proofs.Slots.{operations_in, one_apart, other_weigh, weigh-without-other, weigh-change}
+use Rattle.cf_model.proofs.Slots.{kinds_apart, one_of_kinds, operations_in, other_weigh, weigh-without-other, weigh-change}
 use Rattle.cf_model.proofs.Kept.{IsKept, kept_after}
 use Rattle.cf_model.proofs.Keeping.{IsLive, IsLiveIf, change_can, done_kept}
 use Rattle.cf_model.proofs.Along.{live_if, taken_live, statement_kept, action_kept, start_kept}
-use Rattle.cf_model.proofs.Holding.{Holds, looked, touch_holds}
+use Rattle.cf_model.proofs.Holding.{some_is, Holds, looked, touch_holds}
 use Rattle.cf_model.proofs.Working.{IsWorked, WorksStep, worked_after, reference_works, change_works, done_works, owed_works, drop_works}
 
 pub take_next : (xs : List Statement) (n : ℕ) (x : Statement) → slice_get xs n ≡ Some x → take (n + 1) xs ≡ take n xs ++ x ∷ []
@@ -63,23 +64,6 @@ fit_parts earlier x h =
     and_parts (may_touch earlier (touch_of x)) (may_use_all earlier (used_by x)) p.0
 
 -- ---- references of variables
-
-kind_of : Reference → ℕ
-kind_of r = (code_of r.holder).kind
-
-variable_of_owed : (v o p : ℕ) → one (reference 0 v o) (owed_reference 0 p) ≡ 0
-unfolding kind_of
-variable_of_owed v o p = one_apart (reference 0 v o) (owed_reference 0 p) (λ q. let n : 0 ≡ 1 = ap kind_of q in absurd (omega arith))
-
-variable_of_slot : (v o b p : ℕ) → one (reference 0 v o) (slot_reference b p) ≡ 0
-unfolding kind_of
-variable_of_slot v o b p = one_apart (reference 0 v o) (slot_reference b p) (λ q. let n : 0 ≡ 2 = ap kind_of q in absurd (omega arith))
-
-variable_by_owed : (v : ℕ) → variable 0 v ≡ owed 0 → ⊥
-variable_by_owed v q = absurd (let n : ◌≡◌ {A = ℕ} 0 1 = ap (λ (k : Holder). (code_of k).kind) q in omega (arith, n))
-
-variable_by_slot : (v b : ℕ) → variable 0 v ≡ slot b → ⊥
-variable_by_slot v b q = absurd (let n : ◌≡◌ {A = ℕ} 0 2 = ap (λ (k : Holder). (code_of k).kind) q in omega (arith, n))
 
 -- what variables hold stays where their references do
 holds_same : (earlier : List Statement) (bs : List Binding) (es fs : List Reference) → ((v o : ℕ) → weigh (one (reference 0 v o)) fs ≡ weigh (one (reference 0 v o)) es) → Holds earlier bs es → Holds earlier bs fs
@@ -131,7 +115,7 @@ none_to_new : (st : State) (v : ℕ) → IsBalanced st → weigh (one (reference
 none_to_new st v b =
     let made = length st.objects in
     let le = weigh-le (one (reference 0 v made)) (leading_to made) st.edges (λ e. one_leads (reference 0 v made) e (same (reference 0 v made) e) refl) in
-    let none : degree made st.edges ≡ 0 = none_leads made (Rattle.cf_contents.specs.Contents.times made st.finalised) (degree made st.edges) (b made) in
+    let none : degree made st.edges ≡ 0 = none_leads made (times made st.finalised) (degree made st.edges) (b made) in
     omega (arith, le, none)
 
 pub frame_statement : (s : Script) (st : State) → IsSound s st → statement_in s st.frame.block st.frame.number ≡ slice_get (setup s) st.frame.number
@@ -143,22 +127,18 @@ change_same None change st can v o = refl
 change_same (Some b) change st can v o =
     let ts = taken_in (slice_get st.objects b) change in
     let gs = given_out (slice_get st.objects b) change in
-    omega (arith, weigh-change (one (reference 0 v o)) 0 b ts gs st.edges (can b refl), other_weigh (reference 0 v o) (slot b) gs (variable_by_slot v b), other_weigh (reference 0 v o) (slot b) ts (variable_by_slot v b), other_weigh (reference 0 v o) (owed 0) gs (variable_by_owed v))
+    omega (arith, weigh-change (one (reference 0 v o)) 0 b ts gs st.edges (can b refl), other_weigh (reference 0 v o) (slot b) gs (kinds_apart (variable 0 v) (slot b) refl), other_weigh (reference 0 v o) (slot b) ts (kinds_apart (variable 0 v) (slot b) refl), other_weigh (reference 0 v o) (owed 0) gs (kinds_apart (variable 0 v) (owed 0) refl))
 
 -- the operations of a change can be done
 can_used : (used : Option ℕ) (change : Change) (st : State) → IsKept st → LeavesEmpty change → FindsEmpty (object_of st.objects used) change → IsLiveIf st used → ((o : ℕ) → 0 < times o (taken_in (object_of st.objects used) change) → IsLive st o) → (b : ℕ) → used ≡ Some b → CanRun (operations_in 0 b (slice_get st.objects b) change) st.edges
 can_used None change st h leaves finds live enters b e = absurd cc
 can_used (Some c) change st h leaves finds live enters b e =
-    subst (λ (d : ℕ). CanRun (operations_in 0 d (slice_get st.objects d) change) st.edges) (object_eq c b e) (change_can 0 c Rattle.cf_ids.specs.declared.answer.Answer.TheVariants.Ok change st h leaves finds live enters)
-  where
-    object_eq : (c b : ℕ) → ◌≡◌ {A = Option ℕ} (Some c) (Some b) → c ≡ b
-    object_eq c b e = cc
+    subst (λ (d : ℕ). CanRun (operations_in 0 d (slice_get st.objects d) change) st.edges) (some_is c b e) (change_can 0 c answers.Ok change st h leaves finds live enters)
 
 live_used : (st : State) (used : Option ℕ) (b : ℕ) → IsLiveIf st used → used ≡ Some b → times b st.finalised ≡ 0
 live_used st None b live e = absurd cc
 live_used st (Some c) b live e =
-    let is : c ≡ b = cc in
-    subst (λ (d : ℕ). times d st.finalised ≡ 0) is live.0
+    subst (λ (d : ℕ). times d st.finalised ≡ 0) (some_is c b e) live.0
 
 -- a touch's step keeps what variables hold, and its work is in order
 touch_sound : (touch : Touch) (answer : Answer) (source : Source) (used : Option ℕ) (change : Change) (st : State) (later : List Statement) → let step = touch_step 0 touch answer source used change st in let object = target touch (found (length st.objects) source) used in IsWorked st → MakesEmpty source → ((b : ℕ) → used ≡ Some b → times b st.finalised ≡ 0) → ((b : ℕ) → used ≡ Some b → CanRun (operations_in 0 b (slice_get st.objects b) change) st.edges) → Holds later (bindings_by touch object ++ st.frame.bindings) (run (operations_of 0 touch object) st.edges) → Holds later (step.bindings ++ st.frame.bindings) (run step.operations st.edges) × WorksStep st step
@@ -225,7 +205,7 @@ action_sound s st a own h (of_owed o rest w e) uses =
     let step : step_for s 0 st a ≡ owed_step 0 o st = ap (step_for s 0 st) e in
     record {
       block = h.block;
-      holds = rw step (holds_same _ st.frame.bindings st.edges (without (owed_reference 0 o) st.edges) (λ v p. weigh-without-other (one (reference 0 v p)) (owed_reference 0 o) st.edges (variable_of_owed v p o)) h.holds);
+      holds = rw step (holds_same _ st.frame.bindings st.edges (without (owed_reference 0 o) st.edges) (λ v p. weigh-without-other (one (reference 0 v p)) (owed_reference 0 o) st.edges (one_of_kinds (reference 0 v p) (owed_reference 0 o) refl)) h.holds);
       kept = kept_after st (step_for s 0 st a) h.kept kept_step;
       worked = rw step (worked_after st (owed_step 0 o st) (owed_works o rest st h.worked w));
     }
@@ -234,7 +214,7 @@ action_sound s st a own h (of_slot b o rest os w l e) uses =
     let step : step_for s 0 st a ≡ drop_step b o st = ap (step_for s 0 st) e in
     record {
       block = h.block;
-      holds = rw step (holds_same _ st.frame.bindings st.edges (without (slot_reference b o) st.edges) (λ v p. weigh-without-other (one (reference 0 v p)) (slot_reference b o) st.edges (variable_of_slot v p b o)) h.holds);
+      holds = rw step (holds_same _ st.frame.bindings st.edges (without (slot_reference b o) st.edges) (λ v p. weigh-without-other (one (reference 0 v p)) (slot_reference b o) st.edges (one_of_kinds (reference 0 v p) (slot_reference b o) refl)) h.holds);
       kept = kept_after st (step_for s 0 st a) h.kept kept_step;
       worked = rw step (worked_after st (drop_step b o st) (drop_works b o rest st h.worked w));
     }

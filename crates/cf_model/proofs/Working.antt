@@ -4,7 +4,7 @@ use Rattle.std.specs.Prelude.{slice_get}
 use Rattle.std.proofs.lemmas.Bool.{eqb-true}
 use Rattle.std.proofs.lemmas.Bool.Decides.{eqb_tells}
 use Rattle.cf_ids.specs.declared.answer.Answer.{Answer}
-use Rattle.cf_graph.specs.Holders.{Holder, owed, slot, code_of}
+use Rattle.cf_graph.specs.Holders.{owed, slot}
 use Rattle.cf_graph.specs.Edges.{Reference, weigh, one, counted}
 use Rattle.cf_graph.specs.Operations.{run, CanRun}
 use Rattle.cf_graph.proofs.Counts.{weigh-without}
@@ -15,7 +15,7 @@ use Rattle.cf_contents.specs.Deeds.{Source, nowhere, fresh, Change, taken_in, gi
 use Rattle.cf_contents.proofs.SlotLaws.{times-append, MakesEmpty, slots-more, others_keep}
 use Rattle.cf_model.specs.State.{State, Work, release_of, slots_of, left_of, trimmed}
 use Rattle.cf_model.specs.Steps.{Step, reference, owed_reference, slot_reference, found, target, operations_of, made_by, finals_of, edges_after, state_after, reference_step, change_step, done_step, owed_step, drop_step}
-use Rattle.cf_model.proofs.Slots.{operations_in, one_apart, one_own, own_weigh, other_weigh, weigh-without-other, weigh-change}
+use Rattle.cf_model.proofs.Slots.{kinds_apart, one_of_kinds, operations_in, one_own, own_weigh, other_weigh, weigh-without-other, weigh-change}
 use Rattle.cf_model.proofs.Kept.{times_own}
 
 -- how often the release of an object is work, and the slots of a body
@@ -109,21 +109,6 @@ worked_after st step w =
 
 -- ---- by the kinds of steps
 
-kind_of : Reference → ℕ
-kind_of r = (code_of r.holder).kind
-
--- no reference that a thread owes is one of a variable or of a body
-pub owed_of_variable : (o t v p : ℕ) → one (owed_reference 0 o) (reference t v p) ≡ 0
-unfolding kind_of
-owed_of_variable o t v p = one_apart (owed_reference 0 o) (reference t v p) (λ q. let n : 1 ≡ 0 = ap kind_of q in absurd (omega arith))
-
-pub owed_of_slot : (o b p : ℕ) → one (owed_reference 0 o) (slot_reference b p) ≡ 0
-unfolding kind_of
-owed_of_slot o b p = one_apart (owed_reference 0 o) (slot_reference b p) (λ q. let n : 1 ≡ 2 = ap kind_of q in absurd (omega arith))
-
-owed_by_slot : (b : ℕ) → owed 0 ≡ slot b → ⊥
-owed_by_slot b q = absurd (let n : ◌≡◌ {A = ℕ} 1 2 = ap (λ (k : Holder). (code_of k).kind) q in omega (arith, n))
-
 -- a touch changes no references but those of variables
 pub operations_quiet : (t : ℕ) (touch : Touch) (object : Option ℕ) (r : Reference) (es : List Reference) → ((v o : ℕ) → one r (reference t v o) ≡ 0) → weigh (one r) (run (operations_of t touch object) es) ≡ weigh (one r) es
 operations_quiet t touch None r es h = refl
@@ -141,7 +126,7 @@ made_slots (Minus v) source objects b h = rw (append-nil objects) refl
 
 pub reference_works : (t : ℕ) (touch : Touch) (answer : Answer) (source : Source) (used : Option ℕ) (st : State) → IsWorked st → MakesEmpty source → WorksStep st (reference_step t touch answer source used st)
 reference_works t touch answer source used st h makes = record {
-  owed = λ o. operations_quiet t touch (target touch (found (length st.objects) source) used) (owed_reference 0 o) st.edges (λ v p. owed_of_variable o t v p) ∙ h.owed o;
+  owed = λ o. operations_quiet t touch (target touch (found (length st.objects) source) used) (owed_reference 0 o) st.edges (λ v p. one_of_kinds (owed_reference 0 o) (reference t v p) refl) ∙ h.owed o;
   given_up = λ b some none. ap (drop (times b st.dropped)) (made_slots touch source st.objects b makes) ∙ h.given_up b some none;
 }
 
@@ -159,7 +144,7 @@ owed_works o rest st h w =
 
 pub drop_works : (b o : ℕ) (rest : List Work) (st : State) → IsWorked st → st.frame.work ≡ slots_of b ∷ rest → WorksStep st (drop_step b o st)
 drop_works b o rest st h w = record {
-  owed = λ p. weigh-without-other (one (owed_reference 0 p)) (slot_reference b o) st.edges (owed_of_slot p b o) ∙ h.owed p;
+  owed = λ p. weigh-without-other (one (owed_reference 0 p)) (slot_reference b o) st.edges (one_of_kinds (owed_reference 0 p) (slot_reference b o) refl) ∙ h.owed p;
   given_up = λ c some none. elim (eqb_tells b c) [
     | inl e ↦ absurd (let here : counted (eqb b c) ≡ 1 = ap counted e.0 in let w0 : waits_in c (slots_of b ∷ rest) ≡ 0 = rw w at none in omega arith)
     | inr e ↦
@@ -175,7 +160,7 @@ change_works answer (Some b) change st h live can =
     let ts = taken_in (slice_get st.objects b) change in
     let gs = given_out (slice_get st.objects b) change in
     record {
-      owed = λ o. omega (arith, weigh-change (one (owed_reference 0 o)) 0 b ts gs st.edges (can b refl), own_weigh (owed 0) o gs, other_weigh (owed_reference 0 o) (slot b) gs (owed_by_slot b), other_weigh (owed_reference 0 o) (slot b) ts (owed_by_slot b), h.owed o, owed-releases o gs st.frame.work);
+      owed = λ o. omega (arith, weigh-change (one (owed_reference 0 o)) 0 b ts gs st.edges (can b refl), own_weigh (owed 0) o gs, other_weigh (owed_reference 0 o) (slot b) gs (kinds_apart (owed 0) (slot b) refl), other_weigh (owed_reference 0 o) (slot b) ts (kinds_apart (owed 0) (slot b) refl), h.owed o, owed-releases o gs st.frame.work);
       given_up = λ c some none.
           let apart : b ≡ c → ⊥ = λ q. omega (arith, live b refl, some, ap (λ (n : ℕ). times n st.finalised) q) in
           rw (others_keep b c change st.objects apart) (h.given_up c some (omega (arith, none, waits-releases c gs st.frame.work)));

@@ -1,8 +1,8 @@
 -- The numbers of a run after a step.
-use Rattle.std.proofs.Common.{◌≡◌, ℕ, zero, suc, ◌+◌, ◌-◌, ◌<◌, List, [], ◌∷◌, ◌++◌, length, Option, Some, None, eqb, refl, sym, ap, ◌∙◌, subst, arith, inl, inr, append-nil, add-zero}
+use Rattle.std.proofs.Common.{◌≡◌, ℕ, zero, suc, ◌+◌, ◌-◌, ◌<◌, List, [], ◌∷◌, ◌++◌, length, Option, Some, None, refl, sym, ap, ◌∙◌, subst, arith, inl, inr, append-nil, add-zero}
 use Rattle.std.specs.Prelude.{slice_index, slice_set}
 use Rattle.std.proofs.lemmas.Bool.{cases_lt, eq-eqb}
-use Rattle.std.proofs.lemmas.Bool.Decides.{eqb_tells, nat_tests}
+use Rattle.std.proofs.lemmas.Bool.Decides.{eqb_tells}
 use Rattle.std.proofs.lemmas.List.{length_push, get_or-set_same, get_or-set_other}
 use Rattle.std.proofs.Math.ListN.{length-set}
 use Rattle.cf_syntax.specs.declared.statement.Touch.{Touch}
@@ -13,7 +13,7 @@ use Rattle.cf_graph.proofs.Counts.{weigh-without}
 use Rattle.cf_contents.specs.Deeds.{Source, nowhere, fresh}
 use Rattle.cf_model.specs.State.{degree}
 use Rattle.cf_model.specs.Steps.{reference, found, target, operations_of, made_by}
-use Rattle.cf_model.proofs.Balance.{degree-without}
+use Rattle.cf_model.proofs.Balance.{counted_no, degree-without}
 use Rattle.cf_run.specs.Tally.{Counts, references_after}
 
 index_before : (xs : List ℕ) (y i : ℕ) → i < length xs → slice_index (xs ++ y ∷ []) i ≡ slice_index xs i
@@ -46,9 +46,6 @@ counts_set made es fs references o n within is same h = record {
     | inr q ↦ get_or-set_other references o p n 0 (λ e. q.1 (sym e)) ∙ h.at p lt ∙ sym (same p q.1)
   ];
 }
-
-counted_no : (m n : ℕ) → (m ≡ n → ⊥) → counted (eqb m n) ≡ 0
-counted_no m n h = grind (arith, nat_tests)
 
 -- the object that a touch changes, with its reference there
 abbrev pub Changes : Touch → Option ℕ → List Reference → Type 0

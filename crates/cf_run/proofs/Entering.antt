@@ -35,9 +35,6 @@ use Rattle.cf_run.proofs.Plain.{Step, step_of, objects_after, finalised_by, answ
 use Rattle.cf_run.proofs.Counting.{Changes, TouchesMade, counts_after}
 use Rattle.cf_run.proofs.Tables.{somes_le-length, tables_after, objects_same}
 
-counted_no : (m n : ℕ) → (m ≡ n → ⊥) → counted (eqb m n) ≡ 0
-counted_no m n h = grind (arith, nat_tests)
-
 counted_most : (b : Bool) → counted b ≤ 1
 counted_most true = omega arith
 counted_most false = omega arith

@@ -13,8 +13,8 @@ use Rattle.cf_syntax.specs.declared.statement.Touch.{Touch}
 use Rattle.cf_syntax.specs.declared.statement.Touch.TheVariants.{Nothing, Binds, Plus, Minus}
 use Rattle.cf_syntax.specs.Forms.{touch_of}
 use Rattle.cf_contents.specs.Contents.{Object, times, slots_in}
-use Rattle.cf_contents.specs.Deeds.{Source, nowhere, fresh, Change, unchanged, contents, places, Deed, first_of, second_of, object_of, deed_at, resolved, taken_in, given_out, with_content, changed_by}
-use Rattle.cf_contents.proofs.ContentLaws.{length-changed_by}
+use Rattle.cf_contents.specs.Deeds.{content_after, Source, nowhere, fresh, Change, unchanged, contents, places, Deed, first_of, second_of, object_of, deed_at, resolved, taken_in, given_out, with_content, changed_by}
+use Rattle.cf_contents.proofs.ContentLaws.{changed_by-unchanged, length-changed_by}
 use Rattle.cf_contents.proofs.SlotLaws.{MakesEmpty, LeavesEmpty, slots-more}
 use Rattle.cf_contents.proofs.FormLaws.{EditsNothing, resolved-none, form_keeps, ChangesFor, form_quiet}
 use Rattle.cf_run.specs.Tally.{SlotFree}
@@ -78,7 +78,7 @@ none_trimmed objects dropped (b ∷ bs) h =
 tail_free : (ob : Object) (obs : List Object) → SlotFree (ob ∷ obs) → SlotFree obs
 tail_free ob obs h b = h (suc b)
 
-content_free : (o : ℕ) (change : Change) (objects : List Object) → ((ob : Object) → slots_in ob.content ≡ [] → slots_in (Rattle.cf_contents.specs.Deeds.content_after change ob.content) ≡ []) → SlotFree objects → SlotFree (with_content o change objects)
+content_free : (o : ℕ) (change : Change) (objects : List Object) → ((ob : Object) → slots_in ob.content ≡ [] → slots_in (content_after change ob.content) ≡ []) → SlotFree objects → SlotFree (with_content o change objects)
 content_free o change [] k h b = refl
 content_free zero change (ob ∷ obs) k h zero = k ob (h zero)
 content_free zero change (ob ∷ obs) k h (suc b) = h (suc b)
@@ -122,16 +122,12 @@ no_operations : (used : Option ℕ) (ob : Option Object) (change : Change) → E
 no_operations None ob change h = refl
 no_operations (Some b) ob change h = rw (nothing_taken ob change h, nothing_given ob change h) refl
 
-same_objects : (used : Option ℕ) (objects : List Object) → changed_by used unchanged objects ≡ objects
-same_objects None objects = refl
-same_objects (Some o) objects = refl
-
 -- a touch that takes or binds a reference
 reference_plain : (touch : Touch) (deed : Deed) (used : Option ℕ) (st : State) → let step : Step = record { touch = touch; deed = deed; used = used; object = target touch (found (length st.objects) deed.source) used } in st.frame.work ≡ [] → deed.change ≡ unchanged → SlotFree (st.objects ++ made_by touch deed.source) → state_after (reference_step 0 touch deed.answer deed.source used st) st ≡ plain_after step st
 reference_plain touch deed used st work quiet free =
     let object = target touch (found (length st.objects) deed.source) used in
     let left = run (operations_of 0 touch object) st.edges in
-    rw (work, none_trimmed (st.objects ++ made_by touch deed.source) st.dropped (finals_of (cut_by touch object) left) free, quiet, same_objects used st.objects) refl
+    rw (work, none_trimmed (st.objects ++ made_by touch deed.source) st.dropped (finals_of (cut_by touch object) left) free, quiet, changed_by-unchanged used st.objects) refl
 
 -- by the touch, where a change is none of places, and none at all where a reference is taken or bound
 touch_plain : (touch : Touch) (deed : Deed) (used : Option ℕ) (st : State) → let step : Step = record { touch = touch; deed = deed; used = used; object = target touch (found (length st.objects) deed.source) used } in st.frame.work ≡ [] → EditsNothing deed.change → ChangesFor touch deed.change → MakesEmpty deed.source → SlotFree st.objects → state_after (touch_step 0 touch deed.answer deed.source used deed.change st) st ≡ plain_after step st

@@ -6,6 +6,7 @@ use Rattle.cf_string.specs.declared.faults.StrFault.TheVariants.{NotUtf8, Range,
 use Rattle.cf_string.specs.Faults.{cut_fault}
 use Rattle.cf_contents.specs.Contents.{Content, text_content, data_content, number_content, instance_content, Object, string_class}
 use Rattle.cf_contents.specs.Deeds.{Deed, made, changed_to, text_in, mutable_text_in, mutable_data_in, with_object, with_text, with_mutable_text, with_mutable_data, unless_cut, part_of, object_of, Change, unchanged, contents, places, content_after, with_content, with_change, changed_by, resolved, first_of, second_of, deed_of, deed_at}
+use Rattle.cf_contents.proofs.ContentLaws.{changed_by-unchanged}
 use Rattle.cf_contents.proofs.FormLaws.{form_keeps, resolved-none}
 use Rattle.cf_syntax.specs.declared.script.ClassLine.{ClassLine}
 use Rattle.cf_syntax.specs.declared.statement.Statement.{Statement}
@@ -101,13 +102,9 @@ text_appended items objects first second o ob changed result more copied found s
     (text_done (λ units. changed_to (text_content true (units ++ copied))) items objects first o ob changed result view made is class did)
 
 -- a deed that changes nothing
-keeps_objects : (o : Option ℕ) (objects : List Object) → changed_by o unchanged objects ≡ objects
-keeps_objects None objects = refl
-keeps_objects (Some o) objects = refl
-
 pub kept_among : {E : Type 0} (deed : Deed) (o : Option ℕ) (objects : List Object) (result : Result Applied E)
     → deed.change ≡ unchanged → IfOk result (λ a. IsDeed deed a) → DoneAmong deed o objects objects result
-kept_among deed o objects (Ok a) kept told = (told, sym (ap (λ change. changed_by o change objects) kept ∙ keeps_objects o objects))
+kept_among deed o objects (Ok a) kept told = (told, sym (ap (λ change. changed_by o change objects) kept ∙ changed_by-unchanged o objects))
 kept_among deed o objects (Err e) kept told = refl
 
 -- a part of a text changes nothing

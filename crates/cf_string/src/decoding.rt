@@ -1,10 +1,10 @@
-ghost use Rattle.std.specs.Prelude.{◌≡◌, ◌<◌, true, ◌∷◌, length, drop, unwrap_or, ◌&&◌};
+ghost use Rattle.std.specs.Prelude.{◌≡◌, ◌<◌, ◌≤◌, true, ◌∷◌, length, drop, unwrap_or, ◌&&◌};
 ghost use Rattle.std.specs.Char.Utf16.{is_high_surrogate, is_low_surrogate, lone_unit_char, surrogate_pair_char, utf16_lossy_chars};
 
 /// The character whose units begin at `at`, and where the next one begins.
 pub(crate) fn char_at(units: &[u16], at: usize) -> (char, usize)
     requires { at < length units.now }
-    ensures bound { at < result.1 }
+    ensures bound { (at < result.1) × (result.1 ≤ length units.now) }
     ensures first { utf16_lossy_chars (drop at units.now)
         ≡ result.0 ∷ utf16_lossy_chars (drop result.1 units.now) }
 {

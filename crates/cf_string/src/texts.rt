@@ -82,7 +82,7 @@ impl Str {
     /// The character whose units begin at `at`, and where the next one begins.
     pub fn char_at(&self, at: usize) -> (char, usize)
         requires { at < length self.now.units }
-        ensures bound { at < result.1 }
+        ensures bound { (at < result.1) × (result.1 ≤ length self.now.units) }
         ensures first { let units = self.now.units in
             utf16_lossy_chars (drop at units) ≡ result.0 ∷ utf16_lossy_chars (drop result.1 units) }
     {

@@ -1,6 +1,7 @@
 -- An owned script: each variable is bound once, used only where it is bound, and released no more
--- often than it owns references, and each class that is named exists. After the ownership rule of the Memory Management guide: who makes or
--- retains an object owns a reference, and releases it. A count is a sum over the earlier statements.
+-- often than it owns references, and each class that is named exists. After the ownership rule of the Memory
+-- Management guide: who makes or retains an object owns a reference, and releases it. A count is a sum over the
+-- earlier statements.
 use Rattle.std.specs.Prelude.{◌≡◌, ℕ, ◌+◌, Bool, true, ◌&&◌, List, [], ◌∷◌, ◌++◌, false, ◌==◌, nat_lt, if◌then◌else◌}
 use Rattle.cf_syntax.specs.declared.statement.Statement.{Statement}
 use Rattle.cf_syntax.specs.declared.statement.Touch.{Touch}

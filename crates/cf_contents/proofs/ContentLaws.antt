@@ -1,40 +1,61 @@
--- A change of contents makes and loses no object, and changes no type. None at all changes nothing.
-use Rattle.std.proofs.Common.{◌≡◌, ℕ, zero, suc, List, [], ◌∷◌, length, Option, Some, None, refl, ap}
+-- A change of contents makes and loses no object, and changes no type and nothing that an object is compared by. None at
+-- all changes nothing.
+use Rattle.std.proofs.Common.{◌≡◌, ℕ, zero, suc, Bool, true, List, [], ◌∷◌, length, Option, Some, None, refl, ap}
 use Rattle.std.specs.Prelude.{slice_get}
 use Rattle.std.specs.Option.{option_map}
-use Rattle.cf_contents.specs.Contents.{Object}
-use Rattle.cf_contents.specs.Deeds.{Change, unchanged, contents, places, with_content, with_change, changed_by}
-
-length-with_content : (o : ℕ) (change : Change) (objects : List Object) → length (with_content o change objects) ≡ length objects
-length-with_content o change [] = refl
-length-with_content zero change (ob ∷ obs) = refl
-length-with_content (suc o) change (ob ∷ obs) = ap suc (length-with_content o change obs)
+use Rattle.cf_contents.specs.Contents.{Content, text_content, data_content, instance_content, array_content, dictionary_content, Object}
+use Rattle.cf_contents.specs.Deeds.{Change, unchanged, in_text, in_data, in_places, put_pair, take_pair, Splice, text_after, data_after, places_after, content_after, with_change, changed_by}
+use Rattle.cf_contents.specs.Keys.{form_of}
 
 pub length-with_change : (o : ℕ) (change : Change) (objects : List Object) → length (with_change o change objects) ≡ length objects
-length-with_change o unchanged objects = refl
-length-with_change o (contents content) objects = length-with_content o (contents content) objects
-length-with_change o (places e) objects = length-with_content o (places e) objects
+length-with_change o change [] = refl
+length-with_change zero change (ob ∷ obs) = refl
+length-with_change (suc o) change (ob ∷ obs) = ap suc (length-with_change o change obs)
 
 pub length-changed_by : (o : Option ℕ) (change : Change) (objects : List Object) → length (changed_by o change objects) ≡ length objects
 length-changed_by None change objects = refl
 length-changed_by (Some o) change objects = length-with_change o change objects
 
-class-with_content : (o : ℕ) (change : Change) (objects : List Object) (p : ℕ) → option_map (λ (ob : Object). ob.class) (slice_get (with_content o change objects) p) ≡ option_map (λ (ob : Object). ob.class) (slice_get objects p)
-class-with_content o change [] p = refl
-class-with_content zero change (ob ∷ obs) zero = refl
-class-with_content zero change (ob ∷ obs) (suc p) = refl
-class-with_content (suc o) change (ob ∷ obs) zero = refl
-class-with_content (suc o) change (ob ∷ obs) (suc p) = class-with_content o change obs p
-
 pub class-with_change : (o : ℕ) (change : Change) (objects : List Object) (p : ℕ) → option_map (λ (ob : Object). ob.class) (slice_get (with_change o change objects) p) ≡ option_map (λ (ob : Object). ob.class) (slice_get objects p)
-class-with_change o unchanged objects p = refl
-class-with_change o (contents content) objects p = class-with_content o (contents content) objects p
-class-with_change o (places e) objects p = class-with_content o (places e) objects p
+class-with_change o change [] p = refl
+class-with_change zero change (ob ∷ obs) zero = refl
+class-with_change zero change (ob ∷ obs) (suc p) = refl
+class-with_change (suc o) change (ob ∷ obs) zero = refl
+class-with_change (suc o) change (ob ∷ obs) (suc p) = class-with_change o change obs p
 
 pub class-changed_by : (o : Option ℕ) (change : Change) (objects : List Object) (p : ℕ) → option_map (λ (ob : Object). ob.class) (slice_get (changed_by o change objects) p) ≡ option_map (λ (ob : Object). ob.class) (slice_get objects p)
 class-changed_by None change objects p = refl
 class-changed_by (Some o) change objects p = class-with_change o change objects p
 
+pub with_change-unchanged : (o : ℕ) (objects : List Object) → with_change o unchanged objects ≡ objects
+with_change-unchanged o [] = refl
+with_change-unchanged zero (ob ∷ obs) = refl
+with_change-unchanged (suc o) (ob ∷ obs) = ap (λ (os : List Object). ob ∷ os) (with_change-unchanged o obs)
+
 pub changed_by-unchanged : (o : Option ℕ) (objects : List Object) → changed_by o unchanged objects ≡ objects
 changed_by-unchanged None objects = refl
-changed_by-unchanged (Some o) objects = refl
+changed_by-unchanged (Some o) objects = with_change-unchanged o objects
+
+-- what an object is compared by stays
+form-text : (keyed : Bool) (o : ℕ) (e : Splice ℕ) (c : Content) → form_of keyed o (text_after e c) ≡ form_of keyed o c
+form-text keyed o e (text_content true units) = refl
+form-text keyed o e _ = refl
+
+form-data : (keyed : Bool) (o : ℕ) (e : Splice ℕ) (c : Content) → form_of keyed o (data_after e c) ≡ form_of keyed o c
+form-data keyed o e (data_content true bytes) = refl
+form-data keyed o e _ = refl
+
+form-places : (keyed : Bool) (o : ℕ) (e : Splice (Option ℕ)) (c : Content) → form_of keyed o (places_after e c) ≡ form_of keyed o c
+form-places keyed o e (instance_content key fields) = refl
+form-places keyed o e (array_content plain os) = refl
+form-places keyed o e _ = refl
+
+pub form-after : (keyed : Bool) (o : ℕ) (change : Change) (c : Content) → form_of keyed o (content_after change c) ≡ form_of keyed o c
+form-after keyed o unchanged c = refl
+form-after keyed o (in_text e) c = form-text keyed o e c
+form-after keyed o (in_data e) c = form-data keyed o e c
+form-after keyed o (in_places e) c = form-places keyed o e c
+form-after keyed o (put_pair leaf key value) (dictionary_content plain pairs) = refl
+form-after keyed o (put_pair leaf key value) _ = refl
+form-after keyed o (take_pair key) (dictionary_content plain pairs) = refl
+form-after keyed o (take_pair key) _ = refl

@@ -2,3 +2,4 @@ pub mod ContentLaws
 pub mod OnLiterals
 pub mod SlotLaws
 pub mod FormLaws
+pub mod BodyLaws

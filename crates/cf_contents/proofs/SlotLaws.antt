@@ -1,9 +1,13 @@
--- What an edit takes in and gives out is what it changes in the slots.
-use Rattle.std.proofs.Common.{◌≡◌, ℕ, zero, suc, ◌+◌, ◌≤◌, List, [], ◌∷◌, ◌++◌, take, drop, replicate, Option, Some, None, refl, sym, ap, ◌∙◌, arith}
-use Rattle.std.specs.Prelude.{slice_get}
+-- What a change takes in and gives out is what it changes in the slots.
+use Rattle.std.proofs.Common.{◌≡◌, ℕ, zero, suc, ◌+◌, ◌≤◌, Bool, true, false, cond, List, [], ◌∷◌, ◌++◌, take, drop, replicate, Option, Some, None, refl, sym, ap, ◌∙◌, arith}
+use Rattle.std.specs.Prelude.{slice_get, is_some}
+use Rattle.std.specs.Map.{lookup, lookup_entry, remove_entry, set_value}
+use Rattle.std.specs.Option.{option_to_list}
 use Rattle.std.proofs.lemmas.List.{take-append-drop, drop-drop}
-use Rattle.cf_contents.specs.Contents.{Content, text_content, data_content, number_content, instance_content, Object, times, present, slots_in, slots_at}
-use Rattle.cf_contents.specs.Deeds.{Source, nowhere, fresh, Splice, Change, unchanged, contents, places, spliced, removed, edited, entering, leaving, content_after, coming_in, going_out, taken_in, given_out, with_content, with_change, resolved}
+use Rattle.cf_types.specs.declared.cells.Cell.{Cell}
+use Rattle.cf_contents.specs.Contents.{Content, text_content, data_content, number_content, instance_content, array_content, dictionary_content, Object, times, present, flat, unless_plain, slots_in, slots_at}
+use Rattle.cf_contents.specs.Keys.{equal_to}
+use Rattle.cf_contents.specs.Deeds.{Source, nowhere, fresh, there, Splice, Change, unchanged, in_text, in_data, in_places, put_pair, take_pair, pair_of, spliced, removed, elements, with_put, put_in, coming_by, going_by, text_after, data_after, places_after, entering, leaving, put_after, put_entering, put_leaving, taken_after, taken_leaving, content_after, coming_in, going_out, taken_in, given_out, with_change}
 
 pub times-append : (n : ℕ) (xs ys : List ℕ) → times n (xs ++ ys) ≡ times n xs + times n ys
 times-append n [] ys = omega arith
@@ -17,110 +21,181 @@ present-append (Some o ∷ xs) ys = ap (λ (os : List ℕ). o ∷ os) (present-a
 times-present : (n : ℕ) (xs ys : List (Option ℕ)) → times n (present (xs ++ ys)) ≡ times n (present xs) + times n (present ys)
 times-present n xs ys = ap (times n) (present-append xs ys) ∙ times-append n (present xs) (present ys)
 
+times-flat : (n : ℕ) (xs ys : List (Cell × ℕ)) → times n (flat (xs ++ ys)) ≡ times n (flat xs) + times n (flat ys)
+times-flat n [] ys = omega arith
+times-flat n (x ∷ xs) ys = omega (arith, times-flat n xs ys)
+
 -- empty places hold nothing
 pub present-empty : (n : ℕ) → present (replicate n None) ≡ []
 present-empty zero = refl
 present-empty (suc n) = present-empty n
 
--- places in three parts: before an edit, what it takes out, and behind it
-in_parts : (fields : List (Option ℕ)) (at out : ℕ) → fields ≡ take at fields ++ (take out (drop at fields) ++ drop (at + out) fields)
-in_parts fields at out =
-    sym (take-append-drop at fields) ∙ ap (λ (ps : List (Option ℕ)). take at fields ++ ps) (sym (take-append-drop out (drop at fields)) ∙ ap (λ (ps : List (Option ℕ)). take out (drop at fields) ++ ps) (drop-drop out at fields))
+-- ---- edits of lists, by a number that is additive
 
-fields_law : (n : ℕ) (fields : List (Option ℕ)) (e : Splice) → times n (present (spliced fields e)) + times n (present (removed fields e)) ≡ times n (present fields) + times n (present e.enter)
-fields_law n fields e =
-    let front = take e.at fields in
-    let gone = removed fields e in
-    let behind = drop (e.at + e.out) fields in
-    omega (arith, times-present n front (e.enter ++ behind), times-present n e.enter behind, times-present n front (gone ++ behind), times-present n gone behind, ap (λ (ps : List (Option ℕ)). times n (present ps)) (in_parts fields e.at e.out))
+module _ {A : Type 0} (f : List A → ℕ) (adds : (xs ys : List A) → f (xs ++ ys) ≡ f xs + f ys) where
+  -- a list in three parts: before an edit, what it takes out, and behind it
+  in_parts : (xs : List A) (at out : ℕ) → xs ≡ take at xs ++ (take out (drop at xs) ++ drop (at + out) xs)
+  in_parts xs at out =
+      sym (take-append-drop at xs) ∙ ap (λ (ps : List A). take at xs ++ ps) (sym (take-append-drop out (drop at xs)) ∙ ap (λ (ps : List A). take out (drop at xs) ++ ps) (drop-drop out at xs))
 
-edit_law : (n : ℕ) (c : Content) (e : Splice) → times n (slots_in (edited c e)) + times n (leaving c e) ≡ times n (slots_in c) + times n (entering c e)
-edit_law n (text_content mutable units) e = refl
-edit_law n (data_content mutable bytes) e = refl
-edit_law n (number_content k) e = refl
-edit_law n (instance_content key fields) e = fields_law n fields e
+  splice_law : (xs : List A) (e : Splice A) → f (spliced xs e) + f (removed xs e) ≡ f xs + f e.enter
+  splice_law xs e =
+      let front = take e.at xs in
+      let gone = removed xs e in
+      let behind = drop (e.at + e.out) xs in
+      omega (arith, adds front (e.enter ++ behind), adds e.enter behind, adds front (gone ++ behind), adds gone behind, ap f (in_parts xs e.at e.out))
 
--- a change to other contents finds and leaves no slots
-abbrev pub LeavesEmpty : Change → Type 0
-LeavesEmpty unchanged = Unit {0}
-LeavesEmpty (contents content) = slots_in content ≡ []
-LeavesEmpty (places e) = Unit {0}
+  removed_most : (xs : List A) (e : Splice A) → f (removed xs e) ≤ f xs
+  removed_most xs e =
+      let gone = removed xs e in
+      let behind = drop (e.at + e.out) xs in
+      omega (arith, adds (take e.at xs) (gone ++ behind), adds gone behind, ap f (in_parts xs e.at e.out))
 
-abbrev pub FindsEmpty : Option Object → Change → Type 0
-FindsEmpty ob unchanged = Unit {0}
-FindsEmpty ob (contents content) = slots_at ob ≡ []
-FindsEmpty ob (places e) = Unit {0}
+-- ---- edits of pairs
+
+-- the value of a key that is there is another
+set_head : (n v old : ℕ) (test : Cell → Bool) (p : Cell × ℕ) (ps : List (Cell × ℕ)) (b : Bool) → (lookup test ps ≡ Some old → times n (flat (set_value test ps v)) + times n (old ∷ []) ≡ times n (flat ps) + times n (v ∷ []))
+    → cond b (Some p.1) (lookup test ps) ≡ Some old → times n (flat (cond b ((p.0, v) ∷ ps) (p ∷ set_value test ps v))) + times n (old ∷ []) ≡ times n (flat (p ∷ ps)) + times n (v ∷ [])
+set_head n v old test p ps true rest h = let same : p.1 ≡ old = cc in omega (arith, ap (λ (o : ℕ). times n (o ∷ [])) same)
+set_head n v old test p ps false rest h = omega (arith, rest h)
+
+set_law : (n v old : ℕ) (test : Cell → Bool) (pairs : List (Cell × ℕ)) → lookup test pairs ≡ Some old → times n (flat (set_value test pairs v)) + times n (old ∷ []) ≡ times n (flat pairs) + times n (v ∷ [])
+set_law n v old test [] h = absurd cc
+set_law n v old test (p ∷ ps) h = set_head n v old test p ps (test p.0) (set_law n v old test ps) h
+
+put_law : (n : ℕ) (test : Cell → Bool) (pairs : List (Cell × ℕ)) (k : Cell) (v : ℕ) (found : Option ℕ) → lookup test pairs ≡ found → times n (flat (cond (is_some found) (set_value test pairs v) (pairs ++ (k, v) ∷ []))) + times n (option_to_list found) ≡ times n (flat pairs) + times n (put_in (is_some found) (k, v))
+put_law n test pairs k v None h = omega (arith, times-flat n pairs ((k, v) ∷ []))
+put_law n test pairs k v (Some old) h = set_law n v old test pairs h
+
+-- a pair that is taken out
+take_head : (n : ℕ) (test : Cell → Bool) (p : Cell × ℕ) (ps : List (Cell × ℕ)) (b : Bool) → times n (flat (remove_entry test ps)) + times n (flat (option_to_list (lookup_entry test ps))) ≡ times n (flat ps)
+    → times n (flat (cond b ps (p ∷ remove_entry test ps))) + times n (flat (option_to_list (cond b (Some p) (lookup_entry test ps)))) ≡ times n (flat (p ∷ ps))
+take_head n test p ps true rest = omega arith
+take_head n test p ps false rest = omega (arith, rest)
+
+take_law : (n : ℕ) (test : Cell → Bool) (pairs : List (Cell × ℕ)) → times n (flat (remove_entry test pairs)) + times n (flat (option_to_list (lookup_entry test pairs))) ≡ times n (flat pairs)
+take_law n test [] = refl
+take_law n test (p ∷ ps) = take_head n test p ps (test p.0) (take_law n test ps)
+
+-- a value that is looked up stands among the pairs
+found_head : (n : ℕ) (test : Cell → Bool) (p : Cell × ℕ) (ps : List (Cell × ℕ)) (b : Bool) → times n (option_to_list (lookup test ps)) ≤ times n (flat ps) → times n (option_to_list (cond b (Some p.1) (lookup test ps))) ≤ times n (flat (p ∷ ps))
+found_head n test p ps true rest = omega arith
+found_head n test p ps false rest = omega (arith, rest)
+
+found_most : (n : ℕ) (test : Cell → Bool) (pairs : List (Cell × ℕ)) → times n (option_to_list (lookup test pairs)) ≤ times n (flat pairs)
+found_most n test [] = omega arith
+found_most n test (p ∷ ps) = found_head n test p ps (test p.0) (found_most n test ps)
+
+-- ---- what holds of members holds of slots, of which a plain collection has none
+
+unless_law : (n : ℕ) (plain : Bool) (a b c d : List ℕ) → times n a + times n b ≡ times n c + times n d → times n (unless_plain plain a) + times n (unless_plain plain b) ≡ times n (unless_plain plain c) + times n (unless_plain plain d)
+unless_law n true a b c d h = refl
+unless_law n false a b c d h = h
+
+unless_most : (n : ℕ) (plain : Bool) (a b : List ℕ) → times n a ≤ times n b → times n (unless_plain plain a) ≤ times n (unless_plain plain b)
+unless_most n true a b h = omega arith
+unless_most n false a b h = h
+
+unless_none : (n : ℕ) (plain : Bool) (a b c : List ℕ) → times n a + times n b ≡ times n c → times n (unless_plain plain a) + times n (unless_plain plain b) ≡ times n (unless_plain plain c) + times n []
+unless_none n true a b c h = refl
+unless_none n false a b c h = omega (arith, h)
+
+text_law : (n : ℕ) (e : Splice ℕ) (c : Content) → slots_in (text_after e c) ≡ slots_in c
+text_law n e (text_content true units) = refl
+text_law n e _ = refl
+
+data_law : (n : ℕ) (e : Splice ℕ) (c : Content) → slots_in (data_after e c) ≡ slots_in c
+data_law n e (data_content true bytes) = refl
+data_law n e _ = refl
+
+places_law : (n : ℕ) (e : Splice (Option ℕ)) (c : Content) → times n (slots_in (places_after e c)) + times n (leaving e c) ≡ times n (slots_in c) + times n (entering e c)
+places_law n e (instance_content key fields) = splice_law (λ (ps : List (Option ℕ)). times n (present ps)) (times-present n) fields e
+places_law n e (array_content plain os) = unless_law n plain _ _ _ _ (splice_law (times n) (times-append n) os (elements e))
+places_law n e (text_content mutable units) = refl
+places_law n e (data_content mutable bytes) = refl
+places_law n e (number_content k) = refl
+places_law n e (dictionary_content plain pairs) = omega arith
+
+with_law : (n : ℕ) (plain : Bool) (pairs : List (Cell × ℕ)) (p : Option (Cell × ℕ)) → times n (flat (with_put plain pairs p)) + times n (going_by plain pairs p) ≡ times n (flat pairs) + times n (coming_by plain pairs p)
+with_law n plain pairs None = refl
+with_law n plain pairs (Some p) = put_law n (equal_to plain p.0) pairs p.0 p.1 (lookup (equal_to plain p.0) pairs) refl
+
+pair_law : (n : ℕ) (p : Option (Cell × ℕ)) (c : Content) → times n (slots_in (put_after p c)) + times n (put_leaving p c) ≡ times n (slots_in c) + times n (put_entering p c)
+pair_law n p (dictionary_content plain pairs) = unless_law n plain _ _ _ _ (with_law n plain pairs p)
+pair_law n p (text_content mutable units) = refl
+pair_law n p (data_content mutable bytes) = refl
+pair_law n p (number_content k) = refl
+pair_law n p (instance_content key fields) = omega arith
+pair_law n p (array_content plain os) = omega arith
+
+taken_law : (n : ℕ) (key : Cell) (c : Content) → times n (slots_in (taken_after key c)) + times n (taken_leaving key c) ≡ times n (slots_in c) + times n []
+taken_law n key (dictionary_content plain pairs) = unless_none n plain _ _ _ (take_law n (equal_to plain key) pairs)
+taken_law n key (text_content mutable units) = refl
+taken_law n key (data_content mutable bytes) = refl
+taken_law n key (number_content k) = refl
+taken_law n key (instance_content k fields) = omega arith
+taken_law n key (array_content plain os) = omega arith
 
 -- the slots after a change, with what it gives out, are those before it with what it takes in
-content_law : (n : ℕ) (ob : Object) (change : Change) → LeavesEmpty change → FindsEmpty (Some ob) change → times n (slots_in (content_after change ob.content)) + times n (going_out change ob.content) ≡ times n (slots_in ob.content) + times n (coming_in change ob.content)
-content_law n ob unchanged l f = refl
-content_law n ob (contents content) l f = rw (l, f) refl
-content_law n ob (places e) l f = edit_law n ob.content e
+content_law : (n : ℕ) (change : Change) (c : Content) → times n (slots_in (content_after change c)) + times n (going_out change c) ≡ times n (slots_in c) + times n (coming_in change c)
+content_law n unchanged c = refl
+content_law n (in_text e) c = rw (text_law n e c) refl
+content_law n (in_data e) c = rw (data_law n e c) refl
+content_law n (in_places e) c = places_law n e c
+content_law n (put_pair leaf key value) c = pair_law n (pair_of leaf key value) c
+content_law n (take_pair key) c = taken_law n key c
 
-object_law : (n o : ℕ) (change : Change) (objects : List Object) → LeavesEmpty change → FindsEmpty (slice_get objects o) change → times n (slots_at (slice_get (with_content o change objects) o)) + times n (given_out (slice_get objects o) change) ≡ times n (slots_at (slice_get objects o)) + times n (taken_in (slice_get objects o) change)
-object_law n o change [] l f = refl
-object_law n zero change (ob ∷ obs) l f = content_law n ob change l f
-object_law n (suc o) change (ob ∷ obs) l f = object_law n o change obs l f
-
-nothing_law : (n : ℕ) (ob : Option Object) → times n (slots_at ob) + times n (given_out ob unchanged) ≡ times n (slots_at ob) + times n (taken_in ob unchanged)
-nothing_law n None = refl
-nothing_law n (Some ob) = refl
-
-pub change_law : (n o : ℕ) (change : Change) (objects : List Object) → LeavesEmpty change → FindsEmpty (slice_get objects o) change → times n (slots_at (slice_get (with_change o change objects) o)) + times n (given_out (slice_get objects o) change) ≡ times n (slots_at (slice_get objects o)) + times n (taken_in (slice_get objects o) change)
-change_law n o unchanged objects l f = nothing_law n (slice_get objects o)
-change_law n o (contents content) objects l f = object_law n o (contents content) objects l f
-change_law n o (places e) objects l f = object_law n o (places e) objects l f
+pub change_law : (n o : ℕ) (change : Change) (objects : List Object) → times n (slots_at (slice_get (with_change o change objects) o)) + times n (given_out (slice_get objects o) change) ≡ times n (slots_at (slice_get objects o)) + times n (taken_in (slice_get objects o) change)
+change_law n o change [] = refl
+change_law n zero change (ob ∷ obs) = content_law n change ob.content
+change_law n (suc o) change (ob ∷ obs) = change_law n o change obs
 
 -- the other objects keep theirs
-others_same : (o p : ℕ) (change : Change) (objects : List Object) → (o ≡ p → ⊥) → slice_get (with_content o change objects) p ≡ slice_get objects p
-others_same o p change [] h = refl
-others_same zero zero change (ob ∷ obs) h = absurd (h refl)
-others_same zero (suc p) change (ob ∷ obs) h = refl
-others_same (suc o) zero change (ob ∷ obs) h = refl
-others_same (suc o) (suc p) change (ob ∷ obs) h = others_same o p change obs (λ q. h (ap suc q))
-
 pub others_keep : (o p : ℕ) (change : Change) (objects : List Object) → (o ≡ p → ⊥) → slice_get (with_change o change objects) p ≡ slice_get objects p
-others_keep o p unchanged objects h = refl
-others_keep o p (contents content) objects h = others_same o p (contents content) objects h
-others_keep o p (places e) objects h = others_same o p (places e) objects h
+others_keep o p change [] h = refl
+others_keep zero zero change (ob ∷ obs) h = absurd (h refl)
+others_keep zero (suc p) change (ob ∷ obs) h = refl
+others_keep (suc o) zero change (ob ∷ obs) h = refl
+others_keep (suc o) (suc p) change (ob ∷ obs) h = others_keep o p change obs (λ q. h (ap suc q))
 
 -- what a change gives out is among the slots
-leaving_most : (n : ℕ) (c : Content) (e : Splice) → times n (leaving c e) ≤ times n (slots_in c)
-leaving_most n (text_content mutable units) e = omega arith
-leaving_most n (data_content mutable bytes) e = omega arith
-leaving_most n (number_content k) e = omega arith
-leaving_most n (instance_content key fields) e =
-    let gone = removed fields e in
-    let behind = drop (e.at + e.out) fields in
-    omega (arith, times-present n (take e.at fields) (gone ++ behind), times-present n gone behind, ap (λ (ps : List (Option ℕ)). times n (present ps)) (in_parts fields e.at e.out))
+leaving_most : (n : ℕ) (e : Splice (Option ℕ)) (c : Content) → times n (leaving e c) ≤ times n (slots_in c)
+leaving_most n e (instance_content key fields) = removed_most (λ (ps : List (Option ℕ)). times n (present ps)) (times-present n) fields e
+leaving_most n e (array_content plain os) = unless_most n plain _ _ (removed_most (times n) (times-append n) os (elements e))
+leaving_most n e _ = omega arith
 
-going_most : (n : ℕ) (change : Change) (c : Content) → times n (going_out change c) ≤ times n (slots_in c)
-going_most n unchanged c = omega arith
-going_most n (contents content) c = omega arith
-going_most n (places e) c = leaving_most n c e
+going_most : (n : ℕ) (plain : Bool) (pairs : List (Cell × ℕ)) (p : Option (Cell × ℕ)) → times n (going_by plain pairs p) ≤ times n (flat pairs)
+going_most n plain pairs None = omega arith
+going_most n plain pairs (Some p) = found_most n (equal_to plain p.0) pairs
+
+put_most : (n : ℕ) (p : Option (Cell × ℕ)) (c : Content) → times n (put_leaving p c) ≤ times n (slots_in c)
+put_most n p (dictionary_content plain pairs) = unless_most n plain _ _ (going_most n plain pairs p)
+put_most n p _ = omega arith
+
+taken_most : (n : ℕ) (key : Cell) (c : Content) → times n (taken_leaving key c) ≤ times n (slots_in c)
+taken_most n key (dictionary_content plain pairs) = unless_most n plain _ _ (omega (arith, take_law n (equal_to plain key) pairs))
+taken_most n key _ = omega arith
+
+out_most : (n : ℕ) (change : Change) (c : Content) → times n (going_out change c) ≤ times n (slots_in c)
+out_most n unchanged c = omega arith
+out_most n (in_text e) c = omega arith
+out_most n (in_data e) c = omega arith
+out_most n (in_places e) c = leaving_most n e c
+out_most n (put_pair leaf key value) c = put_most n (pair_of leaf key value) c
+out_most n (take_pair key) c = taken_most n key c
 
 pub given_most : (n : ℕ) (change : Change) (ob : Option Object) → times n (given_out ob change) ≤ times n (slots_at ob)
 given_most n change None = omega arith
-given_most n change (Some ob) = going_most n change ob.content
+given_most n change (Some ob) = out_most n change ob.content
 
 -- a new object has no slots
 abbrev pub MakesEmpty : Source → Type 0
 MakesEmpty nowhere = Unit {0}
 MakesEmpty (fresh ob) = slots_in ob.content ≡ []
+MakesEmpty (there o) = Unit {0}
 
 pub slots-more : (objects : List Object) (ob : Object) (b : ℕ) → slots_in ob.content ≡ [] → slots_at (slice_get (objects ++ ob ∷ []) b) ≡ slots_at (slice_get objects b)
 slots-more [] ob zero h = h
 slots-more [] ob (suc b) h = refl
 slots-more (o ∷ os) ob zero h = refl
 slots-more (o ∷ os) ob (suc b) h = slots-more os ob b h
-
--- a change keeps what it leaves and finds when the objects that come in are known
-pub leaves-resolved : (used : List (Option ℕ)) (change : Change) → LeavesEmpty change → LeavesEmpty (resolved used change)
-leaves-resolved used unchanged h = tt
-leaves-resolved used (contents content) h = h
-leaves-resolved used (places e) h = tt
-
-pub finds-resolved : (used : List (Option ℕ)) (change : Change) (ob : Option Object) → FindsEmpty ob change → FindsEmpty ob (resolved used change)
-finds-resolved used unchanged ob h = tt
-finds-resolved used (contents content) ob h = h
-finds-resolved used (places e) ob h = tt

@@ -1,15 +1,20 @@
 -- What objects contain. After the reference: a text is a list of UTF-16 units, data a list of bytes, a number a
--- value and its kind. Instances of a script's classes are this project's own.
+-- value and its kind, an array a list of elements, a dictionary a list of pairs with distinct keys. Instances of a
+-- script's classes, and the order of pairs, are this project's own.
 use Rattle.std.specs.Prelude.{ℕ, ◌+◌, ℤ, Bool, List, [], ◌∷◌, ◌==◌, if◌then◌else◌, Option, None, Some, replicate}
 use Rattle.cf_number.specs.Numbers.{Number}
+use Rattle.cf_types.specs.declared.cells.Cell.{Cell}
 use Rattle.cf_syntax.specs.declared.script.ClassLine.{ClassLine}
 
--- what an object contains; the flag says that it is mutable
+-- what an object contains. A text or data may be mutable, a collection may be plain: such a one compares identities
+-- and holds nothing. A pair is its key, with what that is compared by, and the number of its value
 pub data Content : Type 0 where
   text_content : (mutable : Bool) (units : List ℕ) → Content
   data_content : (mutable : Bool) (bytes : List ℕ) → Content
   number_content : Number → Content
   instance_content : (key : ℤ) (fields : List (Option ℕ)) → Content
+  array_content : (plain : Bool) (elements : List ℕ) → Content
+  dictionary_content : (plain : Bool) (pairs : List (Cell × ℕ)) → Content
 
 -- an object that was made: the number of its type, and what it contains
 pub record Object : Type 0 where
@@ -27,11 +32,22 @@ present [] = []
 present (None ∷ os) = present os
 present (Some o ∷ os) = o ∷ present os
 
+-- the objects of pairs, one pair after another: the key and then the value
+abbrev pub flat : List (Cell × ℕ) → List ℕ
+flat [] = []
+flat (p ∷ ps) = p.0.id ∷ p.1 ∷ flat ps
+
+-- what a collection holds of its members: all, or nothing where it is plain
+abbrev pub unless_plain : Bool → List ℕ → List ℕ
+unless_plain plain os = if plain then [] else os
+
 abbrev pub slots_in : Content → List ℕ
 slots_in (text_content mutable units) = []
 slots_in (data_content mutable bytes) = []
 slots_in (number_content n) = []
 slots_in (instance_content key fields) = present fields
+slots_in (array_content plain elements) = unless_plain plain elements
+slots_in (dictionary_content plain pairs) = unless_plain plain (flat pairs)
 
 abbrev pub slots_at : Option Object → List ℕ
 slots_at None = []
@@ -46,6 +62,12 @@ data_class = 4
 
 abbrev pub number_class : ℕ
 number_class = 5
+
+abbrev pub array_class : ℕ
+array_class = 6
+
+abbrev pub dictionary_class : ℕ
+dictionary_class = 7
 
 abbrev pub first_class : ℕ
 first_class = 14

@@ -1,7 +1,9 @@
 -- Each form as data: what it answers, what it binds, and what it does to contents, by the objects that it uses. All
 -- that a step does comes from this data, so a further form adds a line. This project's own, after the reference.
-use Rattle.std.specs.Prelude.{ℕ, zero, suc, ◌+◌, ◌-◌, true, false, List, [], ◌∷◌, ◌++◌, length, take, drop, map, Option, Some, None, slice_get, nat_lt, if◌then◌else◌}
+use Rattle.std.specs.Prelude.{ℕ, zero, suc, ◌+◌, Bool, true, false, List, [], ◌∷◌, length, take, drop, map, Option, Some, None, is_some, slice_get, nat_lt, nat_le, if◌then◌else◌}
 use Rattle.std.specs.List.{splice}
+use Rattle.std.specs.Map.{lookup, lookup_entry, remove_entry}
+use Rattle.std.specs.Option.{option_to_list}
 use Rattle.cf_ids.specs.declared.answer.Answer.{Answer}
 use Rattle.cf_ids.specs.declared.answer.Answer.TheVariants as answers
 use Rattle.cf_number.specs.declared.kinds.NumKind.{NumKind}
@@ -10,30 +12,39 @@ use Rattle.cf_number.specs.Numbers.{Number}
 use Rattle.cf_string.specs.declared.faults.StrFault.{StrFault}
 use Rattle.cf_string.specs.declared.faults.StrFault.TheVariants.{Range, SplitsPair}
 use Rattle.cf_string.specs.Faults.{cut_fault}
-use Rattle.cf_string.specs.Units.{replaced}
+use Rattle.cf_types.specs.Views.{LeafView}
+use Rattle.cf_types.specs.declared.cells.Cell.{Cell}
+use Rattle.cf_dictionary.specs.Dictionaries.{pairs_with}
 use Rattle.cf_syntax.specs.declared.script.ClassLine.{ClassLine}
 use Rattle.cf_syntax.specs.declared.statement.Statement.{Statement}
 use Rattle.cf_syntax.specs.declared.statement.Statement.TheVariants as forms
-use Rattle.cf_contents.specs.Contents.{Content, text_content, data_content, number_content, instance_content, Object, present, string_class, data_class, number_class, first_class, instance_of}
+use Rattle.cf_contents.specs.Contents.{Content, text_content, data_content, number_content, instance_content, array_content, dictionary_content, Object, present, flat, unless_plain, string_class, data_class, number_class, array_class, dictionary_class, instance_of}
+use Rattle.cf_contents.specs.Keys.{Numbered, numbered, line_of, cell_of, equal_to}
 use Rattle.cf_contents.specs.Descriptions.{description}
 
--- where the object comes from that a statement binds: there is none, and the variable is empty, or it is new
+-- where the object comes from that a statement binds: there is none, and the variable is empty; it is new; or it is
+-- there, and the variable is empty too where that object is finalised
 pub data Source : Type 0 where
   nowhere : Source
   fresh : Object → Source
+  there : ℕ → Source
 
--- an edit of places: from a place on so many go out, and others come in there, each empty or one of the objects that
--- are used, by its number among them
-pub record Splice : Type 0 where
+-- an edit of a list: from a place on so many go out, and others come in there
+pub record Splice (A : Type 0) : Type 0 where
   pub at : ℕ
   pub out : ℕ
-  pub enter : List (Option ℕ)
+  pub enter : List A
 
--- what becomes of the first object that a statement uses: nothing, other contents, or an edit of its places
+-- what becomes of the first object that a statement uses: nothing; an edit of its text, of its bytes, or of its fields
+-- or elements; a pair that is put in, its value alone where its key is there; or a pair that is taken out by its key.
+-- What comes in is empty or one of the objects that are used, by its number among them
 pub data Change : Type 0 where
   unchanged : Change
-  contents : Content → Change
-  places : Splice → Change
+  in_text : Splice ℕ → Change
+  in_data : Splice ℕ → Change
+  in_places : Splice (Option ℕ) → Change
+  put_pair : LeafView → (key value : Option ℕ) → Change
+  take_pair : Cell → Change
 
 -- what a statement answers where nothing else decides its answer, what it binds, and what it changes
 pub record Deed : Type 0 where
@@ -50,13 +61,22 @@ skipped = answered answers.Skip
 abbrev pub made : ℕ → Content → Deed
 made class content = record { answer = answers.Skip; source = fresh (record { class = class; content = content }); change = unchanged }
 
-abbrev pub changed_to : Content → Deed
-changed_to content = record { answer = answers.Ok; source = nowhere; change = contents content }
+abbrev pub changing : Answer → Change → Deed
+changing a change = record { answer = a; source = nowhere; change = change }
+
+-- an object is taken where one is found, and stays where it is
+abbrev pub taken : Option ℕ → Deed
+taken None = answered answers.Nil
+taken (Some o) = record { answer = answers.Nil; source = there o; change = unchanged }
 
 -- by an object, where there is one of the kind; else the statement is skipped
-abbrev pub with_object : Option Object → (Object → Deed) → Deed
+abbrev pub with_object : Option Numbered → (Object → Deed) → Deed
 with_object None deed = skipped
-with_object (Some o) deed = deed o
+with_object (Some u) deed = deed u.object
+
+abbrev pub with_key : List ClassLine → Option Numbered → (Cell → Deed) → Deed
+with_key classes None deed = skipped
+with_key classes (Some u) deed = deed (cell_of classes u)
 
 abbrev pub text_in : Content → (List ℕ → Deed) → Deed
 text_in (text_content mutable units) deed = deed units
@@ -74,17 +94,40 @@ abbrev pub number_in : Content → (Number → Deed) → Deed
 number_in (number_content n) deed = deed n
 number_in _ deed = skipped
 
-abbrev pub with_text : Option Object → (List ℕ → Deed) → Deed
+abbrev pub fields_in : Content → (List (Option ℕ) → Deed) → Deed
+fields_in (instance_content key fields) deed = deed fields
+fields_in _ deed = skipped
+
+abbrev pub elements_in : Content → (List ℕ → Deed) → Deed
+elements_in (array_content plain elements) deed = deed elements
+elements_in _ deed = skipped
+
+abbrev pub pairs_in : Content → (Bool → List (Cell × ℕ) → Deed) → Deed
+pairs_in (dictionary_content plain pairs) deed = deed plain pairs
+pairs_in _ deed = skipped
+
+abbrev pub with_text : Option Numbered → (List ℕ → Deed) → Deed
 with_text o deed = with_object o (λ ob. text_in ob.content deed)
 
-abbrev pub with_mutable_text : Option Object → (List ℕ → Deed) → Deed
+abbrev pub with_mutable_text : Option Numbered → (List ℕ → Deed) → Deed
 with_mutable_text o deed = with_object o (λ ob. mutable_text_in ob.content deed)
 
-abbrev pub with_mutable_data : Option Object → (List ℕ → Deed) → Deed
+abbrev pub with_mutable_data : Option Numbered → (List ℕ → Deed) → Deed
 with_mutable_data o deed = with_object o (λ ob. mutable_data_in ob.content deed)
 
-abbrev pub with_number : Option Object → (Number → Deed) → Deed
+abbrev pub with_number : Option Numbered → (Number → Deed) → Deed
 with_number o deed = with_object o (λ ob. number_in ob.content deed)
+
+abbrev pub with_fields : Option Numbered → (List (Option ℕ) → Deed) → Deed
+with_fields o deed = with_object o (λ ob. fields_in ob.content deed)
+
+abbrev pub with_elements : Option Numbered → (List ℕ → Deed) → Deed
+with_elements o deed = with_object o (λ ob. elements_in ob.content deed)
+
+-- by the value of the key that is equal to one, where it is there, and by that key
+abbrev pub with_pair : List ClassLine → (dictionary key : Option Numbered) → (Cell → Option ℕ → Deed) → Deed
+with_pair classes dictionary key deed =
+    with_object dictionary (λ ob. pairs_in ob.content (λ plain pairs. with_key classes key (λ cell. deed cell (lookup (equal_to plain cell) pairs))))
 
 -- a deed on a range of a text, unless the range passes its length or cuts a surrogate pair
 abbrev pub unless_cut : Option StrFault → Deed → Deed
@@ -93,14 +136,21 @@ unless_cut (Some Range) deed = answered answers.Range
 unless_cut (Some SplitsPair) deed = answered answers.Split
 unless_cut (Some _) deed = skipped
 
+-- a deed where a test holds; else a place or a range passes the length
+abbrev pub within : Bool → Deed → Deed
+within test deed = if test then deed else answered answers.Range
+
 -- the `len` units from `at` on replaced by others, and the same of bytes
 abbrev pub edited_text : List ℕ → ℕ → ℕ → List ℕ → Deed
-edited_text units at len other = unless_cut (cut_fault units at len) (changed_to (text_content true (replaced units at len other)))
+edited_text units at len other = unless_cut (cut_fault units at len) (changing answers.Ok (in_text (record { at = at; out = len; enter = other })))
 
 abbrev pub edited_data : List ℕ → ℕ → ℕ → List ℕ → Deed
-edited_data bytes at len other =
-    if nat_lt (length bytes) (at + len) then answered answers.Range
-    else changed_to (data_content true (splice bytes at (at + len) other))
+edited_data bytes at len other = within (nat_le (at + len) (length bytes)) (changing answers.Ok (in_data (record { at = at; out = len; enter = other })))
+
+-- so many fields or elements from a place on replaced by one of the objects that are used, by nothing in a field, or by
+-- no element
+abbrev pub edited_places : ℕ → ℕ → List (Option ℕ) → Deed
+edited_places at out enter = changing answers.Ok (in_places (record { at = at; out = out; enter = enter }))
 
 -- the units of a range as a new string
 abbrev pub part_of : List ℕ → ℕ → ℕ → Deed
@@ -113,104 +163,199 @@ abbrev pub fresh_if : Option Object → Deed
 fresh_if None = skipped
 fresh_if (Some o) = record { answer = answers.Skip; source = fresh o; change = unchanged }
 
-abbrev pub line_of : List ClassLine → ℕ → Option ClassLine
-line_of classes class = slice_get classes (class - first_class)
+-- the second and the third object that are used as a pair, by whether the key is there: it is added, set or replaced
+abbrev pub put : Answer → Cell → Deed
+put a key = changing a (put_pair key.leaf (Some 1) (Some 2))
 
--- the deed of a statement, by the classes of the script and by the first two objects that it uses
-abbrev pub deed_of : List ClassLine → Statement → (first second : Option Object) → Deed
-deed_of classes (forms.MakeString v text) a b = made string_class (text_content false text)
-deed_of classes (forms.MakeMstring v text) a b = made string_class (text_content true text)
-deed_of classes (forms.MakeData v bytes) a b = made data_class (data_content false bytes)
-deed_of classes (forms.MakeMdata v bytes) a b = made data_class (data_content true bytes)
-deed_of classes (forms.MakeNumber v n) a b = made number_class (number_content n)
-deed_of classes (forms.New v None key) a b = skipped
-deed_of classes (forms.New v (Some class) key) a b = fresh_if (instance_of class key (line_of classes class))
-deed_of classes (forms.Retain v) a b = answered answers.Ok
-deed_of classes (forms.Release v) a b = answered answers.Ok
-deed_of classes (forms.Show v) a b = with_object a (λ o. answered (answers.Shown (description classes o)))
-deed_of classes (forms.StrAppend v other) a b = with_mutable_text a (λ units. with_text b (λ more. changed_to (text_content true (units ++ more))))
-deed_of classes (forms.StrInsert v at text) a b = with_mutable_text a (λ units. edited_text units at 0 text)
-deed_of classes (forms.StrDelete v at len) a b = with_mutable_text a (λ units. edited_text units at len [])
-deed_of classes (forms.StrReplace v at len text) a b = with_mutable_text a (λ units. edited_text units at len text)
-deed_of classes (forms.StrSub v text at len) a b = with_text a (λ units. part_of units at len)
-deed_of classes (forms.DataAppend v bytes) a b = with_mutable_data a (λ old. changed_to (data_content true (old ++ bytes)))
-deed_of classes (forms.DataReplace v at len bytes) a b = with_mutable_data a (λ old. edited_data old at len bytes)
-deed_of classes (forms.DataDelete v at len) a b = with_mutable_data a (λ old. edited_data old at len [])
-deed_of classes (forms.NumAs v kind) a b = with_number a (as_kind kind)
+abbrev pub add_pair : Cell → Option ℕ → Deed
+add_pair key None = put answers.Ok key
+add_pair key (Some old) = answered answers.Present
 
--- the first two objects that are used
-abbrev pub first_of : List (Option ℕ) → Option ℕ
-first_of [] = None
-first_of (o ∷ os) = o
+abbrev pub set_pair : Cell → Option ℕ → Deed
+set_pair key None = put answers.Added key
+set_pair key (Some old) = put answers.Changed key
 
-abbrev pub second_of : List (Option ℕ) → Option ℕ
-second_of [] = None
-second_of (o ∷ os) = first_of os
+abbrev pub replace_pair : Cell → Option ℕ → Deed
+replace_pair key None = answered answers.Absent
+replace_pair key (Some old) = put answers.Ok key
 
-abbrev pub object_of : List Object → Option ℕ → Option Object
-object_of objects None = None
-object_of objects (Some o) = slice_get objects o
+abbrev pub remove_pair : Cell → Option ℕ → Deed
+remove_pair key None = answered answers.Absent
+remove_pair key (Some old) = changing answers.Ok (take_pair key)
 
--- the deed of a statement among objects, by the numbers of those that it uses
-abbrev pub deed_at : List ClassLine → List Object → Statement → List (Option ℕ) → Deed
-deed_at classes objects s used = deed_of classes s (object_of objects (first_of used)) (object_of objects (second_of used))
+-- the object in a field, where there is one
+abbrev pub in_field : Option (Option ℕ) → Option ℕ
+in_field None = None
+in_field (Some field) = field
 
--- one of the objects that are used, by its number among them, and a change with the objects that come in
+-- the deed of a statement, by the classes of the script and by the objects that it uses
+abbrev pub deed_of : List ClassLine → Statement → (first second third : Option Numbered) → Deed
+deed_of classes (forms.MakeString v text) a b c = made string_class (text_content false text)
+deed_of classes (forms.MakeMstring v text) a b c = made string_class (text_content true text)
+deed_of classes (forms.MakeData v bytes) a b c = made data_class (data_content false bytes)
+deed_of classes (forms.MakeMdata v bytes) a b c = made data_class (data_content true bytes)
+deed_of classes (forms.MakeNumber v n) a b c = made number_class (number_content n)
+deed_of classes (forms.MakeArray v plain) a b c = made array_class (array_content plain [])
+deed_of classes (forms.MakeDict v plain) a b c = made dictionary_class (dictionary_content plain [])
+deed_of classes (forms.New v None key) a b c = skipped
+deed_of classes (forms.New v (Some class) key) a b c = fresh_if (instance_of class key (line_of classes class))
+deed_of classes (forms.Retain v) a b c = answered answers.Ok
+deed_of classes (forms.Release v) a b c = answered answers.Ok
+deed_of classes (forms.Show v) a b c = with_object a (λ o. answered (answers.Shown (description classes o)))
+deed_of classes (forms.StrAppend v other) a b c = with_mutable_text a (λ units. with_text b (λ more. edited_text units (length units) 0 more))
+deed_of classes (forms.StrInsert v at text) a b c = with_mutable_text a (λ units. edited_text units at 0 text)
+deed_of classes (forms.StrDelete v at len) a b c = with_mutable_text a (λ units. edited_text units at len [])
+deed_of classes (forms.StrReplace v at len text) a b c = with_mutable_text a (λ units. edited_text units at len text)
+deed_of classes (forms.StrSub v text at len) a b c = with_text a (λ units. part_of units at len)
+deed_of classes (forms.DataAppend v bytes) a b c = with_mutable_data a (λ old. edited_data old (length old) 0 bytes)
+deed_of classes (forms.DataReplace v at len bytes) a b c = with_mutable_data a (λ old. edited_data old at len bytes)
+deed_of classes (forms.DataDelete v at len) a b c = with_mutable_data a (λ old. edited_data old at len [])
+deed_of classes (forms.NumAs v kind) a b c = with_number a (as_kind kind)
+deed_of classes (forms.ArrAppend v x) a b c = with_elements a (λ os. with_object b (λ o. edited_places (length os) 0 (Some 1 ∷ [])))
+deed_of classes (forms.ArrInsert v at x) a b c = with_elements a (λ os. with_object b (λ o. within (nat_le at (length os)) (edited_places at 0 (Some 1 ∷ []))))
+deed_of classes (forms.ArrSet v at x) a b c = with_elements a (λ os. with_object b (λ o. within (nat_le at (length os)) (edited_places at 1 (Some 1 ∷ []))))
+deed_of classes (forms.ArrRemove v at) a b c = with_elements a (λ os. within (nat_lt at (length os)) (edited_places at 1 []))
+deed_of classes (forms.ArrTake v array at) a b c = with_elements a (λ os. taken (slice_get os at))
+deed_of classes (forms.DictAdd v k x) a b c = with_pair classes a b (λ key old. with_object c (λ o. add_pair key old))
+deed_of classes (forms.DictSet v k x) a b c = with_pair classes a b (λ key old. with_object c (λ o. set_pair key old))
+deed_of classes (forms.DictReplace v k x) a b c = with_pair classes a b (λ key old. with_object c (λ o. replace_pair key old))
+deed_of classes (forms.DictRemove v k) a b c = with_pair classes a b remove_pair
+deed_of classes (forms.DictTake v dictionary k) a b c = with_pair classes a b (λ key old. taken old)
+deed_of classes (forms.FieldSet v at x) a b c = with_fields a (λ fields. with_object b (λ o. within (nat_lt at (length fields)) (edited_places at 1 (Some 1 ∷ []))))
+deed_of classes (forms.FieldClear v at) a b c = with_fields a (λ fields. within (nat_lt at (length fields)) (edited_places at 1 (None ∷ [])))
+deed_of classes (forms.FieldTake v instance at) a b c = with_fields a (λ fields. taken (in_field (slice_get fields at)))
+
+-- one of the objects that are used, by its number among them
 abbrev pub used_at : List (Option ℕ) → ℕ → Option ℕ
 used_at [] i = None
 used_at (o ∷ os) zero = o
 used_at (o ∷ os) (suc i) = used_at os i
 
+abbrev pub object_of : List Object → Option ℕ → Option Object
+object_of objects None = None
+object_of objects (Some o) = slice_get objects o
+
+abbrev pub first_of : List (Option ℕ) → Option ℕ
+first_of used = used_at used 0
+
+-- the deed of a statement among objects, by the numbers of those that it uses
+abbrev pub deed_at : List ClassLine → List Object → Statement → List (Option ℕ) → Deed
+deed_at classes objects s used =
+    deed_of classes s (numbered objects (used_at used 0)) (numbered objects (used_at used 1)) (numbered objects (used_at used 2))
+
+-- a change with the objects that come in
 abbrev pub chosen : List (Option ℕ) → Option ℕ → Option ℕ
 chosen used None = None
 chosen used (Some i) = used_at used i
 
 abbrev pub resolved : List (Option ℕ) → Change → Change
 resolved used unchanged = unchanged
-resolved used (contents content) = contents content
-resolved used (places e) = places (record { at = e.at; out = e.out; enter = map (chosen used) e.enter })
+resolved used (in_text e) = in_text e
+resolved used (in_data e) = in_data e
+resolved used (in_places e) = in_places (record { at = e.at; out = e.out; enter = map (chosen used) e.enter })
+resolved used (put_pair leaf key value) = put_pair leaf (chosen used key) (chosen used value)
+resolved used (take_pair key) = take_pair key
 
--- places after an edit, and what it takes out of them
-abbrev pub spliced : List (Option ℕ) → Splice → List (Option ℕ)
-spliced ps e = splice ps e.at (e.at + e.out) e.enter
+-- a list after an edit, and what it takes out of it
+abbrev pub spliced : {A : Type 0} → List A → Splice A → List A
+spliced xs e = splice xs e.at (e.at + e.out) e.enter
 
-abbrev pub removed : List (Option ℕ) → Splice → List (Option ℕ)
-removed ps e = take e.out (drop e.at ps)
+abbrev pub removed : {A : Type 0} → List A → Splice A → List A
+removed xs e = take e.out (drop e.at xs)
 
--- contents after an edit of their places, and the objects that it takes in and gives out
-abbrev pub edited : Content → Splice → Content
-edited (text_content mutable units) e = text_content mutable units
-edited (data_content mutable bytes) e = data_content mutable bytes
-edited (number_content n) e = number_content n
-edited (instance_content key fields) e = instance_content key (spliced fields e)
+-- an edit of fields as one of elements, where nothing comes in for what is empty
+abbrev pub elements : Splice (Option ℕ) → Splice ℕ
+elements e = record { at = e.at; out = e.out; enter = present e.enter }
 
-abbrev pub entering : Content → Splice → List ℕ
-entering (text_content mutable units) e = []
-entering (data_content mutable bytes) e = []
-entering (number_content n) e = []
-entering (instance_content key fields) e = present e.enter
+-- a pair of two objects, where both are there
+abbrev pub pair_of : LeafView → (key value : Option ℕ) → Option (Cell × ℕ)
+pair_of leaf (Some k) (Some v) = Some (record { id = k; leaf = leaf }, v)
+pair_of leaf _ _ = None
 
-abbrev pub leaving : Content → Splice → List ℕ
-leaving (text_content mutable units) e = []
-leaving (data_content mutable bytes) e = []
-leaving (number_content n) e = []
-leaving (instance_content key fields) e = present (removed fields e)
+-- pairs with one put in, what then comes in, and what goes out
+abbrev pub with_put : Bool → List (Cell × ℕ) → Option (Cell × ℕ) → List (Cell × ℕ)
+with_put plain pairs None = pairs
+with_put plain pairs (Some p) = pairs_with (equal_to plain p.0) pairs p.0 p.1
 
--- contents after a change, and the objects that it takes in and gives out
+abbrev pub put_in : Bool → Cell × ℕ → List ℕ
+put_in known p = if known then p.1 ∷ [] else p.0.id ∷ p.1 ∷ []
+
+abbrev pub coming_by : Bool → List (Cell × ℕ) → Option (Cell × ℕ) → List ℕ
+coming_by plain pairs None = []
+coming_by plain pairs (Some p) = put_in (is_some (lookup (equal_to plain p.0) pairs)) p
+
+abbrev pub going_by : Bool → List (Cell × ℕ) → Option (Cell × ℕ) → List ℕ
+going_by plain pairs None = []
+going_by plain pairs (Some p) = option_to_list (lookup (equal_to plain p.0) pairs)
+
+-- contents after each kind of change, and the objects that it takes in and gives out: only a mutable text, or data, is
+-- edited
+abbrev pub text_after : Splice ℕ → Content → Content
+text_after e (text_content true units) = text_content true (spliced units e)
+text_after e c = c
+
+abbrev pub data_after : Splice ℕ → Content → Content
+data_after e (data_content true bytes) = data_content true (spliced bytes e)
+data_after e c = c
+
+abbrev pub places_after : Splice (Option ℕ) → Content → Content
+places_after e (instance_content key fields) = instance_content key (spliced fields e)
+places_after e (array_content plain os) = array_content plain (spliced os (elements e))
+places_after e c = c
+
+abbrev pub entering : Splice (Option ℕ) → Content → List ℕ
+entering e (instance_content key fields) = present e.enter
+entering e (array_content plain os) = unless_plain plain (present e.enter)
+entering e _ = []
+
+abbrev pub leaving : Splice (Option ℕ) → Content → List ℕ
+leaving e (instance_content key fields) = present (removed fields e)
+leaving e (array_content plain os) = unless_plain plain (removed os (elements e))
+leaving e _ = []
+
+abbrev pub put_after : Option (Cell × ℕ) → Content → Content
+put_after p (dictionary_content plain pairs) = dictionary_content plain (with_put plain pairs p)
+put_after p c = c
+
+abbrev pub put_entering : Option (Cell × ℕ) → Content → List ℕ
+put_entering p (dictionary_content plain pairs) = unless_plain plain (coming_by plain pairs p)
+put_entering p _ = []
+
+abbrev pub put_leaving : Option (Cell × ℕ) → Content → List ℕ
+put_leaving p (dictionary_content plain pairs) = unless_plain plain (going_by plain pairs p)
+put_leaving p _ = []
+
+abbrev pub taken_after : Cell → Content → Content
+taken_after key (dictionary_content plain pairs) = dictionary_content plain (remove_entry (equal_to plain key) pairs)
+taken_after key c = c
+
+abbrev pub taken_leaving : Cell → Content → List ℕ
+taken_leaving key (dictionary_content plain pairs) = unless_plain plain (flat (option_to_list (lookup_entry (equal_to plain key) pairs)))
+taken_leaving key _ = []
+
 abbrev pub content_after : Change → Content → Content
 content_after unchanged c = c
-content_after (contents content) c = content
-content_after (places e) c = edited c e
+content_after (in_text e) c = text_after e c
+content_after (in_data e) c = data_after e c
+content_after (in_places e) c = places_after e c
+content_after (put_pair leaf key value) c = put_after (pair_of leaf key value) c
+content_after (take_pair key) c = taken_after key c
 
 abbrev pub coming_in : Change → Content → List ℕ
 coming_in unchanged c = []
-coming_in (contents content) c = []
-coming_in (places e) c = entering c e
+coming_in (in_text e) c = []
+coming_in (in_data e) c = []
+coming_in (in_places e) c = entering e c
+coming_in (put_pair leaf key value) c = put_entering (pair_of leaf key value) c
+coming_in (take_pair key) c = []
 
 abbrev pub going_out : Change → Content → List ℕ
 going_out unchanged c = []
-going_out (contents content) c = []
-going_out (places e) c = leaving c e
+going_out (in_text e) c = []
+going_out (in_data e) c = []
+going_out (in_places e) c = leaving e c
+going_out (put_pair leaf key value) c = put_leaving (pair_of leaf key value) c
+going_out (take_pair key) c = taken_leaving key c
 
 abbrev pub taken_in : Option Object → Change → List ℕ
 taken_in None change = []
@@ -221,15 +366,13 @@ given_out None change = []
 given_out (Some ob) change = going_out change ob.content
 
 -- the objects with one of them changed
-abbrev pub with_content : ℕ → Change → List Object → List Object
-with_content o change [] = []
-with_content zero change (ob ∷ obs) = record ob { content = content_after change ob.content } ∷ obs
-with_content (suc o) change (ob ∷ obs) = ob ∷ with_content o change obs
+abbrev pub changed : Change → Object → Object
+changed change ob = record { class = ob.class; content = content_after change ob.content }
 
 abbrev pub with_change : ℕ → Change → List Object → List Object
-with_change o unchanged objects = objects
-with_change o (contents content) objects = with_content o (contents content) objects
-with_change o (places e) objects = with_content o (places e) objects
+with_change o change [] = []
+with_change zero change (ob ∷ obs) = changed change ob ∷ obs
+with_change (suc o) change (ob ∷ obs) = ob ∷ with_change o change obs
 
 abbrev pub changed_by : Option ℕ → Change → List Object → List Object
 changed_by None change objects = objects

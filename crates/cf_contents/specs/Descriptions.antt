@@ -2,14 +2,15 @@
 use Rattle.std.specs.Prelude.{ℕ, ◌-◌, Bool, List, [], ◌++◌, codes, length, map, take, Option, Some, None, nat_lt, slice_get, slice_index_or, encode_utf8, ◌==◌, if◌then◌else◌}
 use Rattle.std.specs.Char.Utf16.{utf16_lossy_chars}
 use Rattle.std.specs.List.{flat_map, join_with_byte}
-use Rattle.std.specs.Fmt.{signed_decimal}
+use Rattle.std.specs.Fmt.{decimal, signed_decimal}
 use Rattle.hex.specs.Hex.{encode_lower}
 use Rattle.cf_ids.specs.Words.{number_word}
 use Rattle.cf_number.specs.declared.kinds.NumKind.{NumKind}
 use Rattle.cf_number.specs.declared.kinds.NumKind.TheVariants.{S8, S16, S32, S64}
 use Rattle.cf_types.specs.Registry.{built_in_names}
+use Rattle.cf_types.specs.declared.cells.Cell.{Cell}
 use Rattle.cf_syntax.specs.declared.script.ClassLine.{ClassLine}
-use Rattle.cf_contents.specs.Contents.{Content, text_content, data_content, number_content, instance_content, Object, first_class}
+use Rattle.cf_contents.specs.Contents.{Content, text_content, data_content, number_content, instance_content, array_content, dictionary_content, Object, first_class}
 
 -- the name of a type: built in, or a class of the script
 abbrev pub name_in : Option ClassLine → List ℕ
@@ -52,20 +53,30 @@ kind_word S16 = codes "s16"
 kind_word S32 = codes "s32"
 kind_word S64 = codes "s64"
 
--- members in brackets: eight of them at most
+-- the word of a member, and of a pair
 abbrev pub member_word : Option ℕ → List ℕ
 member_word None = codes "nil"
 member_word (Some o) = number_word o
 
-abbrev pub shown_members : List (Option ℕ) → List ℕ
-shown_members members =
-    codes "[" ++ join_with_byte 32 (map member_word (take 8 members)) ++ more_if (nat_lt 8 (length members)) ++ codes "]"
+abbrev pub pair_word : Cell × ℕ → List ℕ
+pair_word p = number_word p.0.id ++ codes ":" ++ number_word p.1
+
+-- members in brackets, by their words: eight of them at most
+abbrev pub bracketed : {A : Type 0} → (A → List ℕ) → List A → List ℕ
+bracketed word members =
+    codes "[" ++ join_with_byte 32 (map word (take 8 members)) ++ more_if (nat_lt 8 (length members)) ++ codes "]"
+
+-- how many members there are, and the members in brackets
+abbrev pub counted_members : {A : Type 0} → (A → List ℕ) → List A → List ℕ
+counted_members word members = decimal (length members) ++ codes " " ++ bracketed word members
 
 abbrev pub shown_content : Content → List ℕ
 shown_content (text_content mutable units) = shown_text units
 shown_content (data_content mutable bytes) = shown_bytes bytes
 shown_content (number_content n) = kind_word n.kind ++ codes " " ++ signed_decimal n.value
-shown_content (instance_content key fields) = signed_decimal key ++ codes " " ++ shown_members fields
+shown_content (instance_content key fields) = signed_decimal key ++ codes " " ++ bracketed member_word fields
+shown_content (array_content plain elements) = counted_members number_word elements
+shown_content (dictionary_content plain pairs) = counted_members pair_word pairs
 
 -- the description of an object: the name of its type, and what it contains
 abbrev pub description : List ClassLine → Object → List ℕ

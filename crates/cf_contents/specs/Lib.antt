@@ -1,4 +1,6 @@
 pub mod Contents
+pub mod Keys
 pub mod Deeds
 pub mod Descriptions
+pub mod Stores
 pub mod Rows

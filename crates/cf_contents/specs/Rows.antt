@@ -1,11 +1,13 @@
 -- Objects and classes by which the definitions can be compared with what they are meant to say.
-use Rattle.std.specs.Prelude.{pos, negsuc, true, false, [], ◌∷◌, codes, Option, None}
+use Rattle.std.specs.Prelude.{ℕ, pos, negsuc, true, false, List, [], ◌∷◌, codes, None, Some}
 use Rattle.cf_ids.specs.declared.answer.Answer.{Answer}
 use Rattle.cf_number.specs.declared.kinds.NumKind.TheVariants.{S16}
 use Rattle.cf_syntax.specs.declared.script.ClassLine.{ClassLine}
 use Rattle.cf_syntax.specs.declared.statement.Statement.{Statement}
-use Rattle.cf_contents.specs.Contents.{text_content, data_content, number_content, instance_content, Object}
-use Rattle.cf_contents.specs.Deeds.{deed_of}
+use Rattle.cf_types.specs.Views.{text_form}
+use Rattle.cf_types.specs.declared.cells.Cell.{Cell}
+use Rattle.cf_contents.specs.Contents.{Content, text_content, data_content, number_content, instance_content, array_content, dictionary_content, Object}
+use Rattle.cf_contents.specs.Deeds.{Deed, deed_at, resolved, content_after, coming_in, going_out}
 
 -- a class of points, which has the type number 14
 abbrev pub point : ClassLine
@@ -30,6 +32,36 @@ some_data = record { class = 4; content = data_content true (10 ∷ 11 ∷ []) }
 abbrev pub no_data : Object
 no_data = record { class = 4; content = data_content false [] }
 
--- what a statement answers on two objects
-abbrev pub answer_on : Statement → Option Object → Option Object → Answer
-answer_on s a b = (deed_of (point ∷ []) s a b).answer
+abbrev pub an_array : Object
+an_array = record { class = 6; content = array_content false (0 ∷ 1 ∷ []) }
+
+-- a key that is compared by a text, and dictionaries in which it has the object 3 as its value
+abbrev pub key_of : ℕ → List ℕ → Cell
+key_of o text = record { id = o; leaf = record { class = 3; form = text_form text } }
+
+abbrev pub a_dictionary : Object
+a_dictionary = record { class = 7; content = dictionary_content false ((key_of 0 (codes "k"), 3) ∷ []) }
+
+abbrev pub a_plain_one : Object
+a_plain_one = record { class = 7; content = dictionary_content true ((key_of 0 (codes "k"), 3) ∷ []) }
+
+abbrev pub a_key : Object
+a_key = record { class = 3; content = text_content false (codes "k") }
+
+-- the deed of a statement on three objects, which have the numbers 0, 1 and 2
+abbrev pub deed_on : Statement → (first second third : Object) → Deed
+deed_on s a b c = deed_at (point ∷ []) (a ∷ b ∷ c ∷ []) s (Some 0 ∷ Some 1 ∷ Some 2 ∷ [])
+
+-- what a statement answers on them, and what becomes of the first
+abbrev pub answer_on : Statement → (first second : Object) → Answer
+answer_on s a b = (deed_on s a b b).answer
+
+abbrev pub after : Statement → (first second : Object) → Content
+after s a b = content_after (resolved (Some 0 ∷ Some 1 ∷ Some 2 ∷ []) (deed_on s a b b).change) a.content
+
+-- what it takes in, and what it gives out
+abbrev pub entering : Statement → (first second : Object) → List ℕ
+entering s a b = coming_in (resolved (Some 0 ∷ Some 1 ∷ Some 2 ∷ []) (deed_on s a b b).change) a.content
+
+abbrev pub leaving : Statement → (first second : Object) → List ℕ
+leaving s a b = going_out (resolved (Some 0 ∷ Some 1 ∷ Some 2 ∷ []) (deed_on s a b b).change) a.content

@@ -50,3 +50,14 @@ weigh-append g (e ∷ es) fs = omega (arith, weigh-append g es fs)
 pub weigh-le : (f g : Reference → ℕ) (es : List Reference) → ((e : Reference) → f e ≤ g e) → weigh f es ≤ weigh g es
 weigh-le f g [] h = omega arith
 weigh-le f g (e ∷ es) h = omega (arith, h e, weigh-le f g es h)
+
+none_weighs : (g : Reference → ℕ) (fs : List Reference) → ((r : Reference) → 0 ≡ weigh (one r) fs) → 0 ≡ weigh g fs
+none_weighs g [] h = refl
+none_weighs g (f ∷ fs) h = absurd (omega (arith, h f, one-refl f))
+
+-- lists that have each reference as often as the other weigh the same, by every weight
+pub same_weights : (g : Reference → ℕ) (es fs : List Reference) → ((r : Reference) → weigh (one r) es ≡ weigh (one r) fs) → weigh g es ≡ weigh g fs
+same_weights g [] fs h = none_weighs g fs h
+same_weights g (e ∷ es) fs h =
+    let there : 0 < weigh (one e) fs = omega (arith, h e, one-refl e) in
+    omega (arith, weigh-without g e fs there, same_weights g es (without e fs) (λ r. omega (arith, h r, weigh-without (one r) e fs there)))

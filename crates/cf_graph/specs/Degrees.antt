@@ -1,5 +1,5 @@
 -- Which references count for an object. This project's own.
-use Rattle.std.specs.Prelude.{ℕ, Bool, ◌&&◌, ◌==◌}
+use Rattle.std.specs.Prelude.{ℕ, Bool, ◌&&◌, not, ◌==◌}
 use Rattle.cf_graph.specs.declared.edge.Edge.{Edge}
 use Rattle.cf_graph.specs.Holders.{is_owning}
 
@@ -10,3 +10,7 @@ leads_to o e = e.object == o
 -- it leads to the object from a thread or a parcel
 abbrev pub owns : ℕ → Edge → Bool
 owns o e = leads_to o e && is_owning e.owner
+
+-- it leads to the object from elsewhere
+abbrev pub holds : ℕ → Edge → Bool
+holds o e = leads_to o e && not (is_owning e.owner)

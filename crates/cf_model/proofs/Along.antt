@@ -1,6 +1,5 @@
 -- Along legal journals all is kept.
-use Rattle.std.proofs.Common.{◌≡◌, ℕ, zero, suc, ◌<◌, List, [], ◌∷◌, map, length, Option, Some, None, eqb, ltb, refl, sym, ap, ◌∙◌, subst, arith, inl, inr}
-use Rattle.std.proofs.lemmas.Bool.{and_parts, eqb-true, ltb-true}
+use Rattle.std.proofs.Common.{◌≡◌, ℕ, zero, suc, ◌<◌, ◌≤◌, Bool, true, false, List, [], ◌∷◌, map, Option, Some, None, eqb, refl, sym, ap, ◌∙◌, subst, arith, inl, inr}
 use Rattle.std.proofs.lemmas.Bool.Decides.{eqb_tells}
 use Rattle.cf_ids.specs.declared.answer.Answer.{Answer}
 use Rattle.cf_graph.specs.Edges.{counted}
@@ -10,28 +9,28 @@ use Rattle.cf_syntax.specs.declared.statement.Statement.{Statement}
 use Rattle.cf_syntax.specs.declared.statement.Touch.{Touch}
 use Rattle.cf_syntax.specs.declared.statement.Touch.TheVariants.{Nothing, Binds, Plus, Minus}
 use Rattle.cf_syntax.specs.Forms.{touch_of}
-use Rattle.cf_contents.specs.Contents.{Content, text_content, data_content, number_content, instance_content, Object, times, present}
-use Rattle.cf_contents.specs.Deeds.{Source, Splice, Change, unchanged, contents, places, first_of, second_of, object_of, deed_at, used_at, chosen, resolved, entering, taken_in}
-use Rattle.cf_contents.proofs.SlotLaws.{MakesEmpty, LeavesEmpty, FindsEmpty, leaves-resolved, finds-resolved}
-use Rattle.cf_contents.proofs.FormLaws.{form_keeps}
+use Rattle.cf_types.specs.Views.{LeafView}
+use Rattle.cf_types.specs.declared.cells.Cell.{Cell}
+use Rattle.cf_contents.specs.Contents.{Content, instance_content, array_content, dictionary_content, Object, times, present, unless_plain}
+use Rattle.cf_contents.specs.Deeds.{Source, Splice, Change, unchanged, in_text, in_data, in_places, put_pair, take_pair, pair_of, first_of, object_of, deed_at, used_at, chosen, resolved, put_in, coming_by, entering, put_entering, taken_in}
+use Rattle.cf_contents.proofs.SlotLaws.{MakesEmpty}
+use Rattle.cf_contents.proofs.FormLaws.{form_fits}
 use Rattle.cf_model.specs.declared.action.Action.{Action}
 use Rattle.cf_model.specs.declared.action.Entry.{Entry}
 use Rattle.cf_model.specs.State.{State, Work, slots_of, start}
 use Rattle.cf_model.specs.Actions.{action_of}
-use Rattle.cf_model.specs.Steps.{touch_step, statement_step, step_for, effect, statement_in}
+use Rattle.cf_model.specs.Steps.{found, touch_step, statement_step, step_for, effect, statement_in}
 use Rattle.cf_model.specs.Journals.{MayUse, MayUseAll, next_of, used_of, named_of, IsLegalEntry, IsLegalFrom, IsLegal, state_from, After}
 use Rattle.cf_model.proofs.Balance.{not_made}
 use Rattle.cf_model.proofs.Demands.{Demand, of_frame, of_owed, of_slot, legal_is_demanded}
 use Rattle.cf_model.proofs.FrameSteps.{frame_step, site_in, step_for-demanded, used_of-action_of}
 use Rattle.cf_model.proofs.Holding.{some_is}
 use Rattle.cf_model.proofs.Kept.{AllFinal, IsKept, KeepsStep, kept_after}
-use Rattle.cf_model.proofs.Keeping.{IsLive, IsLiveIf, reference_kept, change_kept, done_kept, owed_kept, drop_kept}
+use Rattle.cf_model.proofs.Keeping.{IsLive, IsLiveIf, live_numbers, found_is, reference_kept, change_kept, done_kept, owed_kept, drop_kept}
 
 -- what may be used is live
 pub live_parts : (st : State) (t : ℕ) (body : Option ℕ) (o : ℕ) → MayUse st t body o → IsLive st o
-live_parts st t body o h =
-    let p = and_parts (ltb o (length st.objects)) (eqb (times o st.finalised) 0) h.live in
-    (eqb-true (times o st.finalised) 0 p.1, ltb-true o (length st.objects) p.0)
+live_parts st t body o h = live_numbers st o h.live
 
 pub live_if : (st : State) (t : ℕ) (body : Option ℕ) (used : List (Option ℕ)) → MayUseAll st t body used → IsLiveIf st (first_of used)
 live_if st t body [] h = tt
@@ -59,33 +58,51 @@ module _ (st : State) (t : ℕ) (body : Option ℕ) (used : List (Option ℕ)) (
   chosen_live (None ∷ is) some = chosen_live is some
   chosen_live (Some i ∷ is) some = place_live (used_at used i) i (map (chosen used) is) refl (chosen_live is) some
 
-  entering_live : (c : Content) (e : Splice) → 0 < times o (entering c (record { at = e.at; out = e.out; enter = map (chosen used) e.enter })) → IsLive st o
-  entering_live (text_content mutable units) e some = absurd (omega arith)
-  entering_live (data_content mutable bytes) e some = absurd (omega arith)
-  entering_live (number_content n) e some = absurd (omega arith)
+  unless_live : (plain : Bool) (os : List ℕ) → (0 < times o os → IsLive st o) → 0 < times o (unless_plain plain os) → IsLive st o
+  unless_live true os h some = absurd (omega arith)
+  unless_live false os h some = h some
+
+  entering_live : (c : Content) (e : Splice (Option ℕ)) → 0 < times o (entering (record { at = e.at; out = e.out; enter = map (chosen used) e.enter }) c) → IsLive st o
   entering_live (instance_content key fields) e some = chosen_live e.enter some
+  entering_live (array_content plain os) e some = unless_live plain _ (chosen_live e.enter) some
+  entering_live _ e some = absurd (omega arith)
+
+  -- a pair that comes in is of objects that are used
+  put_most : (known : Bool) (leaf : LeafView) (k v : ℕ) → times o (put_in known (record { id = k; leaf = leaf }, v)) ≤ times o (present (Some k ∷ Some v ∷ []))
+  put_most true leaf k v = omega arith
+  put_most false leaf k v = omega arith
+
+  coming_most : (plain : Bool) (pairs : List (Cell × ℕ)) (leaf : LeafView) (k v : Option ℕ) → times o (coming_by plain pairs (pair_of leaf k v)) ≤ times o (present (k ∷ v ∷ []))
+  coming_most plain pairs leaf (Some k) (Some v) = put_most _ leaf k v
+  coming_most plain pairs leaf (Some k) None = omega arith
+  coming_most plain pairs leaf None v = omega arith
+
+  pair_live : (c : Content) (leaf : LeafView) (key value : Option ℕ) → 0 < times o (put_entering (pair_of leaf (chosen used key) (chosen used value)) c) → IsLive st o
+  pair_live (dictionary_content plain pairs) leaf key value some =
+      unless_live plain _ (λ p. chosen_live (key ∷ value ∷ []) (omega (arith, p, coming_most plain pairs leaf (chosen used key) (chosen used value)))) some
+  pair_live _ leaf key value some = absurd (omega arith)
 
   pub taken_live : (ob : Option Object) (change : Change) → 0 < times o (taken_in ob (resolved used change)) → IsLive st o
   taken_live None change some = absurd (omega arith)
   taken_live (Some ob) unchanged some = absurd (omega arith)
-  taken_live (Some ob) (contents content) some = absurd (omega arith)
-  taken_live (Some ob) (places e) some = entering_live ob.content e some
+  taken_live (Some ob) (in_text e) some = absurd (omega arith)
+  taken_live (Some ob) (in_data e) some = absurd (omega arith)
+  taken_live (Some ob) (in_places e) some = entering_live ob.content e some
+  taken_live (Some ob) (put_pair leaf key value) some = pair_live ob.content leaf key value some
+  taken_live (Some ob) (take_pair key) some = absurd (omega arith)
 
-touch_kept : (t : ℕ) (touch : Touch) (answer : Answer) (source : Source) (used : Option ℕ) (change : Change) (st : State) → IsKept st → MakesEmpty source → LeavesEmpty change → FindsEmpty (object_of st.objects used) change → IsLiveIf st used → ((o : ℕ) → 0 < times o (taken_in (object_of st.objects used) change) → IsLive st o) → KeepsStep st (touch_step t touch answer source used change st)
-touch_kept t Nothing answer source used change st h makes leaves finds live enters = change_kept t answer used change st h leaves finds live enters
-touch_kept t (Binds v) answer source used change st h makes leaves finds live enters = reference_kept t (Binds v) answer source used st h makes live
-touch_kept t (Plus v) answer source used change st h makes leaves finds live enters = reference_kept t (Plus v) answer source used st h makes live
-touch_kept t (Minus v) answer source used change st h makes leaves finds live enters = reference_kept t (Minus v) answer source used st h makes live
+touch_kept : (t : ℕ) (touch : Touch) (answer : Answer) (source : Source) (used : Option ℕ) (change : Change) (st : State) → IsKept st → MakesEmpty source → IsLiveIf st used → ((o : ℕ) → 0 < times o (taken_in (object_of st.objects used) change) → IsLive st o) → KeepsStep st (touch_step t touch answer source used change st)
+touch_kept t Nothing answer source used change st h makes live enters = change_kept t answer used change st h live enters
+touch_kept t (Binds v) answer source used change st h makes live enters = reference_kept t (Binds v) answer source (found st source) st h makes (found_is st source)
+touch_kept t (Plus v) answer source used change st h makes live enters = reference_kept t (Plus v) answer source used st h makes live
+touch_kept t (Minus v) answer source used change st h makes live enters = reference_kept t (Minus v) answer source used st h makes live
 
 -- the step of each statement, by what its form keeps of slots
 pub statement_kept : (classes : List ClassLine) (t : ℕ) (body : Option ℕ) (x : Statement) (used : List (Option ℕ)) (st : State) → IsKept st → MayUseAll st t body used → KeepsStep st (statement_step classes t x used st)
 statement_kept classes t body x used st h uses =
     let deed = deed_at classes st.objects x used in
-    let a = object_of st.objects (first_of used) in
-    let form = form_keeps classes x a (object_of st.objects (second_of used)) in
-    touch_kept t (touch_of x) deed.answer deed.source (first_of used) (resolved used deed.change) st h form.plain.makes
-    (leaves-resolved used deed.change form.plain.leaves) (finds-resolved used deed.change a form.finds)
-    (live_if st t body used uses) (λ o some. taken_live st t body used uses o a deed.change some)
+    touch_kept t (touch_of x) deed.answer deed.source (first_of used) (resolved used deed.change) st h (form_fits classes x _ _ _).makes
+    (live_if st t body used uses) (λ o some. taken_live st t body used uses o (object_of st.objects (first_of used)) deed.change some)
 
 frame_kept : (classes : List ClassLine) (t : ℕ) (st : State) (o : Option Statement) → IsKept st → MayUseAll st t (named_of (next_of st.frame o)) (used_of (next_of st.frame o)) → KeepsStep st (frame_step classes t st o)
 frame_kept classes t st None h uses = done_kept st h

@@ -1,6 +1,6 @@
 -- Every legal journal finalises each object at most once, uses none that is finalised, and leaves
 -- unfinalised exactly those to which a reference leads.
-use Rattle.std.proofs.Common.{◌≡◌, ℕ, zero, suc, ◌+◌, ◌<◌, ◌≤◌, Bool, true, false, List, [], ◌∷◌, ◌++◌, length, Option, Some, None, ◌==◌, ltb, refl, sym, ap, subst, arith, inl, inr, ◌⊎◌}
+use Rattle.std.proofs.Common.{◌≡◌, ℕ, zero, suc, ◌+◌, ◌<◌, ◌≤◌, Bool, true, false, cond, List, [], ◌∷◌, ◌++◌, length, Option, Some, None, ◌==◌, ltb, refl, sym, ap, subst, arith, inl, inr, ◌⊎◌}
 use Rattle.std.proofs.lemmas.Bool.{eqb-true}
 use Rattle.std.proofs.lemmas.Bool.Decides.{nat_tests}
 use Rattle.cf_graph.specs.Edges.{Reference, weigh, owning, holding, counted}
@@ -15,13 +15,17 @@ use Rattle.cf_syntax.specs.declared.statement.Touch.{Touch}
 use Rattle.cf_syntax.specs.declared.statement.Touch.TheVariants.{Nothing, Binds, Plus, Minus}
 use Rattle.cf_syntax.specs.Forms.{touch_of}
 use Rattle.cf_contents.specs.Contents.{Object}
-use Rattle.cf_contents.specs.Deeds.{Source, Change, first_of, resolved, deed_at}
+use Rattle.cf_contents.specs.Deeds.{Source, nowhere, fresh, there, Change, first_of, resolved, deed_at}
+use Rattle.cf_contents.proofs.FormLaws.{NamesNone, form_fits}
 use Rattle.cf_model.specs.declared.action.Action.{Action}
 use Rattle.cf_model.specs.declared.action.Entry.{Entry}
 use Rattle.cf_model.specs.State.{State, start, times, degree}
-use Rattle.cf_model.specs.Steps.{reference, owed_reference, slot_reference, finals_of, cut_answer, touch_step, step_answer, state_after, answer_to, effect, statement_in}
+use Rattle.cf_model.specs.Steps.{reference, found, answer_of, class_of, reference_step, owed_reference, slot_reference, finals_of, cut_answer, touch_step, step_answer, state_after, answer_to, effect, statement_in}
 use Rattle.cf_model.specs.Journals.{MayUseAll, IsLegalEntry, IsLegalFrom, IsLegal, state_from, After, used_of, named_of, next_of}
-use Rattle.cf_model.specs.Finals.{final_if, final_of, one_at, finals, uses, FinalsFit}
+use Rattle.cf_model.specs.Finals.{final_if, final_of, one_at, finals, bound_by, uses_of, uses, FinalsFit}
+use Rattle.cf_model.proofs.Balance.{IsBalanced}
+use Rattle.cf_model.proofs.Holding.{some_is}
+use Rattle.cf_model.proofs.Keeping.{IsFound, found_is}
 use Rattle.cf_model.proofs.FrameSteps.{frame_step, site_in, step_for-demanded, final_at, final_of-action_of}
 use Rattle.cf_model.proofs.Demands.{Demand, of_frame, of_owed, of_slot, legal_is_demanded}
 use Rattle.cf_model.proofs.Along.{live_parts, kept}
@@ -83,6 +87,81 @@ uses_none st t body o (Some p ∷ os) h u = omega (arith, uses_none st t body o 
     other true e = absurd (omega (arith, (live_parts st t body p u.0).0, h, ap (λ (n : ℕ). times n st.finalised) (eqb-true p o e)))
     other false e = ap counted e
 
+-- ---- what an entry binds is live, or new
+
+abbrev BindsLive : State → Answer → Type 0
+BindsLive st (answers.Object o) = times o st.finalised ≡ 0
+BindsLive st _ = Unit {0}
+
+names_live : (st : State) (a : Answer) → NamesNone a → BindsLive st a
+names_live st (answers.Object o) h = absurd h
+names_live st _ h = tt
+
+found_live : (st : State) (source : Source) (object : Option ℕ) (answer : Answer) → IsBalanced st → IsFound st source object → NamesNone answer → BindsLive st (answer_of (Binds 0) object answer)
+found_live st source None answer b h names = names_live st answer names
+found_live st nowhere (Some o) answer b h names = absurd cc
+found_live st (fresh ob) (Some o) answer b h names =
+    let is : o ≡ length st.objects = some_is o (length st.objects) h in
+    subst (λ (n : ℕ). times n st.finalised ≡ 0) (sym is) (unmade (length st.objects) (times (length st.objects) st.finalised) (degree (length st.objects) st.edges) (b (length st.objects)))
+  where
+    unmade : (made m n : ℕ) → m + counted (ltb 0 n) ≡ counted (ltb made made) → m ≡ 0
+    unmade made m n h = let no : counted (ltb made made) ≡ 0 = grind (arith, nat_tests) in omega arith
+found_live st (there p) (Some o) answer b h names = h.0
+
+cut_live : (st : State) (o : Option ℕ) (objects : List Object) (left : List Reference) (other : Answer) → BindsLive st other → BindsLive st (cut_answer o objects left other)
+cut_live st None objects left other h = h
+cut_live st (Some o) objects left other h = if_live (degree o left == 0)
+  where
+    if_live : (b : Bool) → BindsLive st (cond b (answers.Final (class_of objects o)) answers.More)
+    if_live true = tt
+    if_live false = tt
+
+touch_live : (t : ℕ) (touch : Touch) (answer : Answer) (source : Source) (used : Option ℕ) (change : Change) (st : State) → IsBalanced st → NamesNone answer → BindsLive st (step_answer (touch_step t touch answer source used change st) st)
+touch_live t Nothing answer source used change st b names = names_live st answer names
+touch_live t (Binds v) answer source used change st b names = bound_live (found st source) (found_is st source)
+  where
+    bound_live : (object : Option ℕ) → IsFound st source object → BindsLive st (step_answer (reference_step t (Binds v) answer source object st) st)
+    bound_live None h = found_live st source None answer b h names
+    bound_live (Some o) h = found_live st source (Some o) answer b h names
+touch_live t (Plus v) answer source None change st b names = tt
+touch_live t (Plus v) answer source (Some o) change st b names = names_live st answer names
+touch_live t (Minus v) answer source None change st b names = tt
+touch_live t (Minus v) answer source (Some o) change st b names = cut_live st (Some o) st.objects (without (reference t v o) st.edges) answer (names_live st answer names)
+
+frame_live : (classes : List ClassLine) (t : ℕ) (st : State) (o : Option Statement) → IsBalanced st → BindsLive st (step_answer (frame_step classes t st o) st)
+frame_live classes t st None b = tt
+frame_live classes t st (Some x) b =
+    let site = site_in st.frame x in
+    let deed = deed_at classes st.objects x site.used in
+    touch_live t (touch_of x) deed.answer deed.source (first_of site.used) (resolved site.used deed.change) st b (form_fits classes x _ _ _).names
+
+action_live : (s : Script) (t : ℕ) (st : State) (a : Action) → IsBalanced st → Demand s st st.frame.work a → BindsLive st (answer_to s t st a)
+action_live s t st a b (of_frame w e) =
+    let step = step_for-demanded s t st in
+    subst (λ (x : Action). BindsLive st (answer_to s t st x)) (sym e) (rw step (frame_live s.classes t st (statement_in s st.frame.block st.frame.number) b))
+action_live s t st a b (of_owed o rest w e) =
+    subst (λ (x : Action). BindsLive st (answer_to s t st x)) (sym e) (cut_live st (Some o) st.objects (without (owed_reference t o) st.edges) answers.Ok tt)
+action_live s t st a b (of_slot c o rest os w l e) =
+    subst (λ (x : Action). BindsLive st (answer_to s t st x)) (sym e) (cut_live st (Some o) st.objects (without (slot_reference c o) st.edges) answers.Ok tt)
+
+bound_none : (st : State) (o : ℕ) (a : Answer) → 0 < times o st.finalised → BindsLive st a → uses o (bound_by a) ≡ 0
+bound_none st o (answers.Object p) some h = omega (arith, other (p == o) refl)
+  where
+    other : (b : Bool) → (p == o) ≡ b → counted (p == o) ≡ 0
+    other true e = absurd (omega (arith, h, some, ap (λ (n : ℕ). times n st.finalised) (eqb-true p o e)))
+    other false e = ap counted e
+bound_none st o _ some h = refl
+
+uses-append : (o : ℕ) (xs ys : List (Option ℕ)) → uses o (xs ++ ys) ≡ uses o xs + uses o ys
+uses-append o [] ys = omega arith
+uses-append o (x ∷ xs) ys = omega (arith, uses-append o xs ys)
+
+-- an entry uses nothing that is finalised
+entry_uses : (s : Script) (st : State) (e : Entry) (o : ℕ) → IsBalanced st → 0 < times o st.finalised → IsLegalEntry s st e → uses o (uses_of e) ≡ 0
+entry_uses s st e o b some h =
+    let binds = subst (BindsLive st) (sym h.answer) (action_live s e.thread st e.action b (legal_is_demanded s st e h.next).demand) in
+    omega (arith, uses-append o (bound_by e.answer) (used_of e.action), bound_none st o e.answer some binds, uses_none st e.thread (named_of e.action) o (used_of e.action) some h.uses)
+
 -- a legal journal in two parts: the first is legal, and so is the entry behind it
 legal_front : (s : Script) (st : State) (es : List Entry) (e : Entry) (fs : List Entry) → IsLegalFrom s st (es ++ e ∷ fs) → IsLegalFrom s st es × IsLegalEntry s (state_from s st es) e
 legal_front s st [] e fs h = (tt, h.0)
@@ -111,7 +190,7 @@ finals_fit s es h =
           let legal : IsLegal s (earlier ++ e ∷ later) = subst (IsLegal s) parts h in
           let front = legal_front s start earlier e later legal in
           let final : 0 < times o (After s earlier).finalised = rw (← finals-After s o earlier front.0) there in
-          uses_none (After s earlier) e.thread (named_of e.action) o (used_of e.action) final front.1.uses;
+          entry_uses s (After s earlier) e o (kept s earlier front.0).balance final front.1;
       left = λ o made.
           let sides = weigh-sides o st.edges in
           let one : times o st.finalised + counted (ltb 0 (weigh (owning o) st.edges + weigh (holding o) st.edges)) ≡ 1 = rw (sides, balance o) (ap counted made) in

@@ -8,12 +8,13 @@ use Rattle.cf_syntax.specs.declared.statement.Touch.{Touch}
 use Rattle.cf_syntax.specs.declared.statement.Touch.TheVariants.{Nothing, Binds, Plus, Minus}
 use Rattle.cf_syntax.specs.Forms.{touch_of}
 use Rattle.cf_ids.specs.declared.answer.Answer.{Answer}
+use Rattle.cf_ids.specs.declared.answer.Answer.TheVariants as answers
 use Rattle.cf_contents.specs.Deeds.{first_of}
 use Rattle.cf_model.specs.State.{State, Frame}
 use Rattle.cf_model.specs.Actions.{Site, site_of, action_of}
-use Rattle.cf_model.specs.Steps.{Step, step_with, step_at, step_for, statement_step, done_step, statement_in}
+use Rattle.cf_model.specs.Steps.{Step, cut_by, step_with, step_at, step_for, statement_step, done_step, statement_in}
 use Rattle.cf_model.specs.Journals.{used_objects, next_of, demanded, used_of}
-use Rattle.cf_model.specs.Finals.{final_if, final_of}
+use Rattle.cf_model.specs.Finals.{cut_of, final_if, final_of}
 
 -- the site of a statement's action is where it was made
 pub site_of-action_of : (s : Statement) (site : Site) → site_of (action_of s site) ≡ Some site
@@ -52,6 +53,15 @@ final_at (Binds v) answer o = None
 final_at (Plus v) answer o = None
 final_at (Minus v) answer o = final_if answer o
 
+final_none : (answer : Answer) → final_if answer None ≡ None
+final_none (answers.Final c) = refl
+final_none _ = refl
+
 pub final_of-action_of : (s : Statement) (site : Site) (answer : Answer) → final_of (action_of s site) answer ≡ final_at (touch_of s) answer (first_of site.used)
 final_of-action_of (forms.Release v) site answer = refl
-final_of-action_of _ site answer = refl
+final_of-action_of _ site answer = final_none answer
+
+-- the object to which a statement takes a reference away
+pub cut_of-action_of : (s : Statement) (site : Site) → cut_of (action_of s site) ≡ cut_by (touch_of s) (first_of site.used)
+cut_of-action_of (forms.Release v) site = refl
+cut_of-action_of _ site = refl

@@ -14,18 +14,18 @@ use Rattle.cf_syntax.specs.declared.statement.Touch.TheVariants.{Nothing, Binds,
 use Rattle.cf_syntax.specs.Forms.{touch_of, touched}
 use Rattle.cf_syntax.specs.Owned.{one_of, bound_by, given_by, taken_by, total, bound, given, taken, may_use, may_use_all, may_touch}
 use Rattle.cf_syntax.proofs.OwnedLaws.{total_push}
-use Rattle.cf_contents.specs.Deeds.{Source, nowhere, fresh}
 use Rattle.cf_model.specs.State.{Binding, look}
-use Rattle.cf_model.specs.Steps.{reference, found, target, operations_of, bindings_by}
+use Rattle.cf_model.specs.Steps.{reference, operations_of, bindings_by}
 
 -- the variable's number in the code of a holder
 abbrev variable_of : Reference → ℕ
 variable_of r = (code_of r.holder).second
 
--- what is held by a thread's variables, behind statements
+-- what is held by a thread's variables, behind statements: each holds references to its own object alone
 pub record Holds (earlier : List Statement) (bindings : List Binding) (es : List Reference) : Type 0 where
   pub held : (v o : ℕ) → look v bindings ≡ Some o → weigh (one (reference 0 v o)) es + taken v earlier ≡ given v earlier
   pub unbound : (v : ℕ) → bound v earlier ≡ 0 → (given v earlier ≡ 0) × (taken v earlier ≡ 0) × (look v bindings ≡ None)
+  pub loose : (v o : ℕ) → (look v bindings ≡ Some o → ⊥) → weigh (one (reference 0 v o)) es ≡ 0
 
 -- a reference that another variable holds is another
 other_test : (v w o p : ℕ) (b : Bool) → same (reference 0 v o) (reference 0 w p) ≡ b → (v ≡ w → ⊥) → one (reference 0 v o) (reference 0 w p) ≡ 0
@@ -58,6 +58,13 @@ looked (Binds v) bindings = None
 looked (Plus v) bindings = look v bindings
 looked (Minus v) bindings = look v bindings
 
+-- the object whose references a touch changes: what it binds, or what its variable has
+abbrev pub aimed : Touch → Option ℕ → List Binding → Option ℕ
+aimed Nothing bound bindings = None
+aimed (Binds v) bound bindings = bound
+aimed (Plus v) bound bindings = look v bindings
+aimed (Minus v) bound bindings = look v bindings
+
 abbrev pub HoldsAfter : Touch → Option ℕ → List Statement → Statement → List Binding → List Reference → Type 0
 HoldsAfter touch object earlier x bindings es = Holds (earlier ++ x ∷ []) (bindings_by touch object ++ bindings) (run (operations_of 0 touch object) es)
 
@@ -70,54 +77,89 @@ may_use_parts earlier v h =
 pub some_is : (o p : ℕ) → ◌≡◌ {A = Option ℕ} (Some o) (Some p) → o ≡ p
 some_is o p e = cc
 
+-- what is none is no object
+none_is_not : (found : Option ℕ) (o : ℕ) → found ≡ None → found ≡ Some o → ⊥
+none_is_not found o none some = let clash : ◌≡◌ {A = Option ℕ} None (Some o) = sym none ∙ some in absurd cc
+
 look_same : (v : ℕ) (o : Option ℕ) (bindings : List Binding) → look v (record { variable = v; object = o } ∷ bindings) ≡ o
 look_same v o bindings = ap (λ (b : Bool). cond b o (look v bindings)) (eq-eqb v v refl)
 
 look_other : (v w : ℕ) (o : Option ℕ) (bindings : List Binding) → eqb v w ≡ false → look w (record { variable = v; object = o } ∷ bindings) ≡ look w bindings
 look_other v w o bindings e = ap (λ (b : Bool). cond b o (look w bindings)) e
 
+-- what a variable has is none of what no variable has
+held_test : (v w o p : ℕ) (bindings : List Binding) (b : Bool) → same (reference 0 w o) (reference 0 v p) ≡ b → look v bindings ≡ Some p → (look w bindings ≡ Some o → ⊥) → one (reference 0 w o) (reference 0 v p) ≡ 0
+held_test v w o p bindings true e is free =
+    let q = same-equal (reference 0 w o) (reference 0 v p) e in
+    let place : w ≡ v = ap (λ (r : Reference). variable_of r) q in
+    let object : p ≡ o = sym (ap (λ (r : Reference). r.object) q) in
+    absurd (free (ap (λ (k : ℕ). look k bindings) place ∙ is ∙ ap (λ (k : ℕ). Some k) object))
+held_test v w o p bindings false e is free = ap counted e
+
+one_held : (v w o p : ℕ) (bindings : List Binding) → look v bindings ≡ Some p → (look w bindings ≡ Some o → ⊥) → one (reference 0 w o) (reference 0 v p) ≡ 0
+one_held v w o p bindings is free = held_test v w o p bindings (same (reference 0 w o) (reference 0 v p)) refl is free
+
 module _ (x : Statement) (earlier : List Statement) (bindings : List Binding) (es : List Reference) (h : Holds earlier bindings es) where
-  binds_holds : (v made : ℕ) (source : Source) → touch_of x ≡ Binds v → bound v earlier ≡ 0 → weigh (one (reference 0 v made)) es ≡ 0 → HoldsAfter (Binds v) (found made source) earlier x bindings es
-  binds_holds v made nowhere t new none = record {
-    held = λ w o e. elim (eqb_tells v w) [
-      | inl p ↦ absurd (let q : ◌≡◌ {A = Option ℕ} None (Some o) = sym (ap (λ (b : Bool). cond b None (look w bindings)) p.0) ∙ e in cc)
-      | inr p ↦ omega (arith, h.held w o (sym (look_other v w None bindings p.0) ∙ e), sum_more (given_by w) earlier x (Binds v) t, sum_more (taken_by w) earlier x (Binds v) t, one_of_other w v (λ q. p.1 (sym q)))
-    ];
-    unbound = λ w none_bound.
-        let apart = one_of_zero w v (omega (arith, none_bound, sum_more (bound_by w) earlier x (Binds v) t)) in
-        let u = h.unbound w (omega (arith, none_bound, sum_more (bound_by w) earlier x (Binds v) t)) in (
-          omega (arith, u.0, one_of_other w v apart, sum_more (given_by w) earlier x (Binds v) t),
-          omega (arith, u.1, sum_more (taken_by w) earlier x (Binds v) t),
-          look_other v w None bindings (grind (arith, nat_tests)) ∙ u.2,
-        );
-  }
-  binds_holds v made (fresh ob) t new none = record {
+  -- what another variable holds stays, and a variable that was not bound held nothing
+  binds_other : (v w o : ℕ) (object : Option ℕ) → (w ≡ v → ⊥) → weigh (one (reference 0 w o)) (run (operations_of 0 (Binds v) object) es) ≡ weigh (one (reference 0 w o)) es
+  binds_other v w o None h = refl
+  binds_other v w o (Some p) h = omega (arith, one_other w v o p h)
+
+  binds_own : (v o : ℕ) (object : Option ℕ) → object ≡ Some o → weigh (one (reference 0 v o)) (run (operations_of 0 (Binds v) object) es) ≡ 1 + weigh (one (reference 0 v o)) es
+  binds_own v o None e = absurd cc
+  binds_own v o (Some p) e =
+      let here : one (reference 0 v o) (reference 0 v p) ≡ 1 = subst (λ (k : ℕ). one (reference 0 v k) (reference 0 v p) ≡ 1) (some_is p o e) (one_same v p) in
+      omega (arith, here)
+
+  -- what is bound gives no reference to another object
+  binds_loose : (v o : ℕ) (object : Option ℕ) → (object ≡ Some o → ⊥) → weigh (one (reference 0 v o)) (run (operations_of 0 (Binds v) object) es) ≡ weigh (one (reference 0 v o)) es
+  binds_loose v o None free = refl
+  binds_loose v o (Some p) free = omega (arith, one_held v v o p (record { variable = v; object = Some p } ∷ []) (look_same v (Some p) []) (λ q. free (sym (look_same v (Some p) []) ∙ q)))
+
+  binds_holds : (v : ℕ) (object : Option ℕ) → touch_of x ≡ Binds v → bound v earlier ≡ 0 → HoldsAfter (Binds v) object earlier x bindings es
+  binds_holds v object t new = record {
     held = λ w o e. elim (eqb_tells v w) [
       | inl p ↦
-          let is : made ≡ o = some_is made o (sym (ap (λ (b : Bool). cond b (Some made) (look w bindings)) p.0) ∙ e) in
-          let here : one (reference 0 w o) (reference 0 v made) ≡ 1 = subst (λ (k : ℕ). one (reference 0 w k) (reference 0 v made) ≡ 1) is (subst (λ (k : ℕ). one (reference 0 k made) (reference 0 v made) ≡ 1) p.1 (one_same v made)) in
-          let empty : weigh (one (reference 0 w o)) es ≡ 0 = subst (λ (k : ℕ). weigh (one (reference 0 w k)) es ≡ 0) is (subst (λ (k : ℕ). weigh (one (reference 0 k made)) es ≡ 0) p.1 none) in
-          let u = h.unbound w (subst (λ (k : ℕ). bound k earlier ≡ 0) p.1 new) in
+          let is : object ≡ Some o = sym (ap (λ (b : Bool). cond b object (look w bindings)) p.0) ∙ e in
+          let here : weigh (one (reference 0 w o)) (run (operations_of 0 (Binds v) object) es) ≡ 1 + weigh (one (reference 0 w o)) es = subst (λ (k : ℕ). weigh (one (reference 0 k o)) (run (operations_of 0 (Binds v) object) es) ≡ 1 + weigh (one (reference 0 k o)) es) p.1 (binds_own v o object is) in
+          let unbound : bound w earlier ≡ 0 = subst (λ (k : ℕ). bound k earlier ≡ 0) p.1 new in
+          let u = h.unbound w unbound in
           let gives : one_of w v ≡ 1 = subst (λ (k : ℕ). one_of k v ≡ 1) p.1 (one_of_same v) in
-          omega (arith, here, empty, u.0, u.1, gives, sum_more (given_by w) earlier x (Binds v) t, sum_more (taken_by w) earlier x (Binds v) t)
-      | inr p ↦ omega (arith, h.held w o (sym (look_other v w (Some made) bindings p.0) ∙ e), one_other w v o made (λ q. p.1 (sym q)), sum_more (given_by w) earlier x (Binds v) t, sum_more (taken_by w) earlier x (Binds v) t, one_of_other w v (λ q. p.1 (sym q)))
+          omega (arith, here, h.loose w o (none_is_not (look w bindings) o u.2), u.0, u.1, gives, sum_more (given_by w) earlier x (Binds v) t, sum_more (taken_by w) earlier x (Binds v) t)
+      | inr p ↦
+          let apart : w ≡ v → ⊥ = λ q. p.1 (sym q) in
+          omega (arith, binds_other v w o object apart, h.held w o (sym (look_other v w object bindings p.0) ∙ e), sum_more (given_by w) earlier x (Binds v) t, sum_more (taken_by w) earlier x (Binds v) t, one_of_other w v apart)
     ];
     unbound = λ w none_bound.
         let apart = one_of_zero w v (omega (arith, none_bound, sum_more (bound_by w) earlier x (Binds v) t)) in
         let u = h.unbound w (omega (arith, none_bound, sum_more (bound_by w) earlier x (Binds v) t)) in (
           omega (arith, u.0, one_of_other w v apart, sum_more (given_by w) earlier x (Binds v) t),
           omega (arith, u.1, sum_more (taken_by w) earlier x (Binds v) t),
-          look_other v w (Some made) bindings (grind (arith, nat_tests)) ∙ u.2,
+          look_other v w object bindings (grind (arith, nat_tests)) ∙ u.2,
         );
+    loose = λ w o free. elim (eqb_tells v w) [
+      | inl p ↦
+          let is : look w (record { variable = v; object = object } ∷ bindings) ≡ object = ap (λ (b : Bool). cond b object (look w bindings)) p.0 in
+          let unbound : bound w earlier ≡ 0 = subst (λ (k : ℕ). bound k earlier ≡ 0) p.1 new in
+          let same : weigh (one (reference 0 w o)) (run (operations_of 0 (Binds v) object) es) ≡ weigh (one (reference 0 w o)) es = subst (λ (k : ℕ). weigh (one (reference 0 k o)) (run (operations_of 0 (Binds v) object) es) ≡ weigh (one (reference 0 k o)) es) p.1 (binds_loose v o object (λ q. free (is ∙ q))) in
+          same ∙ h.loose w o (none_is_not (look w bindings) o (h.unbound w unbound).2)
+      | inr p ↦ binds_other v w o object (λ q. p.1 (sym q)) ∙ h.loose w o (λ q. free (look_other v w object bindings p.0 ∙ q))
+    ];
   }
+
+  -- what is not bound was not bound before, and is no variable that is used
+  before : (touch : Touch) (w : ℕ) → touch_of x ≡ touch → ((u : ℕ) → bound_by u touch ≡ 0) → bound w (earlier ++ x ∷ []) ≡ 0 → bound w earlier ≡ 0
+  before touch w t binds none = omega (arith, none, sum_more (bound_by w) earlier x touch t, binds w)
+
+  used_apart : (v w : ℕ) → 0 < bound v earlier → bound w earlier ≡ 0 → w ≡ v → ⊥
+  used_apart v w some none q = omega (arith, none, some, ap (λ (k : ℕ). bound k earlier) q)
 
   -- what a used variable leaves of the others
   used_unbound : (touch : Touch) (v w : ℕ) → touch_of x ≡ touch → 0 < bound v earlier → ((u : ℕ) → bound_by u touch ≡ 0) → ((u : ℕ) → (u ≡ v → ⊥) → (given_by u touch ≡ 0) × (taken_by u touch ≡ 0)) → bound w (earlier ++ x ∷ []) ≡ 0 → (given w (earlier ++ x ∷ []) ≡ 0) × (taken w (earlier ++ x ∷ []) ≡ 0) × (look w bindings ≡ None)
   used_unbound touch v w t some binds others none_bound =
-      let none : bound w earlier ≡ 0 = omega (arith, none_bound, sum_more (bound_by w) earlier x touch t, binds w) in
+      let none = before touch w t binds none_bound in
       let u = h.unbound w none in
-      let apart : w ≡ v → ⊥ = λ q. omega (arith, none, some, ap (λ (k : ℕ). bound k earlier) q) in
-      let o = others w apart in
+      let o = others w (used_apart v w some none) in
       (omega (arith, u.0, o.0, sum_more (given_by w) earlier x touch t), omega (arith, u.1, o.1, sum_more (taken_by w) earlier x touch t), u.2)
 
   plus_holds : (v : ℕ) (object : Option ℕ) → touch_of x ≡ Plus v → look v bindings ≡ object → 0 < bound v earlier → HoldsAfter (Plus v) object earlier x bindings es
@@ -126,6 +168,7 @@ module _ (x : Statement) (earlier : List Statement) (bindings : List Binding) (e
         let apart : w ≡ v → ⊥ = λ q. let n : ◌≡◌ {A = Option ℕ} None (Some o) = sym is ∙ sym (ap (λ (k : ℕ). look k bindings) q) ∙ e in absurd cc in
         omega (arith, h.held w o e, sum_more (given_by w) earlier x (Plus v) t, sum_more (taken_by w) earlier x (Plus v) t, one_of_other w v apart);
     unbound = λ w none. used_unbound (Plus v) v w t some (λ u. refl) (λ u q. (one_of_other u v q, refl)) none;
+    loose = h.loose;
   }
   plus_holds v (Some p) t is some = record {
     held = λ w o e. elim (eqb_tells w v) [
@@ -137,6 +180,7 @@ module _ (x : Statement) (earlier : List Statement) (bindings : List Binding) (e
       | inr q ↦ omega (arith, h.held w o e, one_other w v o p q.1, sum_more (given_by w) earlier x (Plus v) t, sum_more (taken_by w) earlier x (Plus v) t, one_of_other w v q.1)
     ];
     unbound = λ w none. used_unbound (Plus v) v w t some (λ u. refl) (λ u q. (one_of_other u v q, refl)) none;
+    loose = λ w o free. omega (arith, one_held v w o p bindings is free, h.loose w o free);
   }
 
   minus_holds : (v : ℕ) (object : Option ℕ) → touch_of x ≡ Minus v → look v bindings ≡ object → 0 < bound v earlier → taken v earlier < given v earlier → HoldsAfter (Minus v) object earlier x bindings es
@@ -145,6 +189,7 @@ module _ (x : Statement) (earlier : List Statement) (bindings : List Binding) (e
         let apart : w ≡ v → ⊥ = λ q. let n : ◌≡◌ {A = Option ℕ} None (Some o) = sym is ∙ sym (ap (λ (k : ℕ). look k bindings) q) ∙ e in absurd cc in
         omega (arith, h.held w o e, sum_more (given_by w) earlier x (Minus v) t, sum_more (taken_by w) earlier x (Minus v) t, one_of_other w v apart);
     unbound = λ w none. used_unbound (Minus v) v w t some (λ u. refl) (λ u q. (refl, one_of_other u v q)) none;
+    loose = h.loose;
   }
   minus_holds v (Some p) t is some owns =
       let there : 0 < weigh (one (reference 0 v p)) es = omega (arith, h.held v p is, owns) in
@@ -160,23 +205,25 @@ module _ (x : Statement) (earlier : List Statement) (bindings : List Binding) (e
               | inr q ↦ omega (arith, less, h.held w o e, one_other w v o p q.1, sum_more (given_by w) earlier x (Minus v) t, sum_more (taken_by w) earlier x (Minus v) t, one_of_other w v q.1)
             ];
         unbound = λ w none. used_unbound (Minus v) v w t some (λ u. refl) (λ u q. (refl, one_of_other u v q)) none;
+        loose = λ w o free. omega (arith, weigh-without (one (reference 0 w o)) (reference 0 v p) es there, h.loose w o free);
       }
 
   nothing_holds : touch_of x ≡ Nothing → HoldsAfter Nothing None earlier x bindings es
   nothing_holds t = record {
     held = λ w o e. omega (arith, h.held w o e, sum_more (given_by w) earlier x Nothing t, sum_more (taken_by w) earlier x Nothing t);
     unbound = λ w none.
-        let u = h.unbound w (omega (arith, none, sum_more (bound_by w) earlier x Nothing t)) in
+        let u = h.unbound w (before Nothing w t (λ v. refl) none) in
         (omega (arith, u.0, sum_more (given_by w) earlier x Nothing t), omega (arith, u.1, sum_more (taken_by w) earlier x Nothing t), u.2);
+    loose = h.loose;
   }
 
-  -- a fit statement keeps what holds, whatever it touches
-  pub touch_holds : (touch : Touch) (source : Source) (made : ℕ) → touch_of x ≡ touch → may_touch earlier touch ≡ true → may_use_all earlier (touched touch) ≡ true → ((v : ℕ) → weigh (one (reference 0 v made)) es ≡ 0) → HoldsAfter touch (target touch (found made source) (looked touch bindings)) earlier x bindings es
-  touch_holds Nothing source made t fit used none = nothing_holds t
-  touch_holds (Binds v) source made t fit used none = binds_holds v made source t (eqb-true (bound v earlier) 0 fit) (none v)
-  touch_holds (Plus v) source made t fit used none =
+  -- a fit statement keeps what holds, whatever it touches and binds
+  pub touch_holds : (touch : Touch) (object : Option ℕ) → touch_of x ≡ touch → may_touch earlier touch ≡ true → may_use_all earlier (touched touch) ≡ true → HoldsAfter touch (aimed touch object bindings) earlier x bindings es
+  touch_holds Nothing object t fit used = nothing_holds t
+  touch_holds (Binds v) object t fit used = binds_holds v object t (eqb-true (bound v earlier) 0 fit)
+  touch_holds (Plus v) object t fit used =
       let p = may_use_parts earlier v (and_parts (may_use earlier v) true used).0 in
       plus_holds v (look v bindings) t refl p.0
-  touch_holds (Minus v) source made t fit used none =
+  touch_holds (Minus v) object t fit used =
       let p = may_use_parts earlier v (and_parts (may_use earlier v) true used).0 in
       minus_holds v (look v bindings) t refl p.0 p.1

@@ -1,8 +1,8 @@
 -- Each step that a legal journal takes keeps what journals keep.
-use Rattle.std.proofs.Common.{◌≡◌, ℕ, ◌+◌, ◌<◌, false, List, [], ◌∷◌, ◌++◌, length, drop, map, Option, Some, None, eqb, refl, sym, ap, ◌∙◌, subst, arith, inl, inr, append-nil, length-append}
+use Rattle.std.proofs.Common.{◌≡◌, ℕ, ◌+◌, ◌<◌, Bool, true, false, cond, ltb, List, [], ◌∷◌, ◌++◌, length, drop, map, Option, Some, None, eqb, refl, sym, ap, ◌∙◌, subst, arith, inl, inr, append-nil, length-append}
 use Rattle.std.specs.Prelude.{slice_get}
 use Rattle.std.proofs.lemmas.List.{drop-drop}
-use Rattle.std.proofs.lemmas.Bool.{eq-eqb}
+use Rattle.std.proofs.lemmas.Bool.{eq-eqb, and_parts, eqb-true, ltb-true}
 use Rattle.std.proofs.lemmas.Bool.Decides.{eqb_tells}
 use Rattle.cf_ids.specs.declared.answer.Answer.{Answer}
 use Rattle.cf_graph.specs.Holders.{Holder, owed, slot, code_of}
@@ -12,11 +12,11 @@ use Rattle.cf_graph.proofs.Counts.{weigh-without}
 use Rattle.cf_syntax.specs.declared.statement.Touch.{Touch}
 use Rattle.cf_syntax.specs.declared.statement.Touch.TheVariants.{Nothing, Binds, Plus, Minus}
 use Rattle.cf_contents.specs.Contents.{Object, times, slots_at}
-use Rattle.cf_contents.specs.Deeds.{Source, nowhere, fresh, Change, object_of, taken_in, given_out, with_change}
+use Rattle.cf_contents.specs.Deeds.{Source, nowhere, fresh, there, Change, object_of, taken_in, given_out, with_change}
 use Rattle.cf_contents.proofs.ContentLaws.{length-with_change}
-use Rattle.cf_contents.proofs.SlotLaws.{MakesEmpty, LeavesEmpty, FindsEmpty, slots-more, change_law, others_keep, given_most}
-use Rattle.cf_model.specs.State.{State, Work, release_of, slots_of, left_of}
-use Rattle.cf_model.specs.Steps.{Step, reference, owed_reference, slot_reference, reference_step, change_step, done_step, owed_step, drop_step, state_after, rest_of}
+use Rattle.cf_contents.proofs.SlotLaws.{MakesEmpty, slots-more, change_law, others_keep, given_most}
+use Rattle.cf_model.specs.State.{State, Work, release_of, slots_of, left_of, is_live}
+use Rattle.cf_model.specs.Steps.{Step, reference, owed_reference, slot_reference, found, operations_of, cut_by, reference_step, change_step, done_step, owed_step, drop_step, state_after, rest_of}
 use Rattle.cf_model.proofs.Balance.{IsBalanced, CutsNothing, added, Adds, grows_balance, shrinks_balance}
 use Rattle.cf_model.proofs.Slots.{kinds_apart, one_of_kinds, operations_in, one_apart, one_own, weigh-without-other, own_weigh, other_weigh, adds_to, moves_from, can_change, weigh-change}
 use Rattle.cf_model.proofs.Kept.{AllFinal, IsKept, KeepsStep, times_own}
@@ -28,6 +28,33 @@ IsLive st o = (times o st.finalised ≡ 0) × (o < length st.objects)
 abbrev pub IsLiveIf : State → Option ℕ → Type 0
 IsLiveIf st None = Unit {0}
 IsLiveIf st (Some o) = IsLive st o
+
+pub live_numbers : (st : State) (o : ℕ) → is_live st o ≡ true → IsLive st o
+live_numbers st o h =
+    let p = and_parts (ltb o (length st.objects)) (eqb (times o st.finalised) 0) h in
+    (eqb-true (times o st.finalised) 0 p.1, ltb-true o (length st.objects) p.0)
+
+-- an object that a source gives: none, the next one, or one that is live
+abbrev pub IsFound : State → Source → Option ℕ → Type 0
+IsFound st nowhere object = object ≡ None
+IsFound st (fresh ob) object = object ≡ Some (length st.objects)
+IsFound st (there o) object = IsLiveIf st object
+
+pub found_is : (st : State) (source : Source) → IsFound st source (found st source)
+found_is st nowhere = refl
+found_is st (fresh ob) = refl
+found_is st (there o) = there_is (is_live st o) refl
+  where
+    there_is : (b : Bool) → is_live st o ≡ b → IsLiveIf st (cond b (Some o) None)
+    there_is true h = live_numbers st o h
+    there_is false h = tt
+
+-- an object to which a touch may take or bind a reference
+abbrev pub Reaches : State → Touch → Source → Option ℕ → Type 0
+Reaches st Nothing source object = Unit {0}
+Reaches st (Binds v) source object = IsFound st source object
+Reaches st (Plus v) source object = IsLiveIf st object
+Reaches st (Minus v) source object = IsLiveIf st object
 
 -- ---- a step that changes no slot
 
@@ -75,27 +102,50 @@ plus_adds st t v p objects size live = record {
   sizes = inl size;
 }
 
-pub reference_kept : (t : ℕ) (touch : Touch) (answer : Answer) (source : Source) (used : Option ℕ) (st : State) → IsKept st → MakesEmpty source → IsLiveIf st used → KeepsStep st (reference_step t touch answer source used st)
-reference_kept t Nothing answer source used st h e live =
-    nil_kept st (reference_step t Nothing answer source used st) h refl refl (append-nil st.objects) refl h.waiting
-reference_kept t (Binds v) answer nowhere used st h e live =
-    nil_kept st (reference_step t (Binds v) answer nowhere used st) h refl refl (append-nil st.objects) refl h.waiting
-reference_kept t (Binds v) answer (fresh ob) used st h e live =
-    let step = reference_step t (Binds v) answer (fresh ob) used st in
+-- one more reference to a live object
+module _ (t v : ℕ) (touch : Touch) (answer : Answer) (source : Source) (p : ℕ) (st : State) (h : IsKept st) (live : IsLive st p) where
+  abbrev more_step : Step
+  more_step = reference_step t touch answer source (Some p) st
+
+  more_kept : more_step.operations ≡ add (reference t v p) ∷ [] → more_step.cuts ≡ None → more_step.objects ≡ st.objects → KeepsStep st more_step
+  more_kept ops cuts objects =
+      quiet_kept st more_step h
+      (grows_balance st more_step (record { cuts = cuts; can = rw ops (tt, tt); adds = rw ops (plus_adds st t v p more_step.objects (ap length objects) live) }) h.balance)
+      (λ b o. rw ops (omega (arith, one_of_kinds (slot_reference b o) (reference t v p) refl)))
+      (λ b. rw objects refl) refl h.waiting
+
+-- none at all
+none_kept : (t : ℕ) (touch : Touch) (answer : Answer) (source : Source) (st : State) → IsKept st → let step = reference_step t touch answer source None st in step.cuts ≡ None → step.objects ≡ st.objects → KeepsStep st step
+none_kept t touch answer source st h cuts objects = nil_kept st (reference_step t touch answer source None st) h refl cuts objects refl h.waiting
+
+new_kept : (t v : ℕ) (answer : Answer) (ob : Object) (st : State) → IsKept st → MakesEmpty (fresh ob) → KeepsStep st (reference_step t (Binds v) answer (fresh ob) (Some (length st.objects)) st)
+new_kept t v answer ob st h e =
+    let step = reference_step t (Binds v) answer (fresh ob) (Some (length st.objects)) st in
     quiet_kept st step h
     (grows_balance st step (record { cuts = refl; can = (tt, tt); adds = bound_adds st t v ob }) h.balance)
     (λ b o. omega (arith, one_of_kinds (slot_reference b o) (reference t v (length st.objects)) refl))
     (λ b. slots-more st.objects ob b e) refl h.waiting
-reference_kept t (Plus v) answer source None st h e live =
-    nil_kept st (reference_step t (Plus v) answer source None st) h refl refl (append-nil st.objects) refl h.waiting
-reference_kept t (Plus v) answer source (Some p) st h e live =
-    let step = reference_step t (Plus v) answer source (Some p) st in
-    quiet_kept st step h
-    (grows_balance st step (record { cuts = refl; can = (tt, tt); adds = plus_adds st t v p (st.objects ++ []) (ap length (append-nil st.objects)) live }) h.balance)
-    (λ b o. omega (arith, one_of_kinds (slot_reference b o) (reference t v p) refl))
-    (λ b. rw (append-nil st.objects) refl) refl h.waiting
-reference_kept t (Minus v) answer source None st h e live =
-    nil_kept st (reference_step t (Minus v) answer source None st) h refl refl (append-nil st.objects) refl h.waiting
+
+pub reference_kept : (t : ℕ) (touch : Touch) (answer : Answer) (source : Source) (object : Option ℕ) (st : State) → IsKept st → MakesEmpty source → Reaches st touch source object → KeepsStep st (reference_step t touch answer source object st)
+reference_kept t Nothing answer source object st h e live =
+    nil_kept st (reference_step t Nothing answer source object st) h (nothing_done object) (nothing_cut object) (append-nil st.objects) refl h.waiting
+  where
+    nothing_done : (o : Option ℕ) → operations_of t Nothing o ≡ []
+    nothing_done None = refl
+    nothing_done (Some p) = refl
+
+    nothing_cut : (o : Option ℕ) → cut_by Nothing o ≡ None
+    nothing_cut None = refl
+    nothing_cut (Some p) = refl
+reference_kept t (Binds v) answer nowhere object st h e live =
+    subst (λ (o : Option ℕ). KeepsStep st (reference_step t (Binds v) answer nowhere o st)) (sym live) (none_kept t (Binds v) answer nowhere st h refl (append-nil st.objects))
+reference_kept t (Binds v) answer (fresh ob) object st h e live =
+    subst (λ (o : Option ℕ). KeepsStep st (reference_step t (Binds v) answer (fresh ob) o st)) (sym live) (new_kept t v answer ob st h e)
+reference_kept t (Binds v) answer (there o) None st h e live = none_kept t (Binds v) answer (there o) st h refl (append-nil st.objects)
+reference_kept t (Binds v) answer (there o) (Some p) st h e live = more_kept t v (Binds v) answer (there o) p st h live refl refl (append-nil st.objects)
+reference_kept t (Plus v) answer source None st h e live = none_kept t (Plus v) answer source st h refl (append-nil st.objects)
+reference_kept t (Plus v) answer source (Some p) st h e live = more_kept t v (Plus v) answer source p st h live refl refl (append-nil st.objects)
+reference_kept t (Minus v) answer source None st h e live = none_kept t (Minus v) answer source st h refl (append-nil st.objects)
 reference_kept t (Minus v) answer source (Some p) st h e live =
     let step = reference_step t (Minus v) answer source (Some p) st in
     quiet_kept st step h
@@ -173,7 +223,7 @@ released_final : (finalised gs : List ℕ) (work : List Work) → AllFinal final
 released_final finalised [] work h = h
 released_final finalised (g ∷ gs) work h = released_final finalised gs work h
 
-module _ (t b : ℕ) (answer : Answer) (change : Change) (st : State) (h : IsKept st) (leaves : LeavesEmpty change) (finds : FindsEmpty (slice_get st.objects b) change) (live : IsLive st b) (enters : (o : ℕ) → 0 < times o (taken_in (slice_get st.objects b) change) → IsLive st o) where
+module _ (t b : ℕ) (answer : Answer) (change : Change) (st : State) (h : IsKept st) (live : IsLive st b) (enters : (o : ℕ) → 0 < times o (taken_in (slice_get st.objects b) change) → IsLive st o) where
   -- the references of the body are its slots
   body_slots : (o : ℕ) → weigh (one (slot_reference b o)) st.edges ≡ times o (slots_at (slice_get st.objects b))
   body_slots o = h.slots b o ∙ ap (λ (n : ℕ). times o (drop n (slots_at (slice_get st.objects b)))) (h.undropped b live.0)
@@ -197,7 +247,7 @@ module _ (t b : ℕ) (answer : Answer) (change : Change) (st : State) (h : IsKep
       let ts = taken_in (slice_get st.objects b) change in
       let gs = given_out (slice_get st.objects b) change in
       let undropped = h.undropped b live.0 in
-      rw undropped (omega (arith, weigh-change (one (slot_reference b o)) t b ts gs st.edges change_can, own_weigh (slot b) o gs, own_weigh (slot b) o ts, other_weigh (slot_reference b o) (owed t) gs (kinds_apart (slot b) (owed t) refl), body_slots o, change_law o b change st.objects leaves finds))
+      rw undropped (omega (arith, weigh-change (one (slot_reference b o)) t b ts gs st.edges change_can, own_weigh (slot b) o gs, own_weigh (slot b) o ts, other_weigh (slot_reference b o) (owed t) gs (kinds_apart (slot b) (owed t) refl), body_slots o, change_law o b change st.objects))
 
   other_slots : (c o : ℕ) → (b ≡ c → ⊥) → weigh (one (slot_reference c o)) (run (operations_in t b (slice_get st.objects b) change) st.edges) ≡ times o (left_of (with_change b change st.objects) st.dropped c)
   other_slots c o apart =
@@ -217,6 +267,6 @@ module _ (t b : ℕ) (answer : Answer) (change : Change) (st : State) (h : IsKep
     work = released_final st.finalised (given_out (slice_get st.objects b) change) st.frame.work h.waiting;
   }
 
-pub change_kept : (t : ℕ) (answer : Answer) (used : Option ℕ) (change : Change) (st : State) → IsKept st → LeavesEmpty change → FindsEmpty (object_of st.objects used) change → IsLiveIf st used → ((o : ℕ) → 0 < times o (taken_in (object_of st.objects used) change) → IsLive st o) → KeepsStep st (change_step t answer used change st)
-change_kept t answer None change st h leaves finds live enters = nil_kept st (change_step t answer None change st) h refl refl refl refl h.waiting
-change_kept t answer (Some b) change st h leaves finds live enters = body_kept t b answer change st h leaves finds live enters
+pub change_kept : (t : ℕ) (answer : Answer) (used : Option ℕ) (change : Change) (st : State) → IsKept st → IsLiveIf st used → ((o : ℕ) → 0 < times o (taken_in (object_of st.objects used) change) → IsLive st o) → KeepsStep st (change_step t answer used change st)
+change_kept t answer None change st h live enters = nil_kept st (change_step t answer None change st) h refl refl refl refl h.waiting
+change_kept t answer (Some b) change st h live enters = body_kept t b answer change st h live enters

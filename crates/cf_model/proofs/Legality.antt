@@ -1,7 +1,7 @@
 -- What a statement of an owned script uses may be used, and so may what is owed and what a slot gives up: each
 -- demanded action is a legal entry; and what its step is.
 use Rattle.std.proofs.Common.{◌≡◌, ℕ, zero, suc, ◌+◌, ◌-◌, ◌<◌, ◌≤◌, Bool, true, false, ◌&&◌, ◌||◌, List, [], ◌∷◌, ◌++◌, length, take, map, replicate, Option, Some, None, eqb, ltb, refl, ap, ◌∙◌, arith}
-use Rattle.std.specs.Prelude.{slice_get}
+use Rattle.std.specs.Prelude.{slice_get, IsTrue}
 use Rattle.std.proofs.lemmas.Bool.{and_parts, and_from, eqb-true, eq-eqb}
 use Rattle.std.proofs.lemmas.Bool.Decides.{nat_tests}
 use Rattle.cf_graph.specs.Holders.{owner_of, is_thread}
@@ -17,7 +17,7 @@ use Rattle.cf_syntax.specs.Forms.{touch_of, touched, read_by, used_by}
 use Rattle.cf_syntax.specs.Owned.{bound, may_use, may_use_all, may_touch, is_fit, Owned}
 use Rattle.cf_model.specs.State.{State, Binding, Work, release_of, slots_of, look, times, left_of, degree, is_live}
 use Rattle.cf_model.specs.Actions.{Site, action_of}
-use Rattle.cf_model.specs.Steps.{Step, reference, owed_reference, slot_reference, step_for, state_after, statement_step, done_step, step_answer, effect, answer_to}
+use Rattle.cf_model.specs.Steps.{Step, reference, owed_reference, slot_reference, step_for, state_after, statement_step, done_step, step_answer, effect, answer_to, makes}
 use Rattle.cf_model.specs.Journals.{setup, object_at, used_objects, used_of, named_of, next_of, demanded, is_named, reaching, IsLegalEntry, MayUse, MayUseAll}
 use Rattle.cf_ids.specs.declared.answer.Answer.TheVariants as answers
 use Rattle.cf_model.specs.declared.action.Action.{Action}
@@ -91,12 +91,12 @@ uses_by s st (Some x) own h e =
     rw (used_of-action_of x (site_in st.frame x), named_of-action_of x (site_in st.frame x)) (use_objects s st (used_by x) (3 - length (used_by x)) h parts.1)
 
 -- the demanded action, where there is no work before it, with the answer that the state gives, is a legal entry
-pub legal_demanded : (s : Script) (st : State) (e : Entry) → Owned s → IsSound s st → st.frame.is_done ≡ false → st.frame.work ≡ [] → e.thread ≡ 0 → e.action ≡ demanded s st.frame → e.answer ≡ answer_to s 0 st e.action → length st.objects < 65536 → IsLegalEntry s st e
+pub legal_demanded : (s : Script) (st : State) (e : Entry) → Owned s → IsSound s st → st.frame.is_done ≡ false → st.frame.work ≡ [] → e.thread ≡ 0 → e.action ≡ demanded s st.frame → e.answer ≡ answer_to s 0 st e.action → (IsTrue (makes s e.action) → length st.objects < 65536) → IsLegalEntry s st e
 legal_demanded s st e own h going idle thread action answer room = record {
   next = rw (thread, going, idle, action) refl;
   uses = rw (thread, action, frame_statement s st h) (uses_by s st (slice_get (setup s) st.frame.number) own h refl);
   answer = rw thread answer;
-  room = λ _. room;
+  room = room;
 }
 
 -- and so is an owed release

@@ -11,3 +11,6 @@ pub mod Holding
 pub mod Working
 pub mod Soundness
 pub mod Legality
+pub mod Sizes
+pub mod Degrees
+pub mod Proceeding

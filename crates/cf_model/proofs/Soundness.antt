@@ -1,15 +1,14 @@
 -- Along the legal journals of an owned script all is kept, each variable holds what it owns, and work is in order.
-use Rattle.std.proofs.Common.{◌≡◌, ℕ, zero, suc, ◌+◌, ◌<◌, ◌≤◌, Bool, true, false, ◌&&◌, List, [], ◌∷◌, ◌++◌, length, take, map, Option, Some, None, ltb, refl, sym, ap, ◌∙◌, subst, arith, append_assoc, append-nil}
+use Rattle.std.proofs.Common.{◌≡◌, ℕ, zero, suc, ◌+◌, ◌<◌, ◌≤◌, Bool, true, false, ◌&&◌, List, [], ◌∷◌, ◌++◌, take, map, Option, Some, None, ltb, refl, sym, ap, ◌∙◌, subst, arith, append_assoc, append-nil}
 use Rattle.std.specs.Prelude.{slice_get}
 use Rattle.std.proofs.lemmas.Bool.{and_parts, and_from, eq-eqb}
 use Rattle.std.proofs.lemmas.Bool.Decides.{nat_tests}
 use Rattle.cf_ids.specs.declared.answer.Answer.{Answer}
 use Rattle.cf_ids.specs.declared.answer.Answer.TheVariants as answers
-use Rattle.cf_graph.specs.Holders.{variable, owed, slot}
+use Rattle.cf_graph.specs.Holders.{Holder, variable, owed, slot}
 use Rattle.cf_graph.specs.Edges.{Reference, same, weigh, one, counted, leading_to, from_thread}
 use Rattle.cf_graph.specs.Operations.{run, without, CanRun}
 use Rattle.cf_graph.proofs.Same.{same-equal}
-use Rattle.cf_graph.proofs.Counts.{weigh-le}
 use Rattle.cf_syntax.specs.declared.script.Script.{Script}
 use Rattle.cf_syntax.specs.declared.script.Block.{Block}
 use Rattle.cf_syntax.specs.declared.statement.Statement.{Statement}
@@ -18,24 +17,23 @@ use Rattle.cf_syntax.specs.declared.statement.Touch.TheVariants.{Nothing, Binds,
 use Rattle.cf_syntax.specs.Forms.{touch_of, touched, read_by, used_by, is_known, padded}
 use Rattle.cf_syntax.specs.Owned.{may_use, may_use_all, may_touch, is_fit, are_fit, blocks_fit, Owned}
 use Rattle.cf_contents.specs.Contents.{times}
-use Rattle.cf_contents.specs.Deeds.{Source, Change, first_of, second_of, object_of, deed_at, resolved, taken_in, given_out}
-use Rattle.cf_contents.proofs.SlotLaws.{MakesEmpty, LeavesEmpty, FindsEmpty, leaves-resolved, finds-resolved}
-use Rattle.cf_contents.proofs.FormLaws.{form_keeps}
+use Rattle.cf_contents.specs.Deeds.{Source, Change, first_of, object_of, deed_at, resolved, taken_in, given_out}
+use Rattle.cf_contents.proofs.SlotLaws.{MakesEmpty}
+use Rattle.cf_contents.proofs.FormLaws.{form_fits}
 use Rattle.cf_model.specs.declared.action.Action.{Action}
 use Rattle.cf_model.specs.declared.action.Entry.{Entry}
-use Rattle.cf_model.specs.State.{State, Binding, start, degree}
+use Rattle.cf_model.specs.State.{State, Binding, start, look}
 use Rattle.cf_model.specs.Actions.{action_of}
-use Rattle.cf_model.specs.Steps.{Step, reference, owed_reference, slot_reference, found, target, operations_of, bindings_by, change_operations, touch_step, statement_step, done_step, owed_step, drop_step, statement_of, statement_in, step_for, state_after, effect}
+use Rattle.cf_model.specs.Steps.{Step, reference, owed_reference, slot_reference, found, operations_of, bindings_by, change_operations, touch_step, statement_step, done_step, owed_step, drop_step, statement_of, statement_in, step_for, state_after, effect}
 use Rattle.cf_model.specs.Journals.{statements_in, setup, object_at, used_objects, used_of, named_of, next_of, MayUseAll, state_from, After, IsLegalEntry, IsLegalFrom, IsLegal}
-use Rattle.cf_model.proofs.Balance.{IsBalanced}
 use Rattle.cf_model.proofs.Demands.{Demand, of_frame, of_owed, of_slot, legal_is_demanded}
 use Rattle.cf_model.proofs.FrameSteps.{frame_step, site_in, step_for-demanded, used_of-action_of}
-use Rattle.cf_model.proofs.Slots.{kinds_apart, one_of_kinds, operations_in, other_weigh, weigh-without-other, weigh-change}
+use Rattle.cf_model.proofs.Slots.{kinds_apart, one_apart, one_of_kinds, operations_in, other_weigh, weigh-without-other, weigh-change}
 use Rattle.cf_model.proofs.Kept.{IsKept, kept_after}
 use Rattle.cf_model.proofs.Keeping.{IsLive, IsLiveIf, change_can, done_kept}
 use Rattle.cf_model.proofs.Along.{live_if, taken_live, statement_kept, action_kept, start_kept}
-use Rattle.cf_model.proofs.Holding.{some_is, Holds, looked, touch_holds}
-use Rattle.cf_model.proofs.Working.{IsWorked, WorksStep, worked_after, reference_works, change_works, done_works, owed_works, drop_works}
+use Rattle.cf_model.proofs.Holding.{some_is, Holds, aimed, touch_holds}
+use Rattle.cf_model.proofs.Working.{IsWorked, WorksStep, worked_after, operations_quiet, reference_works, change_works, done_works, owed_works, drop_works}
 
 pub take_next : (xs : List Statement) (n : ℕ) (x : Statement) → slice_get xs n ≡ Some x → take (n + 1) xs ≡ take n xs ++ x ∷ []
 take_next [] n x e = absurd cc
@@ -65,9 +63,15 @@ fit_parts earlier x h =
 
 -- ---- references of variables
 
+-- a holder that is no variable of setup's thread, owes nothing for it, and is no slot
+pub record IsForeign (h : Holder) : Type 0 where
+  pub variable : (v : ℕ) → h ≡ variable 0 v → ⊥
+  pub owed : h ≡ owed 0 → ⊥
+  pub slot : (b : ℕ) → h ≡ slot b → ⊥
+
 -- what variables hold stays where their references do
 holds_same : (earlier : List Statement) (bs : List Binding) (es fs : List Reference) → ((v o : ℕ) → weigh (one (reference 0 v o)) fs ≡ weigh (one (reference 0 v o)) es) → Holds earlier bs es → Holds earlier bs fs
-holds_same earlier bs es fs same h = record { held = λ v o e. omega (arith, same v o, h.held v o e); unbound = h.unbound }
+holds_same earlier bs es fs same h = record { held = λ v o e. omega (arith, same v o, h.held v o e); unbound = h.unbound; loose = λ v o e. same v o ∙ h.loose v o e }
 
 -- ---- along a journal
 
@@ -75,18 +79,20 @@ pub none_leads : (made m n : ℕ) → m + counted (ltb 0 n) ≡ counted (ltb mad
 none_leads made m zero h = refl
 none_leads made m (suc n) h = absurd (let no : counted (ltb made made) ≡ 0 = grind (arith, nat_tests) in let yes : counted (ltb 0 (suc n)) ≡ 1 = grind (arith, nat_tests) in omega arith)
 
--- what a state has of an owned script: setup's frame, whose variables hold what they own, and what journals keep
+-- what a state has of an owned script: setup's frame, whose variables hold what they own, no reference that has
+-- another holder, and what journals keep
 pub record IsSound (s : Script) (st : State) : Type 0 where
   pub block : st.frame.block ≡ 0
   pub holds : Holds (take st.frame.number (setup s)) st.frame.bindings st.edges
   pub kept : IsKept st
   pub worked : IsWorked st
+  pub others : (r : Reference) → IsForeign r.holder → weigh (one r) st.edges ≡ 0
 
 pub owned_blocks : (bs : List Block) → blocks_fit bs ≡ true → are_fit [] (statements_in (slice_get bs 0)) ≡ true
 owned_blocks [] h = refl
 owned_blocks (b ∷ bs) h = (and_parts (are_fit [] b.statements) (blocks_fit bs) h).0
 
-setup_statement : (bs : List Block) (n : ℕ) → statement_of (slice_get bs 0) n ≡ slice_get (statements_in (slice_get bs 0)) n
+pub setup_statement : (bs : List Block) (n : ℕ) → statement_of (slice_get bs 0) n ≡ slice_get (statements_in (slice_get bs 0)) n
 setup_statement [] n = refl
 setup_statement (b ∷ bs) n = refl
 
@@ -99,11 +105,18 @@ one_from v o e true t =
     omega (arith, ap (λ (x : Reference). from_thread 0 o x) (same-equal (reference 0 v o) e t), ap (λ (c : Bool). counted (c && true)) (eq-eqb o o refl))
 one_from v o e false t = omega arith
 
-pub first_used : (touch : Touch) (read : List ℕ) (f : Option ℕ) (bs : List Binding) → target touch f (first_of (map (object_at bs) (padded (touched touch ++ read)))) ≡ target touch f (looked touch bs)
-first_used Nothing read f bs = refl
-first_used (Binds v) read f bs = refl
-first_used (Plus v) read f bs = refl
-first_used (Minus v) read f bs = refl
+abbrev pub TakesFirst : Touch → List Binding → Option ℕ → Type 0
+TakesFirst Nothing bs used = Unit {0}
+TakesFirst (Binds v) bs used = Unit {0}
+TakesFirst (Plus v) bs used = used ≡ look v bs
+TakesFirst (Minus v) bs used = used ≡ look v bs
+
+-- the first variable that is used is that of a touch that uses one
+pub first_used : (touch : Touch) (read : List ℕ) (bs : List Binding) → TakesFirst touch bs (first_of (map (object_at bs) (padded (touched touch ++ read))))
+first_used Nothing read bs = tt
+first_used (Binds v) read bs = tt
+first_used (Plus v) read bs = refl
+first_used (Minus v) read bs = refl
 
 pub use_first : (earlier : List Statement) (vs ws : List ℕ) → may_use_all earlier (vs ++ ws) ≡ true → may_use_all earlier vs ≡ true
 use_first earlier [] ws h = refl
@@ -111,29 +124,35 @@ use_first earlier (v ∷ vs) ws h =
     let p = and_parts (may_use earlier v) (may_use_all earlier (vs ++ ws)) h in
     and_from (may_use earlier v) (may_use_all earlier vs) p.0 (use_first earlier vs ws p.1)
 
-none_to_new : (st : State) (v : ℕ) → IsBalanced st → weigh (one (reference 0 v (length st.objects))) st.edges ≡ 0
-none_to_new st v b =
-    let made = length st.objects in
-    let le = weigh-le (one (reference 0 v made)) (leading_to made) st.edges (λ e. one_leads (reference 0 v made) e (same (reference 0 v made) e) refl) in
-    let none : degree made st.edges ≡ 0 = none_leads made (times made st.finalised) (degree made st.edges) (b made) in
-    omega (arith, le, none)
-
 pub frame_statement : (s : Script) (st : State) → IsSound s st → statement_in s st.frame.block st.frame.number ≡ slice_get (setup s) st.frame.number
 frame_statement s st h = ap (λ (b : ℕ). statement_in s b st.frame.number) h.block ∙ setup_statement s.blocks st.frame.number
 
--- a change leaves variables what they hold
-change_same : (used : Option ℕ) (change : Change) (st : State) → ((b : ℕ) → used ≡ Some b → CanRun (operations_in 0 b (slice_get st.objects b) change) st.edges) → (v o : ℕ) → weigh (one (reference 0 v o)) (run (change_operations 0 used (object_of st.objects used) change) st.edges) ≡ weigh (one (reference 0 v o)) st.edges
-change_same None change st can v o = refl
-change_same (Some b) change st can v o =
+-- a change leaves what is held by neither slots nor owed work
+change_quiet : (r : Reference) (used : Option ℕ) (change : Change) (st : State) → (r.holder ≡ owed 0 → ⊥) → ((b : ℕ) → r.holder ≡ slot b → ⊥) → ((b : ℕ) → used ≡ Some b → CanRun (operations_in 0 b (slice_get st.objects b) change) st.edges) → weigh (one r) (run (change_operations 0 used (object_of st.objects used) change) st.edges) ≡ weigh (one r) st.edges
+change_quiet r None change st not_owed not_slot can = refl
+change_quiet r (Some b) change st not_owed not_slot can =
     let ts = taken_in (slice_get st.objects b) change in
     let gs = given_out (slice_get st.objects b) change in
-    omega (arith, weigh-change (one (reference 0 v o)) 0 b ts gs st.edges (can b refl), other_weigh (reference 0 v o) (slot b) gs (kinds_apart (variable 0 v) (slot b) refl), other_weigh (reference 0 v o) (slot b) ts (kinds_apart (variable 0 v) (slot b) refl), other_weigh (reference 0 v o) (owed 0) gs (kinds_apart (variable 0 v) (owed 0) refl))
+    omega (arith, weigh-change (one r) 0 b ts gs st.edges (can b refl), other_weigh r (slot b) gs (not_slot b), other_weigh r (slot b) ts (not_slot b), other_weigh r (owed 0) gs not_owed)
+
+change_same : (used : Option ℕ) (change : Change) (st : State) → ((b : ℕ) → used ≡ Some b → CanRun (operations_in 0 b (slice_get st.objects b) change) st.edges) → (v o : ℕ) → weigh (one (reference 0 v o)) (run (change_operations 0 used (object_of st.objects used) change) st.edges) ≡ weigh (one (reference 0 v o)) st.edges
+change_same used change st can v o = change_quiet (reference 0 v o) used change st (kinds_apart (variable 0 v) (owed 0) refl) (λ b. kinds_apart (variable 0 v) (slot b) refl) can
+
+foreign_quiet : (touch : Touch) (object : Option ℕ) (r : Reference) (es : List Reference) → IsForeign r.holder → weigh (one r) (run (operations_of 0 touch object) es) ≡ weigh (one r) es
+foreign_quiet touch object r es f = operations_quiet 0 touch object r es (λ v o. one_apart r (reference 0 v o) (λ q. f.variable v (ap (λ (p : Reference). p.holder) q)))
+
+-- a touch's step leaves what others hold
+touch_quiet : (touch : Touch) (answer : Answer) (source : Source) (used : Option ℕ) (change : Change) (st : State) → ((b : ℕ) → used ≡ Some b → CanRun (operations_in 0 b (slice_get st.objects b) change) st.edges) → (r : Reference) → IsForeign r.holder → weigh (one r) (run (touch_step 0 touch answer source used change st).operations st.edges) ≡ weigh (one r) st.edges
+touch_quiet Nothing answer source used change st can r f = change_quiet r used change st f.owed f.slot can
+touch_quiet (Binds v) answer source used change st can r f = foreign_quiet (Binds v) (found st source) r st.edges f
+touch_quiet (Plus v) answer source used change st can r f = foreign_quiet (Plus v) used r st.edges f
+touch_quiet (Minus v) answer source used change st can r f = foreign_quiet (Minus v) used r st.edges f
 
 -- the operations of a change can be done
-can_used : (used : Option ℕ) (change : Change) (st : State) → IsKept st → LeavesEmpty change → FindsEmpty (object_of st.objects used) change → IsLiveIf st used → ((o : ℕ) → 0 < times o (taken_in (object_of st.objects used) change) → IsLive st o) → (b : ℕ) → used ≡ Some b → CanRun (operations_in 0 b (slice_get st.objects b) change) st.edges
-can_used None change st h leaves finds live enters b e = absurd cc
-can_used (Some c) change st h leaves finds live enters b e =
-    subst (λ (d : ℕ). CanRun (operations_in 0 d (slice_get st.objects d) change) st.edges) (some_is c b e) (change_can 0 c answers.Ok change st h leaves finds live enters)
+pub can_used : (used : Option ℕ) (change : Change) (st : State) → IsKept st → IsLiveIf st used → ((o : ℕ) → 0 < times o (taken_in (object_of st.objects used) change) → IsLive st o) → (b : ℕ) → used ≡ Some b → CanRun (operations_in 0 b (slice_get st.objects b) change) st.edges
+can_used None change st h live enters b e = absurd cc
+can_used (Some c) change st h live enters b e =
+    subst (λ (d : ℕ). CanRun (operations_in 0 d (slice_get st.objects d) change) st.edges) (some_is c b e) (change_can 0 c answers.Ok change st h live enters)
 
 live_used : (st : State) (used : Option ℕ) (b : ℕ) → IsLiveIf st used → used ≡ Some b → times b st.finalised ≡ 0
 live_used st None b live e = absurd cc
@@ -141,12 +160,14 @@ live_used st (Some c) b live e =
     subst (λ (d : ℕ). times d st.finalised ≡ 0) (some_is c b e) live.0
 
 -- a touch's step keeps what variables hold, and its work is in order
-touch_sound : (touch : Touch) (answer : Answer) (source : Source) (used : Option ℕ) (change : Change) (st : State) (later : List Statement) → let step = touch_step 0 touch answer source used change st in let object = target touch (found (length st.objects) source) used in IsWorked st → MakesEmpty source → ((b : ℕ) → used ≡ Some b → times b st.finalised ≡ 0) → ((b : ℕ) → used ≡ Some b → CanRun (operations_in 0 b (slice_get st.objects b) change) st.edges) → Holds later (bindings_by touch object ++ st.frame.bindings) (run (operations_of 0 touch object) st.edges) → Holds later (step.bindings ++ st.frame.bindings) (run step.operations st.edges) × WorksStep st step
-touch_sound Nothing answer source used change st later w makes live can h =
+touch_sound : (touch : Touch) (answer : Answer) (source : Source) (used : Option ℕ) (change : Change) (st : State) (later : List Statement) → let step = touch_step 0 touch answer source used change st in let object = aimed touch (found st source) st.frame.bindings in IsWorked st → MakesEmpty source → TakesFirst touch st.frame.bindings used → ((b : ℕ) → used ≡ Some b → times b st.finalised ≡ 0) → ((b : ℕ) → used ≡ Some b → CanRun (operations_in 0 b (slice_get st.objects b) change) st.edges) → Holds later (bindings_by touch object ++ st.frame.bindings) (run (operations_of 0 touch object) st.edges) → Holds later (step.bindings ++ st.frame.bindings) (run step.operations st.edges) × WorksStep st step
+touch_sound Nothing answer source used change st later w makes first live can h =
     (holds_same later st.frame.bindings st.edges (run (change_operations 0 used (object_of st.objects used) change) st.edges) (change_same used change st can) h, change_works answer used change st w live can)
-touch_sound (Binds v) answer source used change st later w makes live can h = (h, reference_works 0 (Binds v) answer source used st w makes)
-touch_sound (Plus v) answer source used change st later w makes live can h = (h, reference_works 0 (Plus v) answer source used st w makes)
-touch_sound (Minus v) answer source used change st later w makes live can h = (h, reference_works 0 (Minus v) answer source used st w makes)
+touch_sound (Binds v) answer source used change st later w makes first live can h = (h, reference_works 0 (Binds v) answer source (found st source) st w makes)
+touch_sound (Plus v) answer source used change st later w makes first live can h =
+    (subst (λ (o : Option ℕ). Holds later (bindings_by (Plus v) o ++ st.frame.bindings) (run (operations_of 0 (Plus v) o) st.edges)) (sym first) h, reference_works 0 (Plus v) answer source used st w makes)
+touch_sound (Minus v) answer source used change st later w makes first live can h =
+    (subst (λ (o : Option ℕ). Holds later (bindings_by (Minus v) o ++ st.frame.bindings) (run (operations_of 0 (Minus v) o) st.edges)) (sym first) h, reference_works 0 (Minus v) answer source used st w makes)
 
 -- the frame goes on by one statement
 step_number : (touch : Touch) (answer : Answer) (source : Source) (used : Option ℕ) (change : Change) (st : State) → (touch_step 0 touch answer source used change st).number ≡ st.frame.number + 1
@@ -161,24 +182,20 @@ statement_sound s st x body own h e uses =
     let step = statement_step s.classes 0 x used st in
     let deed = deed_at s.classes st.objects x used in
     let change = resolved used deed.change in
-    let a = object_of st.objects (first_of used) in
-    let form = form_keeps s.classes x a (object_of st.objects (second_of used)) in
-    let leaves = leaves-resolved used deed.change form.plain.leaves in
-    let finds = finds-resolved used deed.change a form.finds in
     let live = live_if st 0 body used uses in
-    let enters = λ (o : ℕ) (some : 0 < times o (taken_in a change)). taken_live st 0 body used uses o a deed.change some in
+    let enters = λ (o : ℕ) (some : 0 < times o (taken_in (object_of st.objects (first_of used)) change)). taken_live st 0 body used uses o (object_of st.objects (first_of used)) deed.change some in
     let earlier = take st.frame.number (setup s) in
     let fit : is_fit earlier x ≡ true = fit_at [] (setup s) st.frame.number x (owned_blocks s.blocks own) e in
     let parts = fit_parts earlier x fit in
-    let made = length st.objects in
-    let holds = touch_holds x earlier st.frame.bindings st.edges h.holds (touch_of x) deed.source made refl parts.0 (use_first earlier (touched (touch_of x)) (read_by x) parts.1) (λ v. none_to_new st v h.kept.balance) in
-    let object = first_used (touch_of x) (read_by x) (found made deed.source) st.frame.bindings in
-    let both = touch_sound (touch_of x) deed.answer deed.source (first_of used) change st (earlier ++ x ∷ []) h.worked form.plain.makes (λ b q. live_used st (first_of used) b live q) (can_used (first_of used) change st h.kept leaves finds live enters) (rw object holds) in
+    let holds = touch_holds x earlier st.frame.bindings st.edges h.holds (touch_of x) (found st deed.source) refl parts.0 (use_first earlier (touched (touch_of x)) (read_by x) parts.1) in
+    let can = can_used (first_of used) change st h.kept live enters in
+    let both = touch_sound (touch_of x) deed.answer deed.source (first_of used) change st (earlier ++ x ∷ []) h.worked (form_fits s.classes x _ _ _).makes (first_used (touch_of x) (read_by x) st.frame.bindings) (λ b q. live_used st (first_of used) b live q) can holds in
     record {
       block = h.block;
       holds = rw (step_number (touch_of x) deed.answer deed.source (first_of used) change st, take_next (setup s) st.frame.number x e) both.0;
       kept = kept_after st step h.kept (statement_kept s.classes 0 body x used st h.kept uses);
       worked = worked_after st step both.1;
+      others = λ r f. touch_quiet (touch_of x) deed.answer deed.source (first_of used) change st can r f ∙ h.others r f;
     }
 
 -- the step of each demanded action
@@ -188,6 +205,7 @@ frame_sound s st None own h e uses = record {
   holds = h.holds;
   kept = kept_after st (done_step st) h.kept (done_kept st h.kept);
   worked = worked_after st (done_step st) (done_works st h.worked);
+  others = h.others;
 }
 frame_sound s st (Some x) own h e uses =
     let site = site_in st.frame x in
@@ -208,6 +226,7 @@ action_sound s st a own h (of_owed o rest w e) uses =
       holds = rw step (holds_same _ st.frame.bindings st.edges (without (owed_reference 0 o) st.edges) (λ v p. weigh-without-other (one (reference 0 v p)) (owed_reference 0 o) st.edges (one_of_kinds (reference 0 v p) (owed_reference 0 o) refl)) h.holds);
       kept = kept_after st (step_for s 0 st a) h.kept kept_step;
       worked = rw step (worked_after st (owed_step 0 o st) (owed_works o rest st h.worked w));
+      others = rw step (λ r f. weigh-without-other (one r) (owed_reference 0 o) st.edges (one_apart r (owed_reference 0 o) (λ q. f.owed (ap (λ (p : Reference). p.holder) q))) ∙ h.others r f);
     }
 action_sound s st a own h (of_slot b o rest os w l e) uses =
     let kept_step = action_kept s 0 st a h.kept (of_slot b o rest os w l e) uses in
@@ -217,6 +236,7 @@ action_sound s st a own h (of_slot b o rest os w l e) uses =
       holds = rw step (holds_same _ st.frame.bindings st.edges (without (slot_reference b o) st.edges) (λ v p. weigh-without-other (one (reference 0 v p)) (slot_reference b o) st.edges (one_of_kinds (reference 0 v p) (slot_reference b o) refl)) h.holds);
       kept = kept_after st (step_for s 0 st a) h.kept kept_step;
       worked = rw step (worked_after st (drop_step b o st) (drop_works b o rest st h.worked w));
+      others = rw step (λ r f. weigh-without-other (one r) (slot_reference b o) st.edges (one_apart r (slot_reference b o) (λ q. f.slot b (ap (λ (p : Reference). p.holder) q))) ∙ h.others r f);
     }
 
 pub entry_sound : (s : Script) (st : State) (e : Entry) → Owned s → IsSound s st → IsLegalEntry s st e → IsSound s (effect s e.thread st e.action)
@@ -231,9 +251,10 @@ sound_from s st (e ∷ es) own h legal = sound_from s (effect s e.thread st e.ac
 start_sound : (s : Script) → IsSound s start
 start_sound s = record {
   block = refl;
-  holds = record { held = λ v o e. absurd cc; unbound = λ v e. (refl, refl, refl) };
+  holds = record { held = λ v o e. absurd cc; unbound = λ v e. (refl, refl, refl); loose = λ v o e. refl };
   kept = start_kept;
   worked = record { owed = λ o. refl; given_up = λ b some none. refl; trim = refl };
+  others = λ r f. refl;
 }
 
 -- after each legal journal of an owned script each variable holds what it owns

@@ -1,5 +1,5 @@
 -- The action of each form of statement. This project's own; a further form adds a line to each table.
-use Rattle.std.specs.Prelude.{ℕ, Bool, true, false, List, Option, Some, None}
+use Rattle.std.specs.Prelude.{ℕ, List, Option, Some, None}
 use Rattle.cf_syntax.specs.declared.statement.Statement.{Statement}
 use Rattle.cf_syntax.specs.declared.statement.Statement.TheVariants as forms
 use Rattle.cf_model.specs.declared.action.Action.{Action}
@@ -31,6 +31,21 @@ action_of (forms.DataAppend v bytes) s = actions.DataAppend s.block s.number s.u
 action_of (forms.DataReplace v at len bytes) s = actions.DataReplace s.block s.number s.used
 action_of (forms.DataDelete v at len) s = actions.DataDelete s.block s.number s.used
 action_of (forms.NumAs v kind) s = actions.NumAs s.block s.number s.used
+action_of (forms.MakeArray v plain) s = actions.MakeArray s.block s.number s.used
+action_of (forms.MakeDict v plain) s = actions.MakeDict s.block s.number s.used
+action_of (forms.ArrAppend v x) s = actions.ArrAppend s.block s.number s.used
+action_of (forms.ArrInsert v at x) s = actions.ArrInsert s.block s.number s.used
+action_of (forms.ArrSet v at x) s = actions.ArrSet s.block s.number s.used
+action_of (forms.ArrRemove v at) s = actions.ArrRemove s.block s.number s.used
+action_of (forms.ArrTake v array at) s = actions.ArrTake s.block s.number s.used
+action_of (forms.DictAdd v k x) s = actions.DictAdd s.block s.number s.used
+action_of (forms.DictSet v k x) s = actions.DictSet s.block s.number s.used
+action_of (forms.DictReplace v k x) s = actions.DictReplace s.block s.number s.used
+action_of (forms.DictRemove v k) s = actions.DictRemove s.block s.number s.used
+action_of (forms.DictTake v dictionary k) s = actions.DictTake s.block s.number s.used
+action_of (forms.FieldSet v at x) s = actions.FieldSet s.block s.number s.used
+action_of (forms.FieldClear v at) s = actions.FieldClear s.block s.number s.used
+action_of (forms.FieldTake v instance at) s = actions.FieldTake s.block s.number s.used
 
 -- the site of an action, where a statement writes it
 abbrev pub site_of : Action → Option Site
@@ -52,17 +67,21 @@ site_of (actions.DataAppend b n u) = Some (record { block = b; number = n; used 
 site_of (actions.DataReplace b n u) = Some (record { block = b; number = n; used = u })
 site_of (actions.DataDelete b n u) = Some (record { block = b; number = n; used = u })
 site_of (actions.NumAs b n u) = Some (record { block = b; number = n; used = u })
+site_of (actions.MakeArray b n u) = Some (record { block = b; number = n; used = u })
+site_of (actions.MakeDict b n u) = Some (record { block = b; number = n; used = u })
+site_of (actions.ArrAppend b n u) = Some (record { block = b; number = n; used = u })
+site_of (actions.ArrInsert b n u) = Some (record { block = b; number = n; used = u })
+site_of (actions.ArrSet b n u) = Some (record { block = b; number = n; used = u })
+site_of (actions.ArrRemove b n u) = Some (record { block = b; number = n; used = u })
+site_of (actions.ArrTake b n u) = Some (record { block = b; number = n; used = u })
+site_of (actions.DictAdd b n u) = Some (record { block = b; number = n; used = u })
+site_of (actions.DictSet b n u) = Some (record { block = b; number = n; used = u })
+site_of (actions.DictReplace b n u) = Some (record { block = b; number = n; used = u })
+site_of (actions.DictRemove b n u) = Some (record { block = b; number = n; used = u })
+site_of (actions.DictTake b n u) = Some (record { block = b; number = n; used = u })
+site_of (actions.FieldSet b n u) = Some (record { block = b; number = n; used = u })
+site_of (actions.FieldClear b n u) = Some (record { block = b; number = n; used = u })
+site_of (actions.FieldTake b n u) = Some (record { block = b; number = n; used = u })
 site_of actions.Done = None
 site_of (actions.Owed o) = None
 site_of (actions.DropSlot b k o) = None
-
--- the forms that make an object
-abbrev pub makes_object : Statement → Bool
-makes_object (forms.MakeString v text) = true
-makes_object (forms.MakeMstring v text) = true
-makes_object (forms.MakeData v bytes) = true
-makes_object (forms.MakeMdata v bytes) = true
-makes_object (forms.MakeNumber v n) = true
-makes_object (forms.New v class key) = true
-makes_object (forms.StrSub v text at len) = true
-makes_object _ = false

@@ -12,16 +12,20 @@ use Rattle.cf_model.specs.State.{State, is_made}
 use Rattle.cf_contents.specs.Deeds.{first_of}
 use Rattle.cf_model.specs.Journals.{After, used_of}
 
--- the object that an entry finalises: it is a release or a drop, and it answers so
+-- the object to which an action takes a reference away: a release, or a drop
+abbrev pub cut_of : Action → Option ℕ
+cut_of (actions.Release b n used) = first_of used
+cut_of (actions.Owed o) = Some o
+cut_of (actions.DropSlot b k o) = Some o
+cut_of _ = None
+
+-- the object that an entry finalises: it takes a reference away, and it answers so
 abbrev pub final_if : Answer → Option ℕ → Option ℕ
 final_if (answers.Final c) o = o
 final_if _ o = None
 
 abbrev pub final_of : Action → Answer → Option ℕ
-final_of (actions.Release b n used) answer = final_if answer (first_of used)
-final_of (actions.Owed o) answer = final_if answer (Some o)
-final_of (actions.DropSlot b k o) answer = final_if answer (Some o)
-final_of _ answer = None
+final_of a answer = final_if answer (cut_of a)
 
 abbrev pub one_at : ℕ → Option ℕ → ℕ
 one_at o None = 0
@@ -32,7 +36,16 @@ abbrev pub finals : ℕ → List Entry → ℕ
 finals o [] = 0
 finals o (e ∷ es) = one_at o (final_of e.action e.answer) + finals o es
 
--- how often an object stands among those that an action uses
+-- the object that an entry binds, which its answer names
+abbrev pub bound_by : Answer → List (Option ℕ)
+bound_by (answers.Object o) = Some o ∷ []
+bound_by _ = []
+
+-- the objects that an entry uses: it acts on them, or adds a reference to them
+abbrev pub uses_of : Entry → List (Option ℕ)
+uses_of e = bound_by e.answer ++ used_of e.action
+
+-- how often an object stands among those that are used
 abbrev pub uses : ℕ → List (Option ℕ) → ℕ
 uses o [] = 0
 uses o (p ∷ os) = one_at o p + uses o os
@@ -46,5 +59,5 @@ IsHeld st o = 0 < weigh (holding o) st.edges
 
 pub record FinalsFit (s : Script) (es : List Entry) : Type 0 where
   pub once : (o : ℕ) → finals o es ≤ 1
-  pub unused : (earlier later : List Entry) (e : Entry) (o : ℕ) → es ≡ earlier ++ e ∷ later → 0 < finals o earlier → uses o (used_of e.action) ≡ 0
+  pub unused : (earlier later : List Entry) (e : Entry) (o : ℕ) → es ≡ earlier ++ e ∷ later → 0 < finals o earlier → uses o (uses_of e) ≡ 0
   pub left : (o : ℕ) → IsTrue (is_made (After s es) o) → (finals o es ≡ 0) ↔ (IsOwned (After s es) o ⊎ IsHeld (After s es) o)

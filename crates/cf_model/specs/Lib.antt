@@ -6,4 +6,5 @@ pub mod Finals
 pub mod Serial
 pub mod Changes
 pub mod Rendering
+pub mod Endings
 pub mod Rows

@@ -18,7 +18,7 @@ use Rattle.cf_contents.specs.Contents.{Object}
 use Rattle.cf_contents.specs.Deeds.{first_of}
 use Rattle.cf_contents.specs.Descriptions.{class_name}
 use Rattle.cf_model.specs.State.{State, times}
-use Rattle.cf_model.specs.Journals.{After, IsWhole}
+use Rattle.cf_model.specs.Journals.{After}
 
 -- words joined by single spaces
 abbrev pub joined : List (List ℕ) → List ℕ
@@ -103,10 +103,3 @@ text_of_lines (l ∷ ls) = l ++ 10 ∷ text_of_lines ls
 
 abbrev pub rendering : Script → List Entry → Ending → List ℕ
 rendering s es ending = text_of_lines (lines s es ending)
-
--- how a journal ends: with the forms so far, a whole one ends with Done, and no other ending is met
-abbrev pub Ends : Script → List Entry → Ending → Type 0
-Ends s es endings.Done = IsWhole s es
-Ends s es endings.Limit = ⊥
-Ends s es endings.Full = ⊥
-Ends s es endings.Stalled = ⊥

@@ -10,16 +10,16 @@ use Rattle.cf_syntax.specs.declared.script.ClassLine.{ClassLine}
 use Rattle.cf_syntax.specs.declared.statement.Statement.{Statement}
 use Rattle.cf_syntax.specs.declared.statement.Touch.{Touch}
 use Rattle.cf_syntax.specs.declared.statement.Touch.TheVariants.{Nothing, Binds, Plus, Minus}
-use Rattle.cf_syntax.specs.Forms.{touch_of}
+use Rattle.cf_syntax.specs.Forms.{touch_of, makes_object}
 use Rattle.cf_graph.specs.Holders.{Holder, variable, owed, slot}
 use Rattle.cf_graph.specs.Edges.{Reference}
 use Rattle.cf_graph.specs.Operations.{Operation, add, move, cut, run}
 use Rattle.cf_contents.specs.Contents.{Object}
-use Rattle.cf_contents.specs.Deeds.{Source, nowhere, fresh, Change, first_of, object_of, deed_at, resolved, changed_by, taken_in, given_out}
+use Rattle.cf_contents.specs.Deeds.{Source, nowhere, fresh, there, Change, first_of, object_of, deed_at, resolved, changed_by, taken_in, given_out}
 use Rattle.cf_model.specs.declared.action.Action.{Action}
 use Rattle.cf_model.specs.declared.action.Action.TheVariants as actions
-use Rattle.cf_model.specs.State.{Binding, Work, release_of, slots_of, State, trimmed, degree}
-use Rattle.cf_model.specs.Actions.{Site, site_of, makes_object}
+use Rattle.cf_model.specs.State.{Binding, Work, release_of, slots_of, State, trimmed, is_live, degree}
+use Rattle.cf_model.specs.Actions.{Site, site_of}
 
 -- the statement at a place of a block
 abbrev pub statement_of : Option Block → ℕ → Option Statement
@@ -93,19 +93,20 @@ state_after step st = record {
 abbrev pub step_answer : Step → State → Answer
 step_answer step st = cut_answer step.cuts st.objects (edges_after step st.edges) step.answer
 
+-- the objects to which operations add references, one for each
+abbrev pub gained_by : List Operation → List ℕ
+gained_by [] = []
+gained_by (add r ∷ ops) = r.object ∷ gained_by ops
+gained_by (move r h ∷ ops) = gained_by ops
+gained_by (cut r ∷ ops) = gained_by ops
+
 -- ---- the step of a statement
 
--- the object that a source gives, in a state with so many objects
-abbrev pub found : ℕ → Source → Option ℕ
-found made nowhere = None
-found made (fresh ob) = Some made
-
--- the object whose references a touch changes: the one that is bound, or the one that is used
-abbrev pub target : Touch → Option ℕ → Option ℕ → Option ℕ
-target Nothing bound used = None
-target (Binds v) bound used = bound
-target (Plus v) bound used = used
-target (Minus v) bound used = used
+-- the object that a source gives: the next one, or one that is there, where it is live
+abbrev pub found : State → Source → Option ℕ
+found st nowhere = None
+found st (fresh ob) = Some (length st.objects)
+found st (there o) = if is_live st o then Some o else None
 
 -- what a touch does to references
 abbrev pub operations_at : ℕ → Touch → ℕ → List Operation
@@ -129,6 +130,7 @@ cut_by (Minus v) object = object
 abbrev pub made_from : Source → List Object
 made_from nowhere = []
 made_from (fresh ob) = ob ∷ []
+made_from (there o) = []
 
 abbrev pub made_by : Touch → Source → List Object
 made_by Nothing source = []
@@ -167,21 +169,19 @@ change_operations t None ob change = []
 change_operations t (Some b) ob change =
     map (λ o. add (slot_reference b o)) (taken_in ob change) ++ map (λ o. move (slot_reference b o) (owed t)) (given_out ob change)
 
--- the step of a touch that takes or binds a reference, by the source of what is bound and the object that is used
+-- the step of a touch that takes or binds a reference to an object, which may be new
 abbrev pub reference_step : ℕ → Touch → Answer → Source → Option ℕ → State → Step
-reference_step t touch answer source used st =
-    let object = target touch (found (length st.objects) source) used in
-    record {
-      answer = answer_of touch object answer;
-      operations = operations_of t touch object;
-      cuts = cut_by touch object;
-      objects = st.objects ++ made_by touch source;
-      bindings = bindings_by touch object;
-      number = st.frame.number + 1;
-      drops = [];
-      work = st.frame.work;
-      is_done = st.frame.is_done;
-    }
+reference_step t touch answer source object st = record {
+  answer = answer_of touch object answer;
+  operations = operations_of t touch object;
+  cuts = cut_by touch object;
+  objects = st.objects ++ made_by touch source;
+  bindings = bindings_by touch object;
+  number = st.frame.number + 1;
+  drops = [];
+  work = st.frame.work;
+  is_done = st.frame.is_done;
+}
 
 -- the step of a statement that may change the first object that it uses
 abbrev pub change_step : ℕ → Answer → Option ℕ → Change → State → Step
@@ -197,10 +197,11 @@ change_step t answer used change st = record {
   is_done = st.frame.is_done;
 }
 
--- a statement takes or binds a reference, or else it may change an object
+-- a statement takes a reference to the first object that it uses, or binds one to what is found, or else it may change
+-- an object
 abbrev pub touch_step : ℕ → Touch → Answer → Source → Option ℕ → Change → State → Step
 touch_step t Nothing answer source used change st = change_step t answer used change st
-touch_step t (Binds v) answer source used change st = reference_step t (Binds v) answer source used st
+touch_step t (Binds v) answer source used change st = reference_step t (Binds v) answer source (found st source) st
 touch_step t (Plus v) answer source used change st = reference_step t (Plus v) answer source used st
 touch_step t (Minus v) answer source used change st = reference_step t (Minus v) answer source used st
 
@@ -265,12 +266,16 @@ abbrev pub makes_at : Script → Option Site → Bool
 makes_at s None = false
 makes_at s (Some site) = makes_if (statement_in s site.block site.number)
 
--- the state that an action of a thread leaves, its answer, and whether it makes an object
+-- the state that an action of a thread leaves, its answer, the objects to which it adds references, and whether it makes
+-- an object
 abbrev pub effect : Script → ℕ → State → Action → State
 effect s t st a = state_after (step_for s t st a) st
 
 abbrev pub answer_to : Script → ℕ → State → Action → Answer
 answer_to s t st a = step_answer (step_for s t st a) st
+
+abbrev pub gained : Script → ℕ → State → Action → List ℕ
+gained s t st a = gained_by (step_for s t st a).operations
 
 abbrev pub makes : Script → Action → Bool
 makes s a = makes_at s (site_of a)

@@ -1,6 +1,7 @@
 //! What a thread does, one entry of a journal each.
 ghost use Rattle.std.specs.Prelude.{◌≡◌};
 ghost use Rattle.cf_model.specs.Actions.{action_of};
+ghost use Rattle.cf_model.specs.Finals.{cut_of};
 
 use cf_ids::{Answer, ObjId, ThreadId};
 use cf_syntax::Statement;
@@ -100,6 +101,81 @@ pub enum Action {
         number: u32,
         used: [Option<ObjId>; 3],
     },
+    MakeArray {
+        block: u16,
+        number: u32,
+        used: [Option<ObjId>; 3],
+    },
+    MakeDict {
+        block: u16,
+        number: u32,
+        used: [Option<ObjId>; 3],
+    },
+    ArrAppend {
+        block: u16,
+        number: u32,
+        used: [Option<ObjId>; 3],
+    },
+    ArrInsert {
+        block: u16,
+        number: u32,
+        used: [Option<ObjId>; 3],
+    },
+    ArrSet {
+        block: u16,
+        number: u32,
+        used: [Option<ObjId>; 3],
+    },
+    ArrRemove {
+        block: u16,
+        number: u32,
+        used: [Option<ObjId>; 3],
+    },
+    ArrTake {
+        block: u16,
+        number: u32,
+        used: [Option<ObjId>; 3],
+    },
+    DictAdd {
+        block: u16,
+        number: u32,
+        used: [Option<ObjId>; 3],
+    },
+    DictSet {
+        block: u16,
+        number: u32,
+        used: [Option<ObjId>; 3],
+    },
+    DictReplace {
+        block: u16,
+        number: u32,
+        used: [Option<ObjId>; 3],
+    },
+    DictRemove {
+        block: u16,
+        number: u32,
+        used: [Option<ObjId>; 3],
+    },
+    DictTake {
+        block: u16,
+        number: u32,
+        used: [Option<ObjId>; 3],
+    },
+    FieldSet {
+        block: u16,
+        number: u32,
+        used: [Option<ObjId>; 3],
+    },
+    FieldClear {
+        block: u16,
+        number: u32,
+        used: [Option<ObjId>; 3],
+    },
+    FieldTake {
+        block: u16,
+        number: u32,
+        used: [Option<ObjId>; 3],
+    },
     /// The thread's block is at its end.
     Done,
     /// The release of a reference that the thread was given out, written `release`.
@@ -149,6 +225,34 @@ impl Action {
             Statement::DataReplace { .. } => at_site!(DataReplace, block, number, used),
             Statement::DataDelete { .. } => at_site!(DataDelete, block, number, used),
             Statement::NumAs { .. } => at_site!(NumAs, block, number, used),
+            Statement::MakeArray { .. } => at_site!(MakeArray, block, number, used),
+            Statement::MakeDict { .. } => at_site!(MakeDict, block, number, used),
+            Statement::ArrAppend { .. } => at_site!(ArrAppend, block, number, used),
+            Statement::ArrInsert { .. } => at_site!(ArrInsert, block, number, used),
+            Statement::ArrSet { .. } => at_site!(ArrSet, block, number, used),
+            Statement::ArrRemove { .. } => at_site!(ArrRemove, block, number, used),
+            Statement::ArrTake { .. } => at_site!(ArrTake, block, number, used),
+            Statement::DictAdd { .. } => at_site!(DictAdd, block, number, used),
+            Statement::DictSet { .. } => at_site!(DictSet, block, number, used),
+            Statement::DictReplace { .. } => at_site!(DictReplace, block, number, used),
+            Statement::DictRemove { .. } => at_site!(DictRemove, block, number, used),
+            Statement::DictTake { .. } => at_site!(DictTake, block, number, used),
+            Statement::FieldSet { .. } => at_site!(FieldSet, block, number, used),
+            Statement::FieldClear { .. } => at_site!(FieldClear, block, number, used),
+            Statement::FieldTake { .. } => at_site!(FieldTake, block, number, used),
+        }
+    }
+}
+
+impl Action {
+    /// The object to which the action takes a reference away: that of a release or a drop.
+    pub fn cuts(&self) -> Option<ObjId>
+        ensures { result ≡ cut_of self.now }
+    {
+        match self {
+            Action::Release { used, .. } => used[0],
+            Action::Owed(object) | Action::DropSlot { object, .. } => Some(*object),
+            _ => None,
         }
     }
 }

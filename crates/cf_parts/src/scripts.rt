@@ -50,6 +50,17 @@ fn setup(alloc: Global, lines: &[u8]) -> Result<Vec<u8>, AllocError> {
     Ok(text)
 }
 
+/// A script in which a line stands behind those that make an array, a string and a number.
+fn behind_objects(alloc: Global, line: &[u8]) -> Result<Vec<u8>, AllocError> {
+    let mut lines = Vec::from_slice(
+        alloc,
+        b"make a array\nmake k string \"k\"\nmake x number s8 1\n",
+    )?;
+    lines.extend_from_slice(line)?;
+    lines.extend_from_slice(b"\n")?;
+    setup(alloc, lines.as_slice())
+}
+
 /// A script of variables that are each made and released.
 fn variables(alloc: Global, count: u32) -> Result<Vec<u8>, AllocError> {
     let mut lines = Vec::new(alloc);
@@ -236,6 +247,116 @@ fn owners_are_checked(rt: HostRuntime) -> Result<(), Fail> {
             want,
             "{count} variables"
         );
+    }
+    Ok(())
+}
+
+// A line behind those that make objects, and what becomes of the script.
+const FORM_CASES: [(&[u8], Outcome, &str); 37] = [
+    (b"make v array", Outcome::Owned, "an array"),
+    (b"make v array plain", Outcome::Owned, "a plain array"),
+    (b"make v dict", Outcome::Owned, "a dictionary"),
+    (b"make v dict plain", Outcome::Owned, "a plain dictionary"),
+    (b"arr.append a x", Outcome::Owned, "an append"),
+    (
+        b"arr.append a a",
+        Outcome::Owned,
+        "one variable in two places",
+    ),
+    (b"arr.insert a 0 x", Outcome::Owned, "an insert"),
+    (
+        b"arr.set a 4294967295 x",
+        Outcome::Owned,
+        "the largest INDEX",
+    ),
+    (b"arr.remove a 0", Outcome::Owned, "a removal"),
+    (b"arr.take v a 00", Outcome::Owned, "a take from an array"),
+    (b"dict.add a k x", Outcome::Owned, "an addition"),
+    (b"dict.set a k x", Outcome::Owned, "a set"),
+    (b"dict.replace a k x", Outcome::Owned, "a replacement"),
+    (b"dict.remove a k", Outcome::Owned, "a removal of a pair"),
+    (
+        b"dict.take v a k",
+        Outcome::Owned,
+        "a take from a dictionary",
+    ),
+    (b"field.set a 0 x", Outcome::Owned, "a set of a field"),
+    (
+        b"field.clear a 0",
+        Outcome::Owned,
+        "a field that is emptied",
+    ),
+    (b"field.take v a 0", Outcome::Owned, "a take from a field"),
+    (
+        b"make v array x",
+        Outcome::Refused,
+        "a fourth word that is not plain",
+    ),
+    (b"make v dict plain plain", Outcome::Refused, "a fifth word"),
+    (
+        b"make v string plain",
+        Outcome::Refused,
+        "a string has no plain kind",
+    ),
+    (b"make plain array", Outcome::Refused, "plain is reserved"),
+    (
+        b"arr.take plain a 0",
+        Outcome::Refused,
+        "plain is no variable",
+    ),
+    (b"arr.append a", Outcome::Refused, "a variable too few"),
+    (b"arr.append a k x", Outcome::Refused, "a variable too many"),
+    (b"dict.set a k", Outcome::Refused, "a key without a value"),
+    (b"field.clear a", Outcome::Refused, "no INDEX"),
+    (
+        b"arr.insert a x 0",
+        Outcome::Refused,
+        "an INDEX in the other place",
+    ),
+    (
+        b"arr.set a 4294967296 x",
+        Outcome::Refused,
+        "an INDEX too large",
+    ),
+    (b"arr.remove a -1", Outcome::Refused, "an INDEX below 0"),
+    (b"arr.push a x", Outcome::Refused, "no form"),
+    (
+        b"arr.take v v 0",
+        Outcome::Unfit,
+        "an array that is bound there",
+    ),
+    (
+        b"arr.append b x",
+        Outcome::Unfit,
+        "an array that is not bound",
+    ),
+    (
+        b"arr.append a b",
+        Outcome::Unfit,
+        "an element that is not bound",
+    ),
+    (
+        b"dict.add a k b",
+        Outcome::Unfit,
+        "a value that is not bound",
+    ),
+    (
+        b"dict.take v a b",
+        Outcome::Unfit,
+        "a key that is not bound",
+    ),
+    (
+        b"field.take x a 0",
+        Outcome::Unfit,
+        "a variable that is bound already",
+    ),
+];
+
+#[test]
+fn forms_of_collections_are_read(rt: HostRuntime) -> Result<(), Fail> {
+    for (line, want, name) in FORM_CASES {
+        let text = behind_objects(rt.alloc(), line)?;
+        assert_eq!(rt; outcome_of(rt.alloc(), text.as_slice()), want, "{name}");
     }
     Ok(())
 }

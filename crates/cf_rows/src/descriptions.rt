@@ -19,7 +19,7 @@ class eight fields 0008 equal key
 class nine fields 9 equal identity
 class wide fields 255 equal key";
 
-const CASES: [ShownCase; 21] = [
+const CASES: [ShownCase; 25] = [
     ShownCase {
         about: "33 characters, of which the 32nd is a surrogate pair",
         line: "make v string \"abcdefghijklmnopqrstuvwxyz01234\u{1F600}z\"",
@@ -145,6 +145,30 @@ const CASES: [ShownCase; 21] = [
         line: "new v wide 9223372036854775807",
         class: "wide",
         shown: "9223372036854775807 [nil nil nil nil nil nil nil nil ..]",
+    },
+    ShownCase {
+        about: "an array without elements",
+        line: "make v array",
+        class: "Array",
+        shown: "0 []",
+    },
+    ShownCase {
+        about: "a plain array without elements",
+        line: "make v array plain",
+        class: "Array",
+        shown: "0 []",
+    },
+    ShownCase {
+        about: "a dictionary without pairs",
+        line: "make v dict",
+        class: "Dictionary",
+        shown: "0 []",
+    },
+    ShownCase {
+        about: "a plain dictionary without pairs",
+        line: "make v dict plain",
+        class: "Dictionary",
+        shown: "0 []",
     },
 ];
 

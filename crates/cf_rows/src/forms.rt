@@ -1,14 +1,7 @@
-//! What each form answers: each of its answers once.
-use crate::commands::{report_of, serial};
-use cf_ids::Answer;
-use std::alloc::{AllocError, Global};
-use std::test::Fail;
+//! What each form of texts, bytes and numbers answers: each of its answers once.
 
-// What stands before the lines of the setup.
-const HEAD: &[u8] = b"cf 1\nclass point fields 1 equal key\nsetup\n";
-
-// The lines of the setup, and what each answers. The units of the text of `m` are at first one, then a pair, then one.
-const LINES: [(&str, &str); 80] = [
+/// The lines of a setup, and what each answers. The units of the text of `m` are at first one, then a pair, then one.
+pub const LEAVES: &[(&str, &str)] = &[
     // Every kind of object.
     ("make s string \"s\"", "#0"),
     ("make m mstring \"a\u{1F600}b\"", "#1"),
@@ -105,53 +98,3 @@ const LINES: [(&str, &str); 80] = [
     // The thread is done.
     ("end", "ok"),
 ];
-
-/// The script.
-fn script(alloc: Global) -> Result<Vec<u8>, AllocError> {
-    let mut text = Vec::from_slice(alloc, HEAD)?;
-    for (line, _) in &LINES {
-        text.extend_from_slice(line.as_bytes())?;
-        text.push(b'\n')?;
-    }
-    Ok(text)
-}
-
-/// An answer that is neither an object, a class, a description nor a number.
-fn plain_word(answer: &Answer) -> &'static str {
-    match answer {
-        Answer::Ok => "ok",
-        Answer::More => "more",
-        Answer::Skip => "skip",
-        Answer::Lossy => "lossy",
-        Answer::Range => "range",
-        Answer::Split => "split",
-        _ => "another",
-    }
-}
-
-/// An answer in words.
-fn word_of(alloc: Global, answer: &Answer) -> Result<String, AllocError> {
-    match answer {
-        Answer::Object(object) => object.to_string(alloc),
-        Answer::Final(class) => format!(in alloc; "final {}", class.0),
-        Answer::Number(value) => value.to_string(alloc),
-        Answer::Shown(description) => {
-            let description = str::from_utf8(description.as_slice());
-            String::from_str(alloc, description.unwrap_or("no UTF-8"))
-        }
-        _ => String::from_str(alloc, plain_word(answer)),
-    }
-}
-
-#[test]
-fn each_form_answers(rt: HostRuntime) -> Result<(), Fail> {
-    let text = script(rt.alloc())?;
-    let (report, _) = report_of(rt.alloc(), &serial(text.as_slice()))?;
-    let journal = report.journal.as_slice();
-    assert_eq!(rt; (report.status, journal.len()), (0, LINES.len()), "the run");
-    for ((line, want), entry) in LINES.iter().zip(journal) {
-        let answer = word_of(rt.alloc(), &entry.answer)?;
-        assert_eq!(rt; answer.as_str(), *want, "{line}");
-    }
-    Ok(())
-}

@@ -6,7 +6,13 @@ mod commands;
 #[cfg(test)]
 mod descriptions;
 #[cfg(test)]
+mod drops;
+#[cfg(test)]
 mod forms;
+#[cfg(test)]
+mod journals;
+#[cfg(test)]
+mod members;
 #[cfg(test)]
 mod outside;
 #[cfg(test)]

@@ -3,7 +3,7 @@ use crate::commands::{outcome_of, serial};
 use std::test::Fail;
 
 // Texts, and why each is refused.
-const CASES: [(&[u8], &str); 30] = [
+const CASES: [(&[u8], &str); 50] = [
     (
         b"cf 1\nsetup\nend\nclass point fields 2 equal key\n",
         "a class behind setup",
@@ -123,6 +123,86 @@ const CASES: [(&[u8], &str); 30] = [
     (
         b"cf 1\nsetup\nmake a mstring \"\"\nrelease a\nshow a\nend\n",
         "a show of what is not owned",
+    ),
+    (
+        b"cf 1\nsetup\nmake a array full\nend\n",
+        "a word behind an array that is not plain",
+    ),
+    (
+        b"cf 1\nsetup\nmake a dict plain plain\nend\n",
+        "a word too many behind a plain dictionary",
+    ),
+    (
+        b"cf 1\nsetup\nmake a array\nmake x string \"x\"\narr.append a\nend\n",
+        "an append without an element",
+    ),
+    (
+        b"cf 1\nsetup\nmake a array\nmake x string \"x\"\narr.append a x 0\nend\n",
+        "an append with a place",
+    ),
+    (
+        b"cf 1\nsetup\nmake a array\nmake x string \"x\"\narr.insert a x 0\nend\n",
+        "a place and an element in the wrong order",
+    ),
+    (
+        b"cf 1\nsetup\nmake a array\nmake x string \"x\"\narr.set a 4294967296 x\nend\n",
+        "a place above the greatest",
+    ),
+    (
+        b"cf 1\nsetup\nmake a array\nmake x string \"x\"\narr.append a \"x\"\nend\n",
+        "a TEXT in the place of an element",
+    ),
+    (
+        b"cf 1\nsetup\nmake a array\narr.remove a -1\nend\n",
+        "a place with a sign",
+    ),
+    (
+        b"cf 1\nsetup\nmake a array\narr.take a a 0\nend\n",
+        "an element that is taken into the array's own variable",
+    ),
+    (
+        b"cf 1\nsetup\nmake a array\narr.take x a 0\nretain x\narr.take x a 0\nend\n",
+        "an element that is taken twice into one variable",
+    ),
+    (
+        b"cf 1\nsetup\nmake a array\nmake x string \"x\"\nrelease x\narr.append a x\nend\n",
+        "an element that is not owned",
+    ),
+    (
+        b"cf 1\nsetup\nmake a array\narr.append a x\nend\n",
+        "an element that is not bound",
+    ),
+    (
+        b"cf 1\nsetup\nmake d dict\nmake k string \"k\"\ndict.add d k\nend\n",
+        "a key without a value",
+    ),
+    (
+        b"cf 1\nsetup\nmake d dict\nmake k string \"k\"\ndict.remove d k k\nend\n",
+        "a removal with a value",
+    ),
+    (
+        b"cf 1\nsetup\nmake d dict\nmake k string \"k\"\ndict.put d k k\nend\n",
+        "another form that is none",
+    ),
+    (
+        b"cf 1\nsetup\nmake d dict\ndict.take v d k\nend\n",
+        "a key that is not bound",
+    ),
+    (
+        b"cf 1\nsetup\nmake d dict\nmake k string \"k\"\ndict.take plain d k\nend\n",
+        "a value that is taken into a reserved word",
+    ),
+    (
+        b"cf 1\nclass point fields 2 equal key\nsetup\nnew p point 0\nfield.set p 0\nend\n",
+        "a field without an object",
+    ),
+    (
+        b"cf 1\nclass point fields 2 equal key\nsetup\nnew p point 0\nfield.clear p\nend\n",
+        "an instance without a field",
+    ),
+    (
+        b"cf 1\nclass point fields 2 equal key\nsetup\nnew p point 0\nfield.take v p 0x0\nend\n",
+        "a field that is no number",
     ),
 ];
 

@@ -1,6 +1,6 @@
 -- What a command came to, and what of its lines was written, make its outcome.
 use Rattle.std.proofs.Common.{◌≡◌, ℕ, ◌<◌, ◌≤◌, List, [], ◌∷◌, length, Option, Some, None, refl, sym, ap, ◌∙◌, subst, arith, inl, inr, ◌⊎◌}
-use Rattle.std.specs.Prelude.{Result, Ok, Err, IsSome, IfSome, Contains}
+use Rattle.std.specs.Prelude.{Result, Ok, Err, IsSome, IsSomeAnd, IfSome, Contains}
 use Rattle.std.proofs.lemmas.Bool.{false≢true}
 use Rattle.cf_fault.specs.Fault.{HasRisen}
 use Rattle.cf_io.specs.Bytes.{then_bytes}
@@ -10,47 +10,85 @@ use Rattle.cf_syntax.specs.declared.refusal.Refusal.{Refusal}
 use Rattle.cf_syntax.specs.Text.{Text, Refused}
 use Rattle.cf_syntax.specs.Owned.{Owned, blocks_fit}
 use Rattle.cf_model.specs.declared.action.Entry.{Entry}
+use Rattle.cf_model.specs.declared.ending.Ending.{Ending}
+use Rattle.cf_model.specs.declared.ending.Ending.TheVariants as endings
+use Rattle.cf_model.specs.Serial.{IsSerial}
 use Rattle.cf_model.proofs.Finality.{finals_fit}
+use Rattle.cf_model.proofs.Sizes.{few_made}
+use Rattle.cf_run.specs.declared.serial.Over.{Over}
 use Rattle.cf_run.specs.declared.output.Unwritten.{Unwritten}
 use Rattle.cf_run.specs.declared.output.Unwritten.TheVariants.{Fault, NoMemory}
 use Rattle.cf_run.specs.declared.settle.Settled.{Settled}
 use Rattle.cf_run.specs.declared.settle.Settled.TheVariants as settled
 use Rattle.cf_run.specs.Commands.{file_of}
 use Rattle.cf_run.specs.Written.{WritesAll}
-use Rattle.cf_run.specs.Outcomes.{script_bytes, IsContent, IsRead, IsAccepted, IsUnfit, IsRefused, IsRefusedText, IsDue, usage_due, refusal_due, fault_due, run_due, Ran, Misused, Rejected, Unreadable, Shortened, Silent, Outcome, done, misused, rejected, unreadable, unwritten, no_memory}
-use Rattle.cf_run.specs.Settled.{Settles, HasFew, due_of, entries_of, status_after}
+use Rattle.cf_run.specs.Outcomes.{script_bytes, IsContent, IsRead, IsAccepted, IsUnfit, IsRefused, IsRefusedText, IsJournal, IsDue, usage_due, refusal_due, fault_due, run_due, Ran, Misused, Rejected, Unreadable, Shortened, Silent, Outcome, done, limited, full, misused, rejected, unreadable, unwritten, no_memory}
+use Rattle.cf_run.specs.Settled.{Settles, HasFew, due_of, entries_of, status_by, status_after}
+use Rattle.cf_run.specs.Tally.{IsOver}
+use Rattle.cf_run.specs.Lines.{entries_in, run_text}
 use Rattle.cf_run.proofs.Rendered.{run_text-rendering}
+use Rattle.cf_run.proofs.Stops.{run_stops}
+
+-- the script of a run
+begun : (script : Option Script) (P : Script → Type 0) → IsSomeAnd script P → (s : Script) × ((script ≡ Some s) × P s)
+begun None P h = absurd h
+begun (Some s) P h = (s, (refl, h))
+
+-- a run that is over, of an accepted script
+abbrev RanBy : List (List ℕ) → Option (List File) → Over → Script → Type 0
+RanBy words files over s = IsAccepted words files s × IsOver s over.world over.ending over.tallies.items over.finals
+
+abbrev journal_is : (s : Script) (over : Over) → IsOver s over.world over.ending over.tallies.items over.finals → IsJournal s over.ending over.world.journal
+journal_is s over h = record { legal = h.legal; ends = h.ends; finals = finals_fit s over.world.journal h.legal }
+
+abbrev serial_is : (s : Script) (over : Over) → IsOver s over.world over.ending over.tallies.items over.finals → IsSerial s over.world.journal
+serial_is s over h = record { legal = h.legal; order = h.order }
+
+few_tallies : (words : List (List ℕ)) (files : Option (List File)) (over : Over) → (s : Script) × ((over.world.script ≡ Some s) × RanBy words files over s) → length over.tallies.items ≤ 65536
+few_tallies words files over (s, (e, h)) = omega (arith, h.1.tallied.size, few_made s over.world.journal h.1.legal)
 
 pub has_few : (words : List (List ℕ)) (files : Option (List File)) (faults faults' : ℕ) (s : Settled) → Settles words files faults faults' s → HasFew s
 has_few words files faults faults' settled.Usage h = tt
 has_few words files faults faults' settled.ReadFault h = tt
 has_few words files faults faults' (settled.Refused r) h = tt
-has_few words files faults faults' (settled.Ran script run) h = h.1.few
+has_few words files faults faults' (settled.Ran over) h = few_tallies words files over (begun over.world.script (RanBy words files over) h)
+
+ran_due : (words : List (List ℕ)) (files : Option (List File)) (faults faults' : ℕ) (over : Over) → (s : Script) × ((over.world.script ≡ Some s) × RanBy words files over s) → IsDue words files faults faults' (entries_in over.world.script over.world.journal) (run_text over.world over.ending over.tallies.items over.finals)
+ran_due words files faults faults' over (s, (e, h)) =
+    subst (λ (o : Option Script). IsDue words files faults faults' (entries_in o over.world.journal) (run_text over.world over.ending over.tallies.items over.finals)) (sym e)
+    (run_due s over.ending h.0 (journal_is s over h.1) (serial_is s over h.1) (run_stops s over.world over.ending over.tallies.items over.finals h.1) (run_text-rendering s over.world over.ending over.tallies.items over.finals h.1))
 
 -- what is due of what a command came to
 pub due_is : (words : List (List ℕ)) (files : Option (List File)) (faults faults' : ℕ) (s : Settled) → Settles words files faults faults' s → IsDue words files faults faults' (entries_of s) (due_of s)
 due_is words files faults faults' settled.Usage h = usage_due h refl refl
 due_is words files faults faults' settled.ReadFault h = fault_due h.0 h.1 refl refl
 due_is words files faults faults' (settled.Refused r) h = refusal_due r h refl refl
-due_is words files faults faults' (settled.Ran script run) h =
-    run_due script h.0
-    (record { ends = h.1.whole; finals = finals_fit script run.journal.items h.1.whole.legal })
-    (record { legal = h.1.whole.legal; order = h.1.order })
-    (run_text-rendering script run.journal.items run.store run.references.items run.finals h.1)
+due_is words files faults faults' (settled.Ran over) h = ran_due words files faults faults' over (begun over.world.script (RanBy words files over) h)
 
 module _ (words : List (List ℕ)) (files : Option (List File)) (source source' sink sink' : ℕ) (old new : Option (List ℕ)) where
+  -- the status of each ending
+  ended_so : (ending : Ending) (status : ℕ) (entries : List Entry) → status ≡ status_by ending → Ran ending words files entries old new → Outcome words files source source' sink sink' old new status entries
+  ended_so endings.Done status entries st x = done st x
+  ended_so endings.Limit status entries st x = limited st x
+  ended_so endings.Full status entries st x = full st x
+  ended_so endings.Stalled status entries st x = absurd x.journal.ends
+
+  ran_whole : (over : Over) (entries : List Entry) → (s : Script) × ((over.world.script ≡ Some s) × RanBy words files over s) → entries ≡ entries_in over.world.script over.world.journal → new ≡ then_bytes old (run_text over.world over.ending over.tallies.items over.finals) → Ran over.ending words files entries old new
+  ran_whole over entries (s, (e, h)) is w =
+      subst (λ (es : List Entry). Ran over.ending words files es old new) (sym (is ∙ ap (λ (o : Option Script). entries_in o over.world.journal) e)) (record {
+        script = s;
+        read = h.0;
+        journal = journal_is s over h.1;
+        written = w ∙ ap (then_bytes old) (run_text-rendering s over.world over.ending over.tallies.items over.finals h.1);
+        serial = serial_is s over h.1;
+        stops = run_stops s over.world over.ending over.tallies.items over.finals h.1;
+      })
+
   all_written : (s : Settled) (status : ℕ) (entries : List Entry) → Settles words files source source' s → status ≡ status_after (Ok tt) s → entries ≡ entries_of s → new ≡ then_bytes old (due_of s) → Outcome words files source source' sink sink' old new status entries
   all_written settled.Usage status entries h st e w = misused st (record { words_are = h; empty = e; written = w })
   all_written settled.ReadFault status entries h st e w = unreadable st (record { words_are = h.0; risen = h.1; empty = e; written = w })
   all_written (settled.Refused r) status entries h st e w = rejected st (record { refusal = r; refused = h; empty = e; written = w })
-  all_written (settled.Ran script run) status entries h st e w =
-      done st (subst (λ (es : List Entry). Ran words files es old new) (sym e) (record {
-        script = script;
-        read = h.0;
-        journal = record { ends = h.1.whole; finals = finals_fit script run.journal.items h.1.whole.legal };
-        written = w ∙ ap (then_bytes old) (run_text-rendering script run.journal.items run.store run.references.items run.finals h.1);
-        serial = record { legal = h.1.whole.legal; order = h.1.order };
-      }))
+  all_written (settled.Ran over) status entries h st e w = ended_so over.ending status entries st (ran_whole over entries (begun over.world.script (RanBy words files over) h) e w)
 
   pub concluded : (r : Result (Unit {0}) Unwritten) (s : Settled) (status : ℕ) (entries : List Entry) → Settles words files source source' s → status ≡ status_after r s → entries ≡ entries_of s → WritesAll r (due_of s) old new sink sink' → Outcome words files source source' sink sink' old new status entries
   concluded (Ok u) s status entries h st e w = all_written s status entries h st e w.0
@@ -112,16 +150,40 @@ refused_accepted words files told file bytes script r f n c (inr x) a =
 -- ---- what each status tells
 
 module _ (words : List (List ℕ)) (files : Option (List File)) (source source' sink sink' : ℕ) (old new : Option (List ℕ)) (status : ℕ) (entries : List Entry) where
-  pub when_done : Outcome words files source source' sink sink' old new status entries → status ≡ 0 → Ran words files entries old new
+  pub when_done : Outcome words files source source' sink sink' old new status entries → status ≡ 0 → Ran endings.Done words files entries old new
   when_done (done st x) e = x
+  when_done (limited st x) e = absurd (omega arith)
+  when_done (full st x) e = absurd (omega arith)
   when_done (misused st x) e = absurd (omega arith)
   when_done (rejected st x) e = absurd (omega arith)
   when_done (unreadable st x) e = absurd (omega arith)
   when_done (unwritten st r x) e = absurd (omega arith)
   when_done (no_memory st x) e = absurd (omega arith)
 
+  pub when_limited : Outcome words files source source' sink sink' old new status entries → status ≡ 7 → Ran endings.Limit words files entries old new
+  when_limited (done st x) e = absurd (omega arith)
+  when_limited (limited st x) e = x
+  when_limited (full st x) e = absurd (omega arith)
+  when_limited (misused st x) e = absurd (omega arith)
+  when_limited (rejected st x) e = absurd (omega arith)
+  when_limited (unreadable st x) e = absurd (omega arith)
+  when_limited (unwritten st r x) e = absurd (omega arith)
+  when_limited (no_memory st x) e = absurd (omega arith)
+
+  pub when_full : Outcome words files source source' sink sink' old new status entries → status ≡ 8 → Ran endings.Full words files entries old new
+  when_full (done st x) e = absurd (omega arith)
+  when_full (limited st x) e = absurd (omega arith)
+  when_full (full st x) e = x
+  when_full (misused st x) e = absurd (omega arith)
+  when_full (rejected st x) e = absurd (omega arith)
+  when_full (unreadable st x) e = absurd (omega arith)
+  when_full (unwritten st r x) e = absurd (omega arith)
+  when_full (no_memory st x) e = absurd (omega arith)
+
   pub when_misused : Outcome words files source source' sink sink' old new status entries → status ≡ 2 → Misused words entries old new
   when_misused (done st x) e = absurd (omega arith)
+  when_misused (limited st x) e = absurd (omega arith)
+  when_misused (full st x) e = absurd (omega arith)
   when_misused (misused st x) e = x
   when_misused (rejected st x) e = absurd (omega arith)
   when_misused (unreadable st x) e = absurd (omega arith)
@@ -130,6 +192,8 @@ module _ (words : List (List ℕ)) (files : Option (List File)) (source source' 
 
   pub when_rejected : Outcome words files source source' sink sink' old new status entries → status ≡ 3 → Rejected words files entries old new
   when_rejected (done st x) e = absurd (omega arith)
+  when_rejected (limited st x) e = absurd (omega arith)
+  when_rejected (full st x) e = absurd (omega arith)
   when_rejected (misused st x) e = absurd (omega arith)
   when_rejected (rejected st x) e = x
   when_rejected (unreadable st x) e = absurd (omega arith)
@@ -138,6 +202,8 @@ module _ (words : List (List ℕ)) (files : Option (List File)) (source source' 
 
   pub when_unreadable : Outcome words files source source' sink sink' old new status entries → status ≡ 4 → Unreadable words source source' entries old new
   when_unreadable (done st x) e = absurd (omega arith)
+  when_unreadable (limited st x) e = absurd (omega arith)
+  when_unreadable (full st x) e = absurd (omega arith)
   when_unreadable (misused st x) e = absurd (omega arith)
   when_unreadable (rejected st x) e = absurd (omega arith)
   when_unreadable (unreadable st x) e = x
@@ -146,6 +212,8 @@ module _ (words : List (List ℕ)) (files : Option (List File)) (source source' 
 
   pub when_unwritten : Outcome words files source source' sink sink' old new status entries → status ≡ 5 → HasRisen sink sink' × Shortened words files source source' entries old new
   when_unwritten (done st x) e = absurd (omega arith)
+  when_unwritten (limited st x) e = absurd (omega arith)
+  when_unwritten (full st x) e = absurd (omega arith)
   when_unwritten (misused st x) e = absurd (omega arith)
   when_unwritten (rejected st x) e = absurd (omega arith)
   when_unwritten (unreadable st x) e = absurd (omega arith)
@@ -154,6 +222,8 @@ module _ (words : List (List ℕ)) (files : Option (List File)) (source source' 
 
   pub when_no_memory : Outcome words files source source' sink sink' old new status entries → status ≡ 6 → Silent entries old new ⊎ Shortened words files source source' entries old new
   when_no_memory (done st x) e = absurd (omega arith)
+  when_no_memory (limited st x) e = absurd (omega arith)
+  when_no_memory (full st x) e = absurd (omega arith)
   when_no_memory (misused st x) e = absurd (omega arith)
   when_no_memory (rejected st x) e = absurd (omega arith)
   when_no_memory (unreadable st x) e = absurd (omega arith)
@@ -161,17 +231,21 @@ module _ (words : List (List ℕ)) (files : Option (List File)) (source source' 
   when_no_memory (no_memory st x) e = x
 
   -- there are no other statuses
-  pub one_of_six : Outcome words files source source' sink sink' old new status entries → Contains (0 ∷ 2 ∷ 3 ∷ 4 ∷ 5 ∷ 6 ∷ []) status
-  one_of_six (done st x) = (0, omega arith, sym st)
-  one_of_six (misused st x) = (1, omega arith, sym st)
-  one_of_six (rejected st x) = (2, omega arith, sym st)
-  one_of_six (unreadable st x) = (3, omega arith, sym st)
-  one_of_six (unwritten st r x) = (4, omega arith, sym st)
-  one_of_six (no_memory st x) = (5, omega arith, sym st)
+  pub one_of_eight : Outcome words files source source' sink sink' old new status entries → Contains (0 ∷ 2 ∷ 3 ∷ 4 ∷ 5 ∷ 6 ∷ 7 ∷ 8 ∷ []) status
+  one_of_eight (done st x) = (0, omega arith, sym st)
+  one_of_eight (limited st x) = (6, omega arith, sym st)
+  one_of_eight (full st x) = (7, omega arith, sym st)
+  one_of_eight (misused st x) = (1, omega arith, sym st)
+  one_of_eight (rejected st x) = (2, omega arith, sym st)
+  one_of_eight (unreadable st x) = (3, omega arith, sym st)
+  one_of_eight (unwritten st r x) = (4, omega arith, sym st)
+  one_of_eight (no_memory st x) = (5, omega arith, sym st)
 
   -- faulty words and no fault
   pub misused_or_memory : Outcome words files source source' sink sink' old new status entries → file_of words ≡ None → (HasRisen sink sink' → ⊥) → (status ≡ 2) ⊎ (status ≡ 6)
   misused_or_memory (done st x) n q = absurd (no_file words x.read.read.file x.read.read.named n)
+  misused_or_memory (limited st x) n q = absurd (no_file words x.read.read.file x.read.read.named n)
+  misused_or_memory (full st x) n q = absurd (no_file words x.read.read.file x.read.read.named n)
   misused_or_memory (misused st x) n q = inl st
   misused_or_memory (rejected st x) n q = absurd (rejected_file words files x.refusal x.refused n)
   misused_or_memory (unreadable st x) n q = absurd (taken_file words x.words_are n)
@@ -179,17 +253,21 @@ module _ (words : List (List ℕ)) (files : Option (List File)) (source source' 
   misused_or_memory (no_memory st x) n q = inr st
 
   -- an accepted script and no fault
-  pub done_or_memory : Outcome words files source source' sink sink' old new status entries → (told : List File) (file bytes : List ℕ) (script : Script) → files ≡ Some told → file_of words ≡ Some file → content_of told file ≡ Some bytes → length bytes ≤ script_bytes → Text bytes script → Owned script → (HasRisen source source' → ⊥) → (HasRisen sink sink' → ⊥) → (status ≡ 0) ⊎ (status ≡ 6)
-  done_or_memory (done st x) told file bytes script f n c w t o q r = inl st
-  done_or_memory (misused st x) told file bytes script f n c w t o q r = absurd (no_file words file n x.words_are)
-  done_or_memory (rejected st x) told file bytes script f n c w t o q r = absurd (accepted_refused words files told file bytes script x.refusal f n c w t o x.refused)
-  done_or_memory (unreadable st x) told file bytes script f n c w t o q r = absurd (q x.risen)
-  done_or_memory (unwritten st u x) told file bytes script f n c w t o q r = absurd (r u)
-  done_or_memory (no_memory st x) told file bytes script f n c w t o q r = inr st
+  pub runs_or_memory : Outcome words files source source' sink sink' old new status entries → (told : List File) (file bytes : List ℕ) (script : Script) → files ≡ Some told → file_of words ≡ Some file → content_of told file ≡ Some bytes → length bytes ≤ script_bytes → Text bytes script → Owned script → (HasRisen source source' → ⊥) → (HasRisen sink sink' → ⊥) → Contains (0 ∷ 6 ∷ 7 ∷ 8 ∷ []) status
+  runs_or_memory (done st x) told file bytes script f n c w t o q r = (0, omega arith, sym st)
+  runs_or_memory (limited st x) told file bytes script f n c w t o q r = (2, omega arith, sym st)
+  runs_or_memory (full st x) told file bytes script f n c w t o q r = (3, omega arith, sym st)
+  runs_or_memory (misused st x) told file bytes script f n c w t o q r = absurd (no_file words file n x.words_are)
+  runs_or_memory (rejected st x) told file bytes script f n c w t o q r = absurd (accepted_refused words files told file bytes script x.refusal f n c w t o x.refused)
+  runs_or_memory (unreadable st x) told file bytes script f n c w t o q r = absurd (q x.risen)
+  runs_or_memory (unwritten st u x) told file bytes script f n c w t o q r = absurd (r u)
+  runs_or_memory (no_memory st x) told file bytes script f n c w t o q r = (1, omega arith, sym st)
 
   -- refused bytes and no fault
   pub rejected_or_memory : Outcome words files source source' sink sink' old new status entries → (told : List File) (file bytes : List ℕ) (refusal : Refusal) → files ≡ Some told → file_of words ≡ Some file → content_of told file ≡ Some bytes → IsRefusedText bytes refusal → (HasRisen source source' → ⊥) → (HasRisen sink sink' → ⊥) → (status ≡ 3) ⊎ (status ≡ 6)
   rejected_or_memory (done st x) told file bytes refusal f n c t q r = absurd (refused_accepted words files told file bytes x.script refusal f n c t x.read)
+  rejected_or_memory (limited st x) told file bytes refusal f n c t q r = absurd (refused_accepted words files told file bytes x.script refusal f n c t x.read)
+  rejected_or_memory (full st x) told file bytes refusal f n c t q r = absurd (refused_accepted words files told file bytes x.script refusal f n c t x.read)
   rejected_or_memory (misused st x) told file bytes refusal f n c t q r = absurd (no_file words file n x.words_are)
   rejected_or_memory (rejected st x) told file bytes refusal f n c t q r = inl st
   rejected_or_memory (unreadable st x) told file bytes refusal f n c t q r = absurd (q x.risen)

@@ -1,9 +1,9 @@
-pub mod Counting
-pub mod Tables
-pub mod Plain
-pub mod Entering
 pub mod Words
 pub mod Writing
 pub mod Rendered
-pub mod Settling
+pub mod Stops
 pub mod Concluding
+pub mod Raising
+pub mod Counting
+pub mod Tallying
+pub mod Closing

@@ -7,10 +7,12 @@ use Rattle.std.specs.Global.{Vec}
 use Rattle.cf_contents.specs.Contents.{Object}
 use Rattle.cf_syntax.specs.declared.script.ClassLine.{ClassLine}
 use Rattle.cf_model.specs.declared.action.Entry.{Entry}
+use Rattle.cf_model.specs.declared.ending.Ending.{Ending}
 use Rattle.cf_model.specs.Rendering.{joined, entry_lines, lines_if, line_of, text_of_lines}
 use Rattle.cf_model.proofs.Growth.{entry_lines-append, text_of_lines-append}
 use Rattle.cf_run.specs.Lines.{text_of, alive_below, end_words, ends_of}
 use Rattle.cf_run.specs.declared.output.Unwritten.{Unwritten}
+use Rattle.cf_run.specs.declared.tally.Tally.{Tally}
 use Rattle.cf_run.specs.Written.{Part, Cut, IsCause, WritesAll}
 
 -- bytes behind bytes
@@ -151,17 +153,17 @@ pub last_missing : (front last : List ℕ) (old new : Option (List ℕ)) → 0 <
 last_missing front last old new some taken = cut_behind front last old new new taken (cut_none last new new some refl)
 
 -- the lines behind the entries are some text
-pub ends_some : (classes : List ClassLine) (events : ℕ) (objects : List Object) (references : List ℕ) (finals : ℕ) → 0 < length (text_of_lines (ends_of classes events objects references finals))
-ends_some classes events objects references finals =
-    let alive = alive_below classes objects references (length references) in
-    let last = joined (end_words events (length references) finals (length alive)) in
+pub ends_some : (classes : List ClassLine) (ending : Ending) (events : ℕ) (objects : List Object) (tallies : List Tally) (finals : ℕ) → 0 < length (text_of_lines (ends_of classes ending events objects tallies finals))
+ends_some classes ending events objects tallies finals =
+    let alive = alive_below classes objects tallies (length tallies) in
+    let last = joined (end_words ending events (length tallies) finals (length alive)) in
     omega (arith, ap length (text_of_lines-append alive (last ∷ [])), length-append (text_of_lines alive) (text_of_lines (last ∷ [])), length-append last (10 ∷ []))
 
 -- the lines behind the entries, as they are put together
-pub ends_written : (classes : List ClassLine) (events : ℕ) (objects : List Object) (references : List ℕ) (finals n alive : ℕ) (ls after : List (Vec ℕ)) (l : Vec ℕ) → after ≡ ls ++ l ∷ [] → text_of ls ≡ text_of_lines (alive_below classes objects references (length references)) → alive ≡ length (alive_below classes objects references (length references)) → n ≡ length references
-    → l.items ≡ joined (end_words events n finals alive) ++ 10 ∷ [] → text_of after ≡ text_of_lines (ends_of classes events objects references finals)
-ends_written classes events objects references finals n alive ls after l is text count size line =
-    let lines = alive_below classes objects references (length references) in
-    let last = joined (end_words events (length references) finals (length lines)) in
-    let same : l.items ≡ last ++ 10 ∷ [] = line ∙ ap (λ (k : ℕ). joined (end_words events k finals alive) ++ 10 ∷ []) size ∙ ap (λ (k : ℕ). joined (end_words events (length references) finals k) ++ 10 ∷ []) count in
+pub ends_written : (classes : List ClassLine) (ending : Ending) (events : ℕ) (objects : List Object) (tallies : List Tally) (finals n alive : ℕ) (ls after : List (Vec ℕ)) (l : Vec ℕ) → after ≡ ls ++ l ∷ [] → text_of ls ≡ text_of_lines (alive_below classes objects tallies (length tallies)) → alive ≡ length (alive_below classes objects tallies (length tallies)) → n ≡ length tallies
+    → l.items ≡ joined (end_words ending events n finals alive) ++ 10 ∷ [] → text_of after ≡ text_of_lines (ends_of classes ending events objects tallies finals)
+ends_written classes ending events objects tallies finals n alive ls after l is text count size line =
+    let lines = alive_below classes objects tallies (length tallies) in
+    let last = joined (end_words ending events (length tallies) finals (length lines)) in
+    let same : l.items ≡ last ++ 10 ∷ [] = line ∙ ap (λ (k : ℕ). joined (end_words ending events k finals alive) ++ 10 ∷ []) size ∙ ap (λ (k : ℕ). joined (end_words ending events (length tallies) finals k) ++ 10 ∷ []) count in
     ap text_of is ∙ text_of-push ls l ∙ ap (λ (t : List ℕ). t ++ l.items) text ∙ ap (λ (t : List ℕ). text_of_lines lines ++ t) same ∙ sym (text_of_lines-append lines (last ∷ []))

@@ -1,4 +1,5 @@
 pub mod Tally
+pub mod Counted
 pub mod Lines
 pub mod Written
 pub mod Commands

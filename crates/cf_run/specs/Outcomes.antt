@@ -1,6 +1,6 @@
 -- What a command comes to: the lines that are due, what is said of them, and what each status tells. This
 -- project's own.
-use Rattle.std.specs.Prelude.{◌≡◌, ℕ, ◌<◌, ◌≤◌, ◌⊎◌, List, [], ◌++◌, length, codes, Option, Some, None, IfSome}
+use Rattle.std.specs.Prelude.{◌≡◌, ℕ, ◌<◌, ◌≤◌, ◌⊎◌, List, [], ◌++◌, length, codes, Option, Some, None, IfSome, IsSomeAnd, IsTrue}
 use Rattle.std.specs.Fmt.{decimal}
 use Rattle.cf_fault.specs.Fault.{HasRisen}
 use Rattle.cf_io.specs.Bytes.{then_bytes}
@@ -12,11 +12,17 @@ use Rattle.cf_syntax.specs.declared.script.Script.{Script}
 use Rattle.cf_syntax.specs.Text.{Text, Refused}
 use Rattle.cf_syntax.specs.Owned.{Owned, Unfit}
 use Rattle.cf_model.specs.declared.action.Entry.{Entry}
-use Rattle.cf_model.specs.declared.ending.Ending.TheVariants.{Done}
+use Rattle.cf_model.specs.declared.ending.Ending.{Ending}
+use Rattle.cf_model.specs.declared.ending.Ending.TheVariants.{Done, Limit, Full}
+use Rattle.cf_model.specs.Steps.{makes}
+use Rattle.cf_model.specs.Journals.{Next, After, IsLegal}
+use Rattle.cf_model.specs.Endings.{Ends}
 use Rattle.cf_model.specs.Finals.{FinalsFit}
-use Rattle.cf_model.specs.Serial.{IsSerial}
-use Rattle.cf_model.specs.Rendering.{rendering, Ends}
+use Rattle.cf_model.specs.Serial.{picked, IsSerial}
+use Rattle.cf_model.proofs.Growth.{pointer_after}
+use Rattle.cf_model.specs.Rendering.{rendering}
 use Rattle.cf_run.specs.Commands.{file_of, TakesWords}
+use Rattle.cf_run.specs.Tally.{default_limit}
 use Rattle.cf_run.specs.Written.{Cut}
 
 -- the most bytes of a script
@@ -82,25 +88,32 @@ reason_word Unread = codes "Unread"
 abbrev pub refusal_text : Refusal → List ℕ
 refusal_text r = codes "refused line " ++ (decimal r.line ++ (codes " " ++ (reason_word r.reason ++ codes "\n")))
 
--- the journal of a run: it is legal and whole, and its finals fit
-pub record IsJournal (script : Script) (entries : List Entry) : Type 0 where
-  pub ends : Ends script entries Done
+-- the journal of a run: it is legal and has this ending, with the default limit, and its finals fit
+pub record IsJournal (script : Script) (ending : Ending) (entries : List Entry) : Type 0 where
+  pub legal : IsLegal script entries
+  pub ends : Ends script default_limit entries ending
   pub finals : FinalsFit script entries
+
+-- a run that could make no further object: the next action of the thread that the pointer picks makes one
+abbrev pub StopsSerially : Script → Ending → List Entry → Type 0
+StopsSerially s Full es = IsSomeAnd (picked s (After s es) (pointer_after 0 es)) (λ t. IsSomeAnd (Next s (After s es) t) (λ a. IsTrue (makes s a)))
+StopsSerially s _ es = Unit {0}
 
 -- the lines that are due: by the words, the file and the source's count of faults
 pub data IsDue (words : List (List ℕ)) (files : Option (List File)) (faults faults' : ℕ) (journal : List Entry) (due : List ℕ) : Type 0 where
   usage_due : file_of words ≡ None → journal ≡ [] → due ≡ usage_text → IsDue words files faults faults' journal due
   refusal_due : (r : Refusal) → IsRefused words files r → journal ≡ [] → due ≡ refusal_text r → IsDue words files faults faults' journal due
   fault_due : TakesWords words → HasRisen faults faults' → journal ≡ [] → due ≡ fault_text → IsDue words files faults faults' journal due
-  run_due : (script : Script) → IsAccepted words files script → IsJournal script journal → IsSerial script journal → due ≡ rendering script journal Done → IsDue words files faults faults' journal due
+  run_due : (script : Script) (ending : Ending) → IsAccepted words files script → IsJournal script ending journal → IsSerial script journal → StopsSerially script ending journal → due ≡ rendering script journal ending → IsDue words files faults faults' journal due
 
--- status 0: an accepted script has run to its end, and the bytes written are the rendering of its journal
-pub record Ran (words : List (List ℕ)) (files : Option (List File)) (entries : List Entry) (old new : Option (List ℕ)) : Type 0 where
+-- statuses 0, 7 and 8: an accepted script has run to this ending, and the bytes written are the rendering of its journal
+pub record Ran (ending : Ending) (words : List (List ℕ)) (files : Option (List File)) (entries : List Entry) (old new : Option (List ℕ)) : Type 0 where
   pub script : Script
   pub read : IsAccepted words files script
-  pub journal : IsJournal script entries
-  pub written : new ≡ then_bytes old (rendering script entries Done)
+  pub journal : IsJournal script ending entries
+  pub written : new ≡ then_bytes old (rendering script entries ending)
   pub serial : IsSerial script entries
+  pub stops : StopsSerially script ending entries
 
 -- status 2: the words are not of the two forms
 pub record Misused (words : List (List ℕ)) (entries : List Entry) (old new : Option (List ℕ)) : Type 0 where
@@ -135,7 +148,9 @@ pub record Silent (entries : List Entry) (old new : Option (List ℕ)) : Type 0 
 
 -- what a status tells of a command. 5: the sink's count of faults rose; 6: memory ran out
 pub data Outcome (words : List (List ℕ)) (files : Option (List File)) (source source' sink sink' : ℕ) (old new : Option (List ℕ)) (status : ℕ) (entries : List Entry) : Type 0 where
-  done : status ≡ 0 → Ran words files entries old new → Outcome words files source source' sink sink' old new status entries
+  done : status ≡ 0 → Ran Done words files entries old new → Outcome words files source source' sink sink' old new status entries
+  limited : status ≡ 7 → Ran Limit words files entries old new → Outcome words files source source' sink sink' old new status entries
+  full : status ≡ 8 → Ran Full words files entries old new → Outcome words files source source' sink sink' old new status entries
   misused : status ≡ 2 → Misused words entries old new → Outcome words files source source' sink sink' old new status entries
   rejected : status ≡ 3 → Rejected words files entries old new → Outcome words files source source' sink sink' old new status entries
   unreadable : status ≡ 4 → Unreadable words source source' entries old new → Outcome words files source source' sink sink' old new status entries

@@ -1,5 +1,5 @@
 -- What a command came to before a line of it is written.
-use Rattle.std.specs.Prelude.{◌≡◌, ℕ, ◌<◌, ⊤, ◌⊎◌, List, [], length, Option, None, Result, Ok, Err}
+use Rattle.std.specs.Prelude.{◌≡◌, ℕ, ◌≤◌, ⊤, ◌⊎◌, List, [], length, Option, None, Result, Ok, Err, IsSomeAnd}
 use Rattle.cf_fault.specs.Fault.{HasRisen}
 use Rattle.cf_io.specs.Files.{File}
 use Rattle.cf_syntax.specs.Text.{Text, Refused}
@@ -8,13 +8,15 @@ use Rattle.cf_script.specs.declared.checked.Checked.{Checked}
 use Rattle.cf_script.specs.declared.fault.ScriptFault.{ScriptFault}
 use Rattle.cf_script.specs.declared.fault.ScriptFault.TheVariants as faults
 use Rattle.cf_model.specs.declared.action.Entry.{Entry}
+use Rattle.cf_model.specs.declared.ending.Ending.{Ending}
+use Rattle.cf_model.specs.declared.ending.Ending.TheVariants as endings
 use Rattle.cf_run.specs.declared.output.Unwritten.{Unwritten}
 use Rattle.cf_run.specs.declared.output.Unwritten.TheVariants as unwritten
 use Rattle.cf_run.specs.declared.settle.Settled.{Settled}
 use Rattle.cf_run.specs.declared.settle.Settled.TheVariants as settled
 use Rattle.cf_run.specs.Commands.{file_of, TakesWords}
 use Rattle.cf_run.specs.Tally.{IsOver}
-use Rattle.cf_run.specs.Lines.{run_text}
+use Rattle.cf_run.specs.Lines.{run_text, entries_in}
 use Rattle.cf_run.specs.Outcomes.{IsUnfit, IsAccepted, IsRefused, usage_text, fault_text, refusal_text}
 
 -- what the reader and the owner check say of bytes: an owned script of which they are the text, or their
@@ -29,40 +31,46 @@ abbrev pub SettlesBytes : List ℕ → Settled → Type 0
 SettlesBytes bytes settled.Usage = ⊥
 SettlesBytes bytes settled.ReadFault = ⊥
 SettlesBytes bytes (settled.Refused r) = Refused bytes r ⊎ IsUnfit bytes r
-SettlesBytes bytes (settled.Ran script run) = Text bytes script × Owned script × IsOver script run.journal.items run.store run.references.items run.finals
+SettlesBytes bytes (settled.Ran over) = IsSomeAnd over.world.script (λ s. Text bytes s × IsOver s over.world over.ending over.tallies.items over.finals)
 
 -- what it came to, and the source's count of faults
 abbrev pub Settles : List (List ℕ) → Option (List File) → (faults faults' : ℕ) → Settled → Type 0
 Settles words files faults faults' settled.Usage = file_of words ≡ None
 Settles words files faults faults' settled.ReadFault = TakesWords words × HasRisen faults faults'
 Settles words files faults faults' (settled.Refused r) = IsRefused words files r
-Settles words files faults faults' (settled.Ran script run) = IsAccepted words files script × IsOver script run.journal.items run.store run.references.items run.finals
+Settles words files faults faults' (settled.Ran over) = IsSomeAnd over.world.script (λ s. IsAccepted words files s × IsOver s over.world over.ending over.tallies.items over.finals)
 
 -- the text that is due, and the journal
 abbrev pub due_of : Settled → List ℕ
 due_of settled.Usage = usage_text
 due_of settled.ReadFault = fault_text
 due_of (settled.Refused r) = refusal_text r
-due_of (settled.Ran script run) = run_text script.classes run.journal.items run.store run.references.items run.finals
+due_of (settled.Ran over) = run_text over.world over.ending over.tallies.items over.finals
 
 abbrev pub entries_of : Settled → List Entry
 entries_of settled.Usage = []
 entries_of settled.ReadFault = []
 entries_of (settled.Refused r) = []
-entries_of (settled.Ran script run) = run.journal.items
+entries_of (settled.Ran over) = entries_in over.world.script over.world.journal
+
+abbrev pub status_by : Ending → ℕ
+status_by endings.Done = 0
+status_by endings.Limit = 7
+status_by endings.Full = 8
+status_by endings.Stalled = 9
 
 abbrev pub status_of : Settled → ℕ
 status_of settled.Usage = 2
 status_of settled.ReadFault = 4
 status_of (settled.Refused r) = 3
-status_of (settled.Ran script run) = 0
+status_of (settled.Ran over) = status_by over.ending
 
 -- few enough objects have numbers
 abbrev pub HasFew : Settled → Type 0
 HasFew settled.Usage = ⊤
 HasFew settled.ReadFault = ⊤
 HasFew (settled.Refused r) = ⊤
-HasFew (settled.Ran script run) = length run.references.items < 65536
+HasFew (settled.Ran over) = length over.tallies.items ≤ 65536
 
 -- the status after its lines were written, or not
 abbrev pub status_after : Result (Unit {0}) Unwritten → Settled → ℕ

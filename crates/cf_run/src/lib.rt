@@ -5,9 +5,10 @@
 mod command;
 mod lines;
 mod output;
-mod progress;
 mod report;
+mod serial;
 mod settle;
+mod tally;
 
 pub use cf_model::{Action, Ending, Entry};
 pub use report::{Report, cfrun_serial};

@@ -1,14 +1,18 @@
 //! The lines that are written, each ended by a line feed.
-ghost use Rattle.std.specs.Prelude.{◌≡◌, ◌+◌, ◌<◌, ◌++◌, ◌∷◌, [], codes, length, slice_index_or, IfOk, OnOk};
+ghost use Rattle.std.specs.Prelude.{◌≡◌, ◌+◌, ◌<◌, ◌≤◌, ◌++◌, ◌∷◌, [], codes, length, slice_index_or, IfOk, OnOk};
 ghost use Rattle.std.specs.String.{string_bytes};
-ghost use Rattle.cf_model.specs.Rendering.{joined, object_line, drop_words, line_of, lines_if, text_of_lines};
+ghost use Rattle.cf_model.specs.Rendering.{joined, ending_word as word_of_ending, object_line, drop_words, line_of, lines_if, text_of_lines};
+ghost use Rattle.cf_world.specs.Worlds.{state_of};
 ghost use Rattle.cf_run.specs.Outcomes.{reason_word as word_of, refusal_text};
 ghost use Rattle.cf_run.specs.Lines.{lent, gap, text_of, class_at, alive_words, alive_if, alive_below, end_words, ends_of, text_in};
 
+use crate::serial::Over;
+use crate::tally::Tally;
 use cf_ids::{Answer, ObjId, ThreadId};
-use cf_model::{Action, Entry};
+use cf_model::{Action, Ending, Entry};
 use cf_script::{ClassLine, Reason, Refusal};
-use cf_store::{Store, class_name};
+use cf_store::class_name;
+use cf_world::World;
 use std::alloc::{AllocError, Global};
 
 // Puts the word with this number behind those before it, with a space between two.
@@ -148,12 +152,13 @@ fn alive_line(
     alloc: Global,
     object: ObjId,
     name: &[u8],
-    references: usize,
+    tally: Tally,
 ) -> Result<Vec<u8>, AllocError>
-    ensures { IfOk result (λ l. l.items ≡ joined (alive_words object name.now references) ++ 10 ∷ []) }
+    ensures { IfOk result (λ l. l.items ≡ joined (alive_words object name.now tally) ++ 10 ∷ []) }
 {
     let object = object.to_string(alloc)?;
-    let owners = references.to_string(alloc)?;
+    let owners = tally.owners.to_string(alloc)?;
+    let slots = tally.slots.to_string(alloc)?;
     let words = [
         b"alive".as_slice(),
         object.as_bytes(),
@@ -161,7 +166,7 @@ fn alive_line(
         b"owners",
         owners.as_bytes(),
         b"slots",
-        b"0",
+        slots.as_bytes(),
     ];
     line(alloc, &words)
 }
@@ -171,19 +176,19 @@ fn push_alive(
     alloc: Global,
     lines: &mut Vec<Vec<u8>>,
     classes: &[ClassLine],
-    store: &Store,
+    world: &World,
     object: ObjId,
-    references: usize,
+    tally: Tally,
 ) -> Result<(), AllocError>
-    ensures text { OnOk result (text_of lines.new.items ≡ text_of lines.old.items ++ text_of_lines (alive_if classes.now object (class_at store.now object) references)) }
-    ensures count { OnOk result (length lines.new.items ≡ length lines.old.items + length (alive_if classes.now object (class_at store.now object) references)) }
+    ensures text { OnOk result (text_of lines.new.items ≡ text_of lines.old.items ++ text_of_lines (alive_if classes.now object (class_at (state_of world.now).objects object) tally)) }
+    ensures count { OnOk result (length lines.new.items ≡ length lines.old.items + length (alive_if classes.now object (class_at (state_of world.now).objects object) tally)) }
 {
-    if references == 0 {
+    if tally.owners == 0 && tally.slots == 0 {
         return Ok(());
     }
-    if let Some(class) = store.class(object) {
+    if let Some(class) = world.class(object) {
         let name = class_name(classes, class);
-        lines.push(alive_line(alloc, object, name, references)?)?;
+        lines.push(alive_line(alloc, object, name, tally)?)?;
     }
     Ok(())
 }
@@ -192,30 +197,43 @@ fn push_alive(
 fn alive_lines(
     alloc: Global,
     classes: &[ClassLine],
-    store: &Store,
-    references: &[usize],
+    world: &World,
+    tallies: &[Tally],
 ) -> Result<Vec<Vec<u8>>, AllocError>
-    requires { length references.now < 65536 }
-    ensures text { IfOk result (λ ls. text_of ls.items ≡ text_of_lines (alive_below classes.now store.now references.now (length references.now))) }
-    ensures count { IfOk result (λ ls. length ls.items ≡ length (alive_below classes.now store.now references.now (length references.now))) }
+    requires { length tallies.now ≤ 65536 }
+    ensures text { IfOk result (λ ls. text_of ls.items ≡ text_of_lines (alive_below classes.now (state_of world.now).objects tallies.now (length tallies.now))) }
+    ensures count { IfOk result (λ ls. length ls.items ≡ length (alive_below classes.now (state_of world.now).objects tallies.now (length tallies.now))) }
 {
     let mut lines = Vec::new(alloc);
-    for (number, references) in references.iter().enumerate() {
+    for (number, tally) in tallies.iter().enumerate() {
         let object = ObjId(number as u32);
-        push_alive(alloc, &mut lines, classes, store, object, *references)?;
+        push_alive(alloc, &mut lines, classes, world, object, *tally)?;
     }
     Ok(lines)
+}
+
+// The word of an ending.
+fn ending_word(ending: Ending) -> &'static [u8]
+    ensures { result.now ≡ word_of_ending ending }
+{
+    match ending {
+        Ending::Done => b"done",
+        Ending::Limit => b"limit",
+        Ending::Full => b"full",
+        Ending::Stalled => b"stalled",
+    }
 }
 
 // The last line: how many entries there are, and how many objects were made, finalised and left.
 fn end_line(
     alloc: Global,
+    ending: Ending,
     events: usize,
     objects: usize,
     finals: usize,
     alive: usize,
 ) -> Result<Vec<u8>, AllocError>
-    ensures { IfOk result (λ l. l.items ≡ joined (end_words events objects finals alive) ++ 10 ∷ []) }
+    ensures { IfOk result (λ l. l.items ≡ joined (end_words ending events objects finals alive) ++ 10 ∷ []) }
 {
     let events = events.to_string(alloc)?;
     let objects = objects.to_string(alloc)?;
@@ -223,7 +241,7 @@ fn end_line(
     let alive = alive.to_string(alloc)?;
     let words = [
         b"end".as_slice(),
-        b"done",
+        ending_word(ending),
         b"events",
         events.as_bytes(),
         b"objects",
@@ -241,16 +259,23 @@ pub fn end_lines(
     alloc: Global,
     classes: &[ClassLine],
     events: usize,
-    store: &Store,
-    references: &[usize],
-    finals: usize,
+    over: &Over,
 ) -> Result<Vec<Vec<u8>>, AllocError>
-    requires { length references.now < 65536 }
-    ensures { IfOk result (λ ls. text_of ls.items ≡ text_of_lines (ends_of classes.now events store.now references.now finals)) }
+    requires { length over.now.tallies.items ≤ 65536 }
+    ensures { IfOk result (λ ls. text_of ls.items ≡ text_of_lines (ends_of classes.now over.now.ending events (state_of over.now.world).objects over.now.tallies.items over.now.finals)) }
 {
-    let mut lines = alive_lines(alloc, classes, store, references)?;
+    let tallies = over.tallies.as_slice();
+    let mut lines = alive_lines(alloc, classes, &over.world, tallies)?;
     let alive = lines.len();
-    lines.push(end_line(alloc, events, references.len(), finals, alive)?)?;
+    let line = end_line(
+        alloc,
+        over.ending,
+        events,
+        tallies.len(),
+        over.finals,
+        alive,
+    )?;
+    lines.push(line)?;
     Ok(lines)
 }
 

@@ -1,15 +1,16 @@
 //! Lines go out, each by one `write_all`.
-ghost use Rattle.std.specs.Prelude.{◌≡◌, ◌<◌, length, IfOk};
+ghost use Rattle.std.specs.Prelude.{◌≡◌, ◌≤◌, length, IfOk};
 ghost use Rattle.cf_model.specs.Rendering.{line_of, lines_if, entry_lines, text_of_lines};
-ghost use Rattle.cf_run.specs.Lines.{text_of, run_text};
+ghost use Rattle.cf_run.specs.Lines.{text_of, classes_in, run_text};
 ghost use Rattle.cf_run.specs.declared.output.Unwritten.TheVariants.{NoMemory};
 ghost use Rattle.cf_run.specs.Written.{Writes, WritesAll};
 
 use crate::lines::{end_lines, entry_line};
-use crate::progress::Progress;
+use crate::serial::Over;
 use cf_io::{Sink, write_all};
 use cf_model::Entry;
 use cf_script::ClassLine;
+use cf_world::World;
 use std::alloc::{AllocError, Global};
 use thiserror::Error;
 
@@ -80,26 +81,24 @@ fn write_lines<K: Sink>(sink: &mut K, lines: &[Vec<u8>]) -> Result<(), Unwritten
     Ok(())
 }
 
-/// Writes the lines of a run that ended.
-pub fn write_run<K: Sink>(
-    alloc: Global,
-    sink: &mut K,
-    classes: &[ClassLine],
-    run: &Progress,
-) -> Result<(), Unwritten>
-    requires { length run.now.references.items < 65536 }
-    ensures { WritesAll result (run_text classes.now run.now.journal.items run.now.store run.now.references.items run.now.finals) (K.taken sink.old) (K.taken sink.new) (K.faults sink.old) (K.faults sink.new) }
+// The type names of a world's script.
+fn classes_of(world: &World) -> &[ClassLine]
+    ensures { result.now ≡ classes_in world.now.script }
 {
-    let journal = run.journal.as_slice();
-    let references = run.references.as_slice();
+    match world.script() {
+        Some(checked) => checked.script().classes.as_slice(),
+        None => &[],
+    }
+}
+
+/// Writes the lines of a run that is over.
+pub fn write_run<K: Sink>(alloc: Global, sink: &mut K, over: &Over) -> Result<(), Unwritten>
+    requires { length over.now.tallies.items ≤ 65536 }
+    ensures { WritesAll result (run_text over.now.world over.now.ending over.now.tallies.items over.now.finals) (K.taken sink.old) (K.taken sink.new) (K.faults sink.old) (K.faults sink.new) }
+{
+    let classes = classes_of(&over.world);
+    let journal = over.world.journal();
     write_entries(alloc, sink, classes, journal)?;
-    let lines = end_lines(
-        alloc,
-        classes,
-        journal.len(),
-        &run.store,
-        references,
-        run.finals,
-    )?;
+    let lines = end_lines(alloc, classes, journal.len(), over)?;
     write_lines(sink, lines.as_slice())
 }

@@ -6,6 +6,7 @@ ghost use Rattle.cf_syntax.specs.declared.script.Script.{Script};
 ghost use Rattle.cf_syntax.specs.declared.refusal.Refusal.{Refusal};
 ghost use Rattle.cf_syntax.specs.Text.{Text};
 ghost use Rattle.cf_syntax.specs.Owned.{Owned};
+ghost use Rattle.cf_model.specs.declared.ending.Ending.TheVariants.{Done, Limit, Full};
 ghost use Rattle.cf_run.specs.Commands.{file_of};
 ghost use Rattle.cf_run.specs.Outcomes.{script_bytes, IsRefusedText, Ran, Misused, Rejected, Unreadable, Shortened, Silent, Outcome};
 ghost use Rattle.cf_run.specs.Settled.{HasFew, Settles, due_of, status_after as after};
@@ -38,10 +39,7 @@ fn write_settled<K: Sink>(alloc: Global, sink: &mut K, settled: &Settled) -> Res
             let line = refusal_line(alloc, *refusal)?;
             write_text(sink, line.as_bytes())
         }
-        Settled::Ran(checked, progress) => {
-            let classes = checked.script().classes.as_slice();
-            write_run(alloc, sink, classes, progress)
-        }
+        Settled::Ran(over) => write_run(alloc, sink, over),
     }
 }
 
@@ -92,16 +90,19 @@ fn run_command<S: Source, K: Sink>(
 /// sink. Every other command line is answered by a usage line. Lines are written after the run has
 /// ended, each by one `write_all`.
 ///
-/// The status is 0 where the command did all; 2 where the words are of no form; 3 where the file is
-/// refused; 4 where it could not be read; 5 where a line could not be written; 6 where memory ran out.
+/// The status is 0 where the script ran to its end; 2 where the words are of no form; 3 where the file is refused; 4 where
+/// it could not be read; 5 where a line could not be written; 6 where memory ran out; 7 where the journal was at its limit
+/// of 1,000,000 entries before the script's end; 8 where the next action makes an object, and 65,536 were made.
 pub fn cfrun_serial<S: Source, K: Sink>(
     alloc: Global,
     words: &[&str],
     source: &mut S,
     sink: &mut K,
 ) -> Report
-    // Status 0, with the clauses `read`, `journal`, `written` and `serial`.
-    ensures ran { result.status ≡ 0 → Ran (map (λ w. w.now) words.now) (S.files source.old) result.journal.items (K.taken sink.old) (K.taken sink.new) }
+    // Statuses 0, 7 and 8, each with the clauses `read`, `journal`, `written` and `serial`.
+    ensures ran { result.status ≡ 0 → Ran Done (map (λ w. w.now) words.now) (S.files source.old) result.journal.items (K.taken sink.old) (K.taken sink.new) }
+    ensures limited { result.status ≡ 7 → Ran Limit (map (λ w. w.now) words.now) (S.files source.old) result.journal.items (K.taken sink.old) (K.taken sink.new) }
+    ensures full { result.status ≡ 8 → Ran Full (map (λ w. w.now) words.now) (S.files source.old) result.journal.items (K.taken sink.old) (K.taken sink.new) }
 
     // The causes of the other statuses, and what is written with each.
     ensures misused { result.status ≡ 2 → Misused (map (λ w. w.now) words.now) result.journal.items (K.taken sink.old) (K.taken sink.new) }
@@ -111,7 +112,7 @@ pub fn cfrun_serial<S: Source, K: Sink>(
         × Shortened (map (λ w. w.now) words.now) (S.files source.old) (S.faults source.old) (S.faults source.new) result.journal.items (K.taken sink.old) (K.taken sink.new) }
     ensures no_memory { result.status ≡ 6 → Silent result.journal.items (K.taken sink.old) (K.taken sink.new)
         ⊎ Shortened (map (λ w. w.now) words.now) (S.files source.old) (S.faults source.old) (S.faults source.new) result.journal.items (K.taken sink.old) (K.taken sink.new) }
-    ensures statuses { Contains (0 ∷ 2 ∷ 3 ∷ 4 ∷ 5 ∷ 6 ∷ []) result.status }
+    ensures statuses { Contains (0 ∷ 2 ∷ 3 ∷ 4 ∷ 5 ∷ 6 ∷ 7 ∷ 8 ∷ []) result.status }
 
     // Where no count has risen, the status is the one that is due, unless memory ran out.
     ensures misuse_is_told { file_of (map (λ w. w.now) words.now) ≡ None
@@ -122,7 +123,7 @@ pub fn cfrun_serial<S: Source, K: Sink>(
         → content_of told file ≡ Some bytes → length bytes ≤ script_bytes → Text bytes script → Owned script
         → ¬ HasRisen (S.faults source.old) (S.faults source.new)
         → ¬ HasRisen (K.faults sink.old) (K.faults sink.new)
-        → (result.status ≡ 0) ⊎ (result.status ≡ 6) }
+        → Contains (0 ∷ 6 ∷ 7 ∷ 8 ∷ []) result.status }
     ensures refused_is_told { (told : List File) (file bytes : List ℕ) (refusal : Refusal)
         → S.files source.old ≡ Some told → file_of (map (λ w. w.now) words.now) ≡ Some file
         → content_of told file ≡ Some bytes → IsRefusedText bytes refusal

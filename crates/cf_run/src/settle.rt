@@ -1,19 +1,19 @@
 //! What a command comes to before a line of it is written: the file is read, and its script is run.
-ghost use Rattle.std.specs.Prelude.{◌≡◌, ◌≤◌, ◌<◌, ◌^◌, ℕ, map, length, IfOk, IfSome, IsErrOf};
+ghost use Rattle.std.specs.Prelude.{◌≡◌, ◌≤◌, ◌<◌, map, length, IfOk, IfSome, IsErrOf};
 ghost use Rattle.cf_fault.specs.Fault.{HasRisen};
 ghost use Rattle.cf_io.specs.Whole.{UnlessReadFault};
 ghost use Rattle.cf_io.specs.Files.{content_of};
-ghost use Rattle.cf_syntax.specs.Owned.{Owned};
-ghost use Rattle.cf_model.specs.Journals.{setup};
+ghost use Rattle.cf_run.specs.Lines.{entries_in};
 ghost use Rattle.cf_run.specs.Outcomes.{IsContent};
-ghost use Rattle.cf_run.specs.Settled.{Accepts, SettlesBytes, Settles, status_of, entries_of};
+ghost use Rattle.cf_run.specs.Settled.{Accepts, SettlesBytes, Settles, status_by, status_of, entries_of};
 
 use crate::command::file_of;
-use crate::progress::{Progress, run_setup};
+use crate::serial::{Over, run_script};
 use cf_ids::SCRIPT_BYTES;
 use cf_io::{ReadAll, Source, read_all};
-use cf_model::Entry;
+use cf_model::{Ending, Entry};
 use cf_script::{Checked, OwnFault, Reason, Refusal, ScriptFault, check_owners, read_script};
+use cf_world::World;
 use std::alloc::{AllocError, Global};
 
 /// What a command came to.
@@ -26,7 +26,7 @@ pub enum Settled {
     /// Its bytes are refused.
     Refused(Refusal),
     /// Its script has run.
-    Ran(Checked, Progress),
+    Ran(Over),
 }
 
 // The bytes of a file, where they are no more than a script may have.
@@ -43,8 +43,7 @@ fn read_file<S: Source>(alloc: Global, source: &mut S, name: &str) -> Result<Vec
 // The owned script that bytes are the text of.
 fn accept(alloc: Global, bytes: &[u8]) -> Result<Checked, ScriptFault>
     requires { length bytes.now ≤ 1048576 }
-    ensures accepts { Accepts result bytes.now }
-    ensures few { IfOk result (λ c. length (setup c) ≤ length bytes.now) }
+    ensures { Accepts result bytes.now }
 {
     match check_owners(read_script(alloc, bytes)?) {
         Ok(checked) => Ok(checked),
@@ -60,8 +59,8 @@ fn settle_bytes(alloc: Global, bytes: &[u8]) -> Result<Settled, AllocError>
 {
     match accept(alloc, bytes) {
         Ok(checked) => {
-            let progress = run_setup(alloc, checked.script())?;
-            Ok(Settled::Ran(checked, progress))
+            let over = run_script(alloc, checked)?;
+            Ok(Settled::Ran(over))
         }
         Err(ScriptFault::Refused(refusal)) => Ok(Settled::Refused(refusal)),
         Err(ScriptFault::NoMemory) => Err(AllocError),
@@ -92,13 +91,35 @@ pub fn settle<S: Source>(
     }
 }
 
+// The exit status of an ending.
+fn ending_status(ending: Ending) -> u8
+    ensures { result ≡ status_by ending }
+{
+    match ending {
+        Ending::Done => 0,
+        Ending::Limit => 7,
+        Ending::Full => 8,
+        Ending::Stalled => 9,
+    }
+}
+
+// The journal of a world.
+fn journal_of(alloc: Global, world: World) -> Vec<Entry>
+    ensures { result.items ≡ entries_in world.script world.journal }
+{
+    match world.end() {
+        Some((_, journal)) => journal,
+        None => Vec::new(alloc),
+    }
+}
+
 impl Settled {
     /// The exit status where all its lines are written.
     pub fn status(&self) -> u8
         ensures { result ≡ status_of self.now }
     {
         match self {
-            Settled::Ran(..) => 0,
+            Settled::Ran(over) => ending_status(over.ending),
             Settled::Usage => 2,
             Settled::Refused(_) => 3,
             Settled::ReadFault => 4,
@@ -110,7 +131,7 @@ impl Settled {
         ensures { result.items ≡ entries_of self }
     {
         match self {
-            Settled::Ran(_, progress) => progress.journal,
+            Settled::Ran(over) => journal_of(alloc, over.world),
             _ => Vec::new(alloc),
         }
     }

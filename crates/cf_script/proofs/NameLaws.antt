@@ -6,7 +6,7 @@ use Rattle.std.specs.Str.{bytes_eq}
 use Rattle.std.specs.Global.{Vec}
 use Rattle.std.proofs.lemmas.Bool.{lt-ltb, le-ltb}
 use Rattle.std.proofs.lemmas.List.{map_push}
-use Rattle.cf_syntax.specs.Table.{unread, with_name, numbered}
+use Rattle.cf_syntax.specs.Table.{unread, with_name, With, with_variable}
 use Rattle.cf_script.specs.Views.{texts}
 
 position_texts : (word : List ℕ) (names : List (Vec ℕ)) → position_or_len (bytes_eq word) (texts names) ≡ position_or_len (λ n. bytes_eq word n.items) names
@@ -52,13 +52,13 @@ names_new word value names after e is =
     ap texts is ∙ texts_both (list_any (λ n. bytes_eq value.items n.items) names) value names
     ∙ ap (λ (t : Bool). cond t (texts names) (texts names ++ value.items ∷ [])) (sym (any_texts value.items names)) ∙ ap (with_name (texts names)) e
 
-number_by : (names : List (List ℕ)) (word : List ℕ) (t : Bool) → nat_lt (position_or_len (bytes_eq word) names) 256 ≡ t
-    → numbered names word ≡ cond t (Ok (record { names = with_name names word; value = position_or_len (bytes_eq word) names })) (Err unread)
-number_by names word t e = rw e refl
+number_by : (so_far : With (List ℕ)) (word : List ℕ) (t : Bool) → nat_lt (position_or_len (bytes_eq word) so_far.names) 256 ≡ t
+    → with_variable so_far word ≡ cond t (Ok (record { names = with_name so_far.names word; value = so_far.value ++ position_or_len (bytes_eq word) so_far.names ∷ [] })) (Err unread)
+number_by so_far word t e = rw e refl
 
-pub number_refused : (names : List (List ℕ)) (word : List ℕ) (place : ℕ) → place ≡ position_or_len (bytes_eq word) names → 256 ≤ place → numbered names word ≡ Err unread
-number_refused names word place is large = number_by names word false (rw (← is) (le-ltb place 256 large))
+pub number_refused : (so_far : With (List ℕ)) (word : List ℕ) (place : ℕ) → place ≡ position_or_len (bytes_eq word) so_far.names → 256 ≤ place → with_variable so_far word ≡ Err unread
+number_refused so_far word place is large = number_by so_far word false (rw (← is) (le-ltb place 256 large))
 
-pub number_given : (names after : List (List ℕ)) (word : List ℕ) (place : ℕ) → place ≡ position_or_len (bytes_eq word) names → after ≡ with_name names word → place < 256
-    → numbered names word ≡ Ok (record { names = after; value = place })
-number_given names after word place is kept small = number_by names word true (rw (← is) (lt-ltb place 256 small)) ∙ rw (← kept, ← is) refl
+pub number_given : (so_far : With (List ℕ)) (names : List (List ℕ)) (numbers : List ℕ) (word : List ℕ) (place : ℕ) → place ≡ position_or_len (bytes_eq word) so_far.names → names ≡ with_name so_far.names word
+    → numbers ≡ so_far.value ++ place ∷ [] → place < 256 → with_variable so_far word ≡ Ok (record { names = names; value = numbers })
+number_given so_far names numbers word place is kept more small = number_by so_far word true (rw (← is) (lt-ltb place 256 small)) ∙ rw (← kept, ← is, ← more) refl

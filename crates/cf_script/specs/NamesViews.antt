@@ -1,8 +1,8 @@
--- What a numbered variable stands for.
-use Rattle.std.specs.Prelude.{ℕ}
+-- What numbered variables stand for.
+use Rattle.std.specs.Prelude.{ℕ, List}
 use Rattle.cf_syntax.specs.Table.{With}
 use Rattle.cf_script.specs.declared.names.Numbered.{Numbered}
 use Rattle.cf_script.specs.Views.{texts}
 
-abbrev pub numbered_of : Numbered → With ℕ
-numbered_of n = record { names = texts n.names.keys; value = n.variable }
+abbrev pub numbered_of : Numbered → With (List ℕ)
+numbered_of n = record { names = texts n.names.keys; value = n.variables.items }

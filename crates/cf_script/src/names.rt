@@ -1,22 +1,24 @@
 //! The variables of a block, numbered in the order of first use.
-ghost use Rattle.std.specs.Prelude.{◌≡◌, IfOk, OnOk};
+ghost use Rattle.std.specs.Prelude.{◌≡◌, IfOk, OnOk, length};
 ghost use Rattle.std.specs.List.{position_or_len};
 ghost use Rattle.std.specs.Str.{bytes_eq};
-ghost use Rattle.cf_syntax.specs.Table.{with_name, numbered};
+ghost use Rattle.cf_syntax.specs.Table.{with_name, with_variable, with_word, numbered};
 ghost use Rattle.cf_script.specs.Gives.{GivesAs};
-ghost use Rattle.cf_script.specs.Views.{texts};
+ghost use Rattle.cf_script.specs.Views.{lent, texts};
 ghost use Rattle.cf_script.specs.NamesViews.{numbered_of};
 
 use crate::fault::{ScriptFault, UNREAD};
+use crate::words::word_at;
 use cf_ids::{Seq, VARIABLES, VarId};
+use cf_syntax::Class;
 use indexmap::IndexSet;
 use std::alloc::{AllocError, Global};
 
-/// A variable, and the names with it.
+/// The variables of a line so far, and the names with them.
 #[derive(Drop)]
 pub(crate) struct Numbered {
     pub names: IndexSet<Vec<u8>>,
-    pub variable: VarId,
+    pub variables: Vec<VarId>,
 }
 
 /// The place of a name, which goes behind the others where it is new.
@@ -31,23 +33,55 @@ fn place_of(alloc: Global, names: &mut IndexSet<Vec<u8>>, word: &[u8]) -> Result
     Ok(place)
 }
 
-/// The number of a variable.
-pub(crate) fn number(
-    alloc: Global,
-    names: IndexSet<Vec<u8>>,
-    word: &[u8],
-) -> Result<Numbered, ScriptFault>
-    ensures { GivesAs numbered_of result (numbered (texts names.keys) word.now) }
+/// The variables with one more.
+fn with_variable(alloc: Global, so_far: Numbered, word: &[u8]) -> Result<Numbered, ScriptFault>
+    ensures { GivesAs numbered_of result (with_variable (numbered_of so_far) word.now) }
 {
-    let mut names = names;
+    let Numbered {
+        mut names,
+        mut variables,
+    } = so_far;
     let place = place_of(alloc, &mut names, word)?;
     if place >= VARIABLES {
         return Err(ScriptFault::Refused(UNREAD));
     }
-    Ok(Numbered {
+    variables.push(VarId(place as u16))?;
+    Ok(Numbered { names, variables })
+}
+
+/// The variables with a word of a class, which may be one.
+fn with_word(
+    alloc: Global,
+    so_far: Numbered,
+    class: Class,
+    word: &[u8],
+) -> Result<Numbered, ScriptFault>
+    ensures { GivesAs numbered_of result (with_word (numbered_of so_far) class word.now) }
+{
+    match class {
+        Class::Variable => with_variable(alloc, so_far, word),
+        _ => Ok(so_far),
+    }
+}
+
+/// The variables of the words of a form.
+pub(crate) fn number_variables(
+    alloc: Global,
+    classes: &[Class],
+    names: IndexSet<Vec<u8>>,
+    words: &[&[u8]],
+) -> Result<Numbered, ScriptFault>
+    requires { length words.now ≡ length classes.now }
+    ensures { GivesAs numbered_of result (numbered classes.now (texts names.keys) (lent words.now)) }
+{
+    let mut so_far = Numbered {
         names,
-        variable: VarId(place as u16),
-    })
+        variables: Vec::new(alloc),
+    };
+    for (i, class) in classes.iter().enumerate() {
+        so_far = with_word(alloc, so_far, *class, word_at(words, i))?;
+    }
+    Ok(so_far)
 }
 
 /// The names, in the order of their numbers.

@@ -1,16 +1,15 @@
 //! The statement that the words of a line are.
-ghost use Rattle.std.specs.Prelude.{◌≡◌, IfOk, unwrap_or, []};
+ghost use Rattle.std.specs.Prelude.{◌≡◌, IfOk, unwrap_or, [], length, slice_index};
 ghost use Rattle.cf_syntax.specs.Numbers.{bytes_of};
 ghost use Rattle.cf_syntax.specs.Words.{text_of};
-ghost use Rattle.cf_syntax.specs.Table.{last_word, literal_of, second_numbered, text_statement, data_statement, number_statement, plain_statement, statement_by, statement_of};
+ghost use Rattle.cf_syntax.specs.Table.{last_word, literal_of, classes_of, text_statement, data_statement, number_statement, plain_statement, make_statement, array_statement, dict_statement, field_statement, statement_by, statement_of};
 ghost use Rattle.cf_script.specs.Gives.{GivesAs};
 ghost use Rattle.cf_script.specs.Views.{lent, texts};
-ghost use Rattle.cf_script.specs.NamesViews.{numbered_of};
 ghost use Rattle.cf_script.specs.StatementViews.{stated_of, numbered_statement};
 
 use crate::classes::Classes;
 use crate::fault::{ScriptFault, UNREAD};
-use crate::names::{Numbered, number};
+use crate::names::number_variables;
 use crate::numbers::{bytes_of, index_at, integer_at, kind_at};
 use crate::table::{are_of, form_of};
 use crate::words::{text_of, word_at};
@@ -19,7 +18,8 @@ use cf_ids::VarId;
 use cf_number::{Num, NumKind};
 use cf_string::{Str, StrFault};
 use cf_syntax::{
-    DataForm, DataLiteral, Form, PlainForm, Refusal, Statement, TextForm, TextLiteral,
+    ArrayForm, Collection, DataForm, DataLiteral, DictForm, FieldForm, Form, PlainForm, Refusal,
+    Statement, TextForm, TextLiteral,
 };
 use indexmap::IndexSet;
 use std::alloc::{AllocError, Global};
@@ -174,40 +174,134 @@ fn plain_statement(
     })
 }
 
+/// The statement that makes a collection.
+fn make_statement(collection: Collection, plain: bool, variable: VarId) -> Statement
+    ensures { result ≡ make_statement collection plain variable }
+{
+    match collection {
+        Collection::Array => Statement::MakeArray { variable, plain },
+        Collection::Dict => Statement::MakeDict { variable, plain },
+    }
+}
+
+/// The statement of a form that acts on an array.
+fn array_statement(form: ArrayForm, variable: VarId, second: VarId, words: &[&[u8]]) -> Statement
+    ensures { result ≡ array_statement form variable second (lent words.now) }
+{
+    match form {
+        ArrayForm::Append => Statement::ArrAppend {
+            variable,
+            element: second,
+        },
+        ArrayForm::Insert => Statement::ArrInsert {
+            variable,
+            at: index_at(words, 2),
+            element: second,
+        },
+        ArrayForm::Set => Statement::ArrSet {
+            variable,
+            at: index_at(words, 2),
+            element: second,
+        },
+        ArrayForm::Remove => Statement::ArrRemove {
+            variable,
+            at: index_at(words, 2),
+        },
+        ArrayForm::Take => Statement::ArrTake {
+            variable,
+            array: second,
+            at: index_at(words, 3),
+        },
+    }
+}
+
+/// The statement of a form that acts on a dictionary.
+fn dict_statement(form: DictForm, variable: VarId, second: VarId, third: VarId) -> Statement
+    ensures { result ≡ dict_statement form variable second third }
+{
+    match form {
+        DictForm::Add => Statement::DictAdd {
+            variable,
+            key: second,
+            value: third,
+        },
+        DictForm::Set => Statement::DictSet {
+            variable,
+            key: second,
+            value: third,
+        },
+        DictForm::Replace => Statement::DictReplace {
+            variable,
+            key: second,
+            value: third,
+        },
+        DictForm::Remove => Statement::DictRemove {
+            variable,
+            key: second,
+        },
+        DictForm::Take => Statement::DictTake {
+            variable,
+            dictionary: second,
+            key: third,
+        },
+    }
+}
+
+/// The statement of a form that acts on a field of an instance.
+fn field_statement(form: FieldForm, variable: VarId, second: VarId, words: &[&[u8]]) -> Statement
+    ensures { result ≡ field_statement form variable second (lent words.now) }
+{
+    match form {
+        FieldForm::Set => Statement::FieldSet {
+            variable,
+            at: index_at(words, 2),
+            element: second,
+        },
+        FieldForm::Clear => Statement::FieldClear {
+            variable,
+            at: index_at(words, 2),
+        },
+        FieldForm::Take => Statement::FieldTake {
+            variable,
+            instance: second,
+            at: index_at(words, 3),
+        },
+    }
+}
+
+/// The variable at a place of a form, or 0 where it has none there.
+fn variable_at(variables: &[VarId], i: usize) -> VarId
+    ensures { result ≡ slice_index variables.now i }
+{
+    if i < variables.len() {
+        variables[i]
+    } else {
+        VarId(0)
+    }
+}
+
 /// The statement of a form, by the numbers of its variables and its words.
 fn statement_by(
     alloc: Global,
     classes: &Classes,
     form: Form,
-    variable: VarId,
-    second: VarId,
+    variables: &[VarId],
     words: &[&[u8]],
 ) -> Result<Statement, ScriptFault>
-    ensures { GivesAs (λ s. s) result (statement_by classes.now form variable second (lent words.now)) }
+    ensures { GivesAs (λ s. s) result (statement_by classes.now form (slice_index variables.now 0) (slice_index variables.now 1) (slice_index variables.now 2) (lent words.now)) }
 {
+    let first = variable_at(variables, 0);
+    let second = variable_at(variables, 1);
+    let third = variable_at(variables, 2);
     match form {
-        Form::Text(form) => text_statement(alloc, form, variable, words),
-        Form::Data(form) => data_statement(alloc, form, variable, words),
-        Form::Plain(form) => Ok(plain_statement(classes, form, variable, second, words)?),
-    }
-}
-
-/// The number of the third word, where it is a variable.
-fn second_number(
-    alloc: Global,
-    form: Form,
-    names: IndexSet<Vec<u8>>,
-    words: &[&[u8]],
-) -> Result<Numbered, ScriptFault>
-    ensures { GivesAs numbered_of result (second_numbered form (texts names.keys) (lent words.now)) }
-{
-    if form.names_two() {
-        number(alloc, names, word_at(words, 2))
-    } else {
-        Ok(Numbered {
-            names,
-            variable: VarId(0),
-        })
+        Form::Text(form) => text_statement(alloc, form, first, words),
+        Form::Data(form) => data_statement(alloc, form, first, words),
+        Form::Plain(form) => Ok(plain_statement(classes, form, first, second, words)?),
+        Form::Make(collection) => Ok(make_statement(collection, false, first)),
+        Form::MakePlain(collection) => Ok(make_statement(collection, true, first)),
+        Form::Array(form) => Ok(array_statement(form, first, second, words)),
+        Form::Dict(form) => Ok(dict_statement(form, first, second, third)),
+        Form::Field(form) => Ok(field_statement(form, first, second, words)),
     }
 }
 
@@ -219,13 +313,13 @@ fn numbered_statement(
     names: IndexSet<Vec<u8>>,
     words: &[&[u8]],
 ) -> Result<Stated, ScriptFault>
+    requires { length words.now ≡ length (classes_of form) }
     ensures { GivesAs stated_of result (numbered_statement classes.now form (texts names.keys) (lent words.now)) }
 {
-    let first = number(alloc, names, word_at(words, 1))?;
-    let second = second_number(alloc, form, first.names, words)?;
-    let statement = statement_by(alloc, classes, form, first.variable, second.variable, words)?;
+    let numbered = number_variables(alloc, form.classes(), names, words)?;
+    let statement = statement_by(alloc, classes, form, numbered.variables.as_slice(), words)?;
     Ok(Stated {
-        names: second.names,
+        names: numbered.names,
         statement,
     })
 }

@@ -1,139 +1,142 @@
--- What is done to the content of one object is done among the objects.
-use Rattle.std.proofs.Common.{arith, ◌≡◌, ℕ, zero, suc, ◌<◌, List, [], ◌∷◌, ◌++◌, length, get_or, true, false, take, drop, Option, None, Some, Result, Ok, Err, IfOk, OnOk, refl, sym, ap, ap₂, ◌∙◌, slice_get, slice_set}
-use Rattle.std.proofs.lemmas.Option.{slice_get_read}
-use Rattle.cf_string.specs.declared.faults.StrFault.{StrFault}
-use Rattle.cf_string.specs.declared.faults.StrFault.TheVariants.{NotUtf8, Range, SplitsPair, NoMemory}
-use Rattle.cf_string.specs.Faults.{cut_fault}
-use Rattle.cf_contents.specs.Contents.{Content, text_content, data_content, number_content, instance_content, Object, string_class}
-use Rattle.cf_contents.specs.Deeds.{Deed, made, changed_to, text_in, mutable_text_in, mutable_data_in, with_object, with_text, with_mutable_text, with_mutable_data, unless_cut, part_of, object_of, Change, unchanged, contents, places, content_after, with_content, with_change, changed_by, resolved, first_of, second_of, deed_of, deed_at}
-use Rattle.cf_contents.proofs.ContentLaws.{changed_by-unchanged}
-use Rattle.cf_contents.proofs.FormLaws.{form_keeps, resolved-none}
-use Rattle.cf_syntax.specs.declared.script.ClassLine.{ClassLine}
-use Rattle.cf_syntax.specs.declared.statement.Statement.{Statement}
-use Rattle.cf_store.specs.Bodies.{units_in, text_of}
-use Rattle.cf_store.specs.declared.store.Applied.{Applied}
-use Rattle.cf_store.specs.Applies.{IsDeed, DoneTo, DoneAmong}
+-- Deeds on the objects that are used.
+use Rattle.std.proofs.Common.{arith, ◌≡◌, ℕ, suc, ◌+◌, ◌<◌, ◌≤◌, Bool, true, false, cond, List, [], ◌∷◌, ◌++◌, map, length, take, drop, Option, Some, None, IfSome, refl, sym, ap, ◌∙◌, slice_get, get_or, length-append}
+use Rattle.std.specs.Prelude.{is_some}
+use Rattle.std.specs.List.{splice}
+use Rattle.std.specs.Map.{lookup, set_value, remove_entry}
+use Rattle.std.specs.Option.{option_map}
+use Rattle.std.proofs.lemmas.List.{length-take, length-drop}
+use Rattle.std.proofs.lemmas.Map.{length-set_value}
+use Rattle.cf_ids.specs.declared.answer.Answer.{Answer}
+use Rattle.cf_ids.specs.declared.answer.Answer.TheVariants as answers
+use Rattle.cf_types.specs.declared.cells.Cell.{Cell}
+use Rattle.cf_contents.specs.Contents.{Content, text_content, data_content, number_content, instance_content, array_content, dictionary_content}
+use Rattle.cf_contents.specs.Keys.{Numbered, numbered, with_number_of, equal_to}
+use Rattle.cf_contents.specs.Deeds as deeds
+use Rattle.cf_store.specs.Bodies.{BodyView, object_in, held_of, members_in, member_limit, number_of, read_in, units_in, mutable_units_in}
+use Rattle.cf_contents.specs.Stores.{objects_of}
+use Rattle.cf_store.specs.Changes.{CanBe, CanBeAt, done_of, members_for}
+use Rattle.cf_store.specs.Applies.{Does, body_at}
+use Rattle.cf_store.specs.declared.change.Change.{Change}
+use Rattle.cf_store.specs.declared.change.Change.TheVariants.{Nothing, Text, Data, Insert, Replace, Remove, Fill, Clear, Put, Take}
+use Rattle.cf_store.specs.declared.deed.Source.TheVariants.{Nowhere}
+use Rattle.cf_store.specs.declared.deed.Deed.{Deed}
+use Rattle.cf_store.proofs.Setting.{object_at}
 
--- an object is its type and its content
-same_object : (a b : Object) → a.class ≡ b.class → a.content ≡ b.content → a ≡ b
-same_object a b class content = ap₂ (λ c d. record { class = c; content = d }) class content
+-- ---- a text behind another
 
--- one object of the list is another, which has its type and its content after a change
-set_content : (objects : List Object) (o : ℕ) (ob changed : Object) (change : Change) → slice_get objects o ≡ Some ob
-    → changed.class ≡ ob.class → changed.content ≡ content_after change ob.content → slice_set objects o changed ≡ with_content o change objects
-set_content [] o ob changed change is class content = refl
-set_content (b ∷ bs) zero ob changed change is class content =
-    let same : ob ≡ b = cc in
-    ap (λ x. x ∷ bs) (same_object changed (record b { content = content_after change b.content }) (class ∙ ap (λ (x : Object). x.class) same) (content ∙ ap (λ (x : Object). content_after change x.content) same))
-set_content (b ∷ bs) (suc o) ob changed change is class content = ap (λ os. b ∷ os) (set_content bs o ob changed change is class content)
+more_in : (content : Content) (more : List ℕ) (deed : List ℕ → deeds.Deed) → Some more ≡ units_in content → deeds.text_in content deed ≡ deed more
+more_in (text_content mutable old) more deed is = let same : more ≡ old = cc in sym (ap deed same)
+more_in (data_content mutable bytes) more deed is = absurd cc
+more_in (number_content n) more deed is = absurd cc
+more_in (instance_content key fields) more deed is = absurd cc
+more_in (array_content plain os) more deed is = absurd cc
+more_in (dictionary_content plain pairs) more deed is = absurd cc
 
-with_unchanged : (o : ℕ) (objects : List Object) → with_content o unchanged objects ≡ objects
-with_unchanged o [] = refl
-with_unchanged zero (ob ∷ obs) = refl
-with_unchanged (suc o) (ob ∷ obs) = ap (λ os. ob ∷ os) (with_unchanged o obs)
+more_of : (b : Option Numbered) (more : List ℕ) (deed : List ℕ → deeds.Deed) → Some more ≡ read_in units_in b → deeds.with_text b deed ≡ deed more
+more_of None more deed is = absurd cc
+more_of (Some u) more deed is = more_in u.object.content more deed is
 
-set_changed : (objects : List Object) (o : ℕ) (ob changed : Object) (change : Change) → slice_get objects o ≡ Some ob
-    → changed.class ≡ ob.class → changed.content ≡ content_after change ob.content → slice_set objects o changed ≡ with_change o change objects
-set_changed objects o ob changed unchanged is class content = set_content objects o ob changed unchanged is class content ∙ with_unchanged o objects
-set_changed objects o ob changed (contents after) is class content = set_content objects o ob changed (contents after) is class content
-set_changed objects o ob changed (places e) is class content = set_content objects o ob changed (places e) is class content
+units_of : (content : Content) (units : List ℕ) (deed other : List ℕ → deeds.Deed) → Some units ≡ mutable_units_in content → deed units ≡ other units
+    → deeds.mutable_text_in content deed ≡ deeds.mutable_text_in content other
+units_of (text_content true old) units deed other is same = let e : units ≡ old = cc in rw e at same
+units_of (text_content false old) units deed other is same = absurd cc
+units_of (data_content mutable bytes) units deed other is same = absurd cc
+units_of (number_content n) units deed other is same = absurd cc
+units_of (instance_content key fields) units deed other is same = absurd cc
+units_of (array_content plain os) units deed other is same = absurd cc
+units_of (dictionary_content plain pairs) units deed other is same = absurd cc
 
--- a deed to the content of one object, by its number
-done : {E : Type 0} (deed : Deed) (objects : List Object) (o : ℕ) (ob changed : Object) (result : Result Applied E) → slice_get objects o ≡ Some ob
-    → changed.class ≡ ob.class → DoneTo deed ob.content changed.content result → DoneAmong deed (Some o) objects (slice_set objects o changed) result
-done deed objects o ob changed (Ok a) is class did = (did.0, set_changed objects o ob changed deed.change is class did.1)
-done deed objects o ob changed (Err e) is class did = set_changed objects o ob changed unchanged is class did
+text_of : (a : Option Numbered) (units : List ℕ) (deed other : List ℕ → deeds.Deed) → Some units ≡ read_in mutable_units_in a → deed units ≡ other units
+    → deeds.with_mutable_text a deed ≡ deeds.with_mutable_text a other
+text_of None units deed other is same = absurd cc
+text_of (Some u) units deed other is same = units_of u.object.content units deed other is same
 
--- the same where the object is the first that is used
-done_among : {E : Type 0} (deed : Content → Deed) (items objects : List Object) (first : Option ℕ) (o : ℕ) (ob changed : Object) (result : Result Applied E)
-    → items ≡ objects → (first ≡ Some o) × (o < length objects) → ob ≡ get_or items o ob → changed.class ≡ ob.class
-    → DoneTo (deed ob.content) ob.content changed.content result
-    → DoneAmong (with_object (object_of objects first) (λ b. deed b.content)) first objects (slice_set items o changed) result
-done_among deed items objects first o ob changed result view made is class did =
-    let found : slice_get objects o ≡ Some ob = slice_get_read objects (length objects) o ob refl made.1 (is ∙ ap (λ obs. get_or obs o ob) view) in
-    rw (view, made.0, found) (done (deed ob.content) objects o ob changed result found class did)
+pub appended : (a b c : Option Numbered) (d : Deed) (units more other : List ℕ) (at : ℕ) → Some units ≡ read_in mutable_units_in a → Some more ≡ read_in units_in b
+    → other ≡ more → at ≡ length units → Does (deeds.with_mutable_text a (λ us. deeds.edited_text us at 0 other)) a b c d
+    → Does (deeds.with_mutable_text a (λ us. deeds.with_text b (λ m. deeds.edited_text us (length us) 0 m))) a b c d
+appended a b c d units more other at first second copied end does =
+    let deed = λ (us : List ℕ). deeds.with_text b (λ m. deeds.edited_text us (length us) 0 m) in
+    let given = λ (us : List ℕ). deeds.edited_text us at 0 other in
+    let same : deed units ≡ given units = more_of b more (λ m. deeds.edited_text units (length units) 0 m) second
+    ∙ ap (λ (m : List ℕ). deeds.edited_text units (length units) 0 m) (sym copied) ∙ ap (λ (n : ℕ). deeds.edited_text units n 0 other) (sym end) in
+    let whole : deeds.with_mutable_text a deed ≡ deeds.with_mutable_text a given = text_of a units deed given first same in
+    record { is = does.is ∙ sym whole; can = does.can; named = does.named }
 
--- a deed on a mutable text, and one on mutable data
-pub text_done : {E : Type 0} (deed : List ℕ → Deed) (items objects : List Object) (first : Option ℕ) (o : ℕ) (ob changed : Object) (result : Result Applied E)
-    → items ≡ objects → (first ≡ Some o) × (o < length objects) → ob ≡ get_or items o ob → changed.class ≡ ob.class
-    → DoneTo (mutable_text_in ob.content deed) ob.content changed.content result
-    → DoneAmong (with_mutable_text (object_of objects first) deed) first objects (slice_set items o changed) result
-text_done deed = done_among (λ content. mutable_text_in content deed)
+-- ---- pairs
 
-pub data_done : {E : Type 0} (deed : List ℕ → Deed) (items objects : List Object) (first : Option ℕ) (o : ℕ) (ob changed : Object) (result : Result Applied E)
-    → items ≡ objects → (first ≡ Some o) × (o < length objects) → ob ≡ get_or items o ob → changed.class ≡ ob.class
-    → DoneTo (mutable_data_in ob.content deed) ob.content changed.content result
-    → DoneAmong (with_mutable_data (object_of objects first) deed) first objects (slice_set items o changed) result
-data_done deed = done_among (λ content. mutable_data_in content deed)
+pub put_does : (a b c : Option Numbered) (key : Cell) (value : ℕ) (answer : Answer) (d : Deed) → number_of b ≡ Some key.id
+    → ((k : Cell) (v : ℕ) → CanBeAt (Put k v) a) → Some value ≡ number_of c → d ≡ record { answer = answer; source = Nowhere; change = Put key value }
+    → Does (deeds.with_object c (λ ob. deeds.put answer key)) a b c d
+put_does a b None key value answer d named puts is same = absurd cc
+put_does a b (Some u) key value answer d named puts is same = rw same (record { is = refl; can = puts key value; named = (named, sym is) })
 
--- a deed on a text that is there
-text_in-is : (content : Content) (units : List ℕ) (deed : List ℕ → Deed) → units_in content ≡ Some units → text_in content deed ≡ deed units
-text_in-is (text_content mutable old) units deed is = let same : old ≡ units = cc in ap deed same
-text_in-is (data_content mutable bytes) units deed is = absurd cc
-text_in-is (number_content n) units deed is = absurd cc
-text_in-is (instance_content key fields) units deed is = absurd cc
+pub take_does : (a b c : Option Numbered) (key : Cell) (d : Deed) → ((k : Cell) → CanBeAt (Take k) a)
+    → d ≡ record { answer = answers.Ok; source = Nowhere; change = Take key } → Does (deeds.changing answers.Ok (deeds.take_pair key)) a b c d
+take_does a b c key d takes same = rw same (record { is = refl; can = takes key; named = tt })
 
-pub with_text-is : (o : Option Object) (units : List ℕ) (deed : List ℕ → Deed) → text_of o ≡ Some units → with_text o deed ≡ deed units
-with_text-is None units deed is = absurd cc
-with_text-is (Some o) units deed is = text_in-is o.content units deed is
+-- ---- how many members there are after a change
 
--- what is put behind a text that is there
-more_is : (a : Option Object) (content : Content) (more : List ℕ) → units_in content ≡ Some more
-    → with_mutable_text a (λ units. text_in content (λ m. changed_to (text_content true (units ++ m)))) ≡ with_mutable_text a (λ units. changed_to (text_content true (units ++ more)))
-more_is a (text_content mutable old) more is =
-    let same : old ≡ more = cc in
-    ap (λ m. with_mutable_text a (λ units. changed_to (text_content true (units ++ m)))) same
-more_is a (data_content mutable bytes) more is = absurd cc
-more_is a (number_content n) more is = absurd cc
-more_is a (instance_content key fields) more is = absurd cc
+length-splice : {A : Type 0} (xs : List A) (i j : ℕ) (ys : List A) → i ≤ length xs → i ≤ j → length (splice xs i j ys) ≤ length xs + length ys
+length-splice xs i j ys within order =
+    omega (arith, length-append (take i xs) (ys ++ drop j xs), length-append ys (drop j xs), length-take i xs, length-drop j xs)
 
-with_more-is : (a b : Option Object) (more : List ℕ) → text_of b ≡ Some more
-    → with_mutable_text a (λ units. with_text b (λ m. changed_to (text_content true (units ++ m)))) ≡ with_mutable_text a (λ units. changed_to (text_content true (units ++ more)))
-with_more-is a None more is = absurd cc
-with_more-is a (Some o) more is = more_is a o.content more is
+length-same : (fields : List (Option ℕ)) (at : ℕ) (field : Option ℕ) → at < length fields → length (splice fields at (at + 1) (field ∷ [])) ≤ length fields + 0
+length-same fields at field within =
+    omega (arith, length-append (take at fields) (field ∷ drop (at + 1) fields), length-take at fields, length-drop (at + 1) fields)
 
-pub text_appended : {E : Type 0} (items objects : List Object) (first second : Option ℕ) (o : ℕ) (ob changed : Object) (result : Result Applied E) (more copied : List ℕ)
-    → Some more ≡ text_of (object_of objects second) → copied ≡ more
-    → items ≡ objects → (first ≡ Some o) × (o < length objects) → ob ≡ get_or items o ob → changed.class ≡ ob.class
-    → DoneTo (mutable_text_in ob.content (λ units. changed_to (text_content true (units ++ copied)))) ob.content changed.content result
-    → DoneAmong (with_mutable_text (object_of objects first) (λ units. with_text (object_of objects second) (λ m. changed_to (text_content true (units ++ m))))) first objects (slice_set items o changed) result
-text_appended items objects first second o ob changed result more copied found same view made is class did =
-    rw (with_more-is (object_of objects first) (object_of objects second) copied (sym found ∙ ap (λ m. Some m) (sym same)))
-    (text_done (λ units. changed_to (text_content true (units ++ copied))) items objects first o ob changed result view made is class did)
+length-put : (test : Cell → Bool) (key : Cell) (value : ℕ) (pairs : List (Cell × ℕ)) (b : Bool) → length (cond b (set_value test pairs value) (pairs ++ (key, value) ∷ [])) ≤ length pairs + 1
+length-put test key value pairs true = omega (arith, length-set_value test pairs value)
+length-put test key value pairs false = omega (arith, length-append pairs ((key, value) ∷ []))
 
--- a deed that changes nothing
-pub kept_among : {E : Type 0} (deed : Deed) (o : Option ℕ) (objects : List Object) (result : Result Applied E)
-    → deed.change ≡ unchanged → IfOk result (λ a. IsDeed deed a) → DoneAmong deed o objects objects result
-kept_among deed o objects (Ok a) kept told = (told, sym (ap (λ change. changed_by o change objects) kept ∙ changed_by-unchanged o objects))
-kept_among deed o objects (Err e) kept told = refl
+shorter : (p : Cell × ℕ) (ps rest : List (Cell × ℕ)) (b : Bool) → length rest ≤ length ps → length (cond b ps (p ∷ rest)) ≤ suc (length ps)
+shorter p ps rest true h = omega arith
+shorter p ps rest false h = omega (arith, h)
 
--- a part of a text changes nothing
-cut_keeps : (fault : Option StrFault) (deed : Deed) → deed.change ≡ unchanged → (unless_cut fault deed).change ≡ unchanged
-cut_keeps None deed kept = kept
-cut_keeps (Some Range) deed kept = refl
-cut_keeps (Some SplitsPair) deed kept = refl
-cut_keeps (Some NotUtf8) deed kept = refl
-cut_keeps (Some NoMemory) deed kept = refl
+length-taken : (test : Cell → Bool) (pairs : List (Cell × ℕ)) → length (remove_entry test pairs) ≤ length pairs
+length-taken test [] = omega arith
+length-taken test (p ∷ ps) = shorter p ps (remove_entry test ps) (test p.0) (length-taken test ps)
 
-pub part_keeps : (units : List ℕ) (at len : ℕ) → (part_of units at len).change ≡ unchanged
-part_keeps units at len = cut_keeps (cut_fault units at len) (made string_class (text_content false (take len (drop at units)))) refl
+members_after : (change : Change) (c : Content) → CanBe change c → members_in (deeds.content_after (done_of change) c) ≤ members_in c + members_for change
+members_after Nothing c can = omega arith
+members_after (Text at len text) (text_content true units) can = omega arith
+members_after (Text at len text) (text_content false units) can = omega arith
+members_after (Data at len bytes) (data_content true old) can = omega arith
+members_after (Data at len bytes) (data_content false old) can = omega arith
+members_after (Insert at element) (array_content plain os) can = length-splice os at (at + 0) (element ∷ []) can (omega arith)
+members_after (Replace at element) (array_content plain os) can = length-splice os at (at + 1) (element ∷ []) can (omega arith)
+members_after (Remove at) (array_content plain os) can = length-splice os at (at + 1) [] (omega (arith, can)) (omega arith)
+members_after (Fill at element) (instance_content key fields) can = length-same fields at (Some element) can
+members_after (Clear at) (instance_content key fields) can = length-same fields at None can
+members_after (Put key value) (dictionary_content plain pairs) can =
+    length-put (equal_to plain key) key value pairs (is_some (lookup (equal_to plain key) pairs))
+members_after (Take key) (dictionary_content plain pairs) can = omega (arith, length-taken (equal_to plain key) pairs)
+members_after _ _ can = absurd can
 
--- the first two of three places
-used_first : (used : List (Option ℕ)) (other : Option ℕ) → length used ≡ 3 → get_or used 0 other ≡ first_of used
-used_first [] other three = absurd (omega (arith, three))
-used_first (o ∷ os) other three = refl
+pub few_after : (change : Change) (old new : Content) → new ≡ deeds.content_after (done_of change) old → CanBe change old → members_in old + members_for change < member_limit
+    → members_in new < member_limit
+few_after change old new is can few =
+    let most = members_after change old can in
+    let same : members_in new ≡ members_in (deeds.content_after (done_of change) old) = ap members_in is in
+    omega (arith, most, same, few)
 
-used_second : (used : List (Option ℕ)) (other : Option ℕ) → length used ≡ 3 → get_or used 1 other ≡ second_of used
-used_second [] other three = absurd (omega (arith, three))
-used_second (o ∷ []) other three = absurd (omega (arith, three))
-used_second (o ∷ p ∷ os) other three = refl
+-- ---- what can be done to an object can be done to its body
 
--- what is done by the objects that are used, in which no form edits places so far
-pub done_resolved : {E : Type 0} (classes : List ClassLine) (s : Statement) (used : List (Option ℕ)) (a b : Option ℕ) (old new : List Object) (result : Result Applied E)
-    → length used ≡ 3 → DoneAmong (deed_of classes s (object_of old (get_or used 0 a)) (object_of old (get_or used 1 b))) (get_or used 0 a) old new result
-    → OnOk result (new ≡ changed_by (first_of used) (resolved used (deed_at classes old s used).change) old)
-done_resolved classes s used a b old new (Ok applied) three h =
-    let plain = (form_keeps classes s (object_of old (first_of used)) (object_of old (second_of used))).plain in
-    let here = (rw (used_first used a three, used_second used b three) at h).1 in
-    here ∙ ap (λ change. changed_by (first_of used) change old) (sym (resolved-none used (deed_at classes old s used).change plain.edits))
-done_resolved classes s used a b old new (Err e) three h = tt
+can_in : (change : Change) (o : ℕ) (b : Option BodyView) → CanBeAt change (with_number_of o (option_map object_in b)) → IfSome b (λ (x : BodyView). CanBe change x.content)
+can_in change o None can = tt
+can_in change o (Some x) can = can
+
+pub can_at : (change : Change) (bodies : List BodyView) (o : Option ℕ) → CanBeAt change (numbered (objects_of (map held_of bodies)) o)
+    → IfSome (body_at bodies o) (λ (b : BodyView). CanBe change b.content)
+can_at change bodies None can = tt
+can_at change bodies (Some o) can = can_in change o (slice_get bodies o) (rw object_at at can)
+
+-- the first of three places
+first_read : (used : List (Option ℕ)) (d e : Option ℕ) → length used ≡ 3 → get_or used 0 d ≡ get_or used 0 e
+first_read [] d e three = absurd (omega (arith, three))
+first_read (o ∷ os) d e three = refl
+
+pub can_first : (change : Change) (bodies : List BodyView) (used : List (Option ℕ)) (d e : Option ℕ) (a : Option Numbered) → length used ≡ 3
+    → a ≡ numbered (objects_of (map held_of bodies)) (get_or used 0 d) → CanBeAt change a
+    → IfSome (body_at bodies (get_or used 0 e)) (λ (b : BodyView). CanBe change b.content)
+can_first change bodies used d e a three is can =
+    rw (first_read used e d three) (can_at change bodies (get_or used 0 d) (rw is at can))

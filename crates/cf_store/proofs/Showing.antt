@@ -8,7 +8,10 @@ use Rattle.std.proofs.str.Utf16.{utf16_chars-drop_all}
 use Rattle.std.specs.Char.Utf16.{is_high_surrogate, is_low_surrogate, lone_unit_char, surrogate_pair_char, utf16_chars, utf16_lossy_chars}
 use Rattle.std.specs.List.{flat_map, join_with_byte}
 use Rattle.hex.specs.Hex.{encode_lower}
-use Rattle.cf_contents.specs.Descriptions.{more_if, shown_char, shown_bytes, member_word}
+use Rattle.cf_contents.specs.Descriptions.{more_if, shown_char, shown_bytes, member_word, pair_word}
+use Rattle.cf_contents.specs.Contents.{Content, text_content, data_content, number_content, instance_content, array_content, dictionary_content}
+use Rattle.cf_ids.specs.Words.{number_word}
+use Rattle.cf_store.specs.Bodies.{word_at, words_of, members_in}
 
 -- what is left of a list gives its next item
 next_item : (xs : List ℕ) (i c : ℕ) (rest : List ℕ) → drop i xs ≡ c ∷ rest → (take (suc i) xs ≡ take i xs ++ c ∷ []) × (drop (suc i) xs ≡ rest)
@@ -101,29 +104,36 @@ shown_some bytes count some is =
     rw (some, taken)
 
 -- one member more
-join_last : (a : Option ℕ) (ms : List (Option ℕ)) (p : ℕ) (m : Option ℕ) → m ≡ get_or ms p m → p < length ms
-    → join_with_byte 32 (map member_word (take (suc (suc p)) (a ∷ ms))) ≡ join_with_byte 32 (map member_word (take (suc p) (a ∷ ms))) ++ 32 ∷ member_word m
-join_last a [] p m is within = absurd (omega arith)
-join_last a (b ∷ ms) zero m is within = ap (λ x. member_word a ++ 32 ∷ member_word x) (sym is)
-join_last a (b ∷ ms) (suc p) m is within =
-    ap (λ xs. member_word a ++ 32 ∷ xs) (join_last b ms p m is (omega arith))
-    ∙ sym (append_assoc (member_word a) (32 ∷ join_with_byte 32 (map member_word (take (suc p) (b ∷ ms)))) (32 ∷ member_word m))
+join_last : (a : List ℕ) (words : List (List ℕ)) (p : ℕ) → p < length words
+    → join_with_byte 32 (take (suc (suc p)) (a ∷ words)) ≡ join_with_byte 32 (take (suc p) (a ∷ words)) ++ 32 ∷ word_at words p
+join_last a [] p within = absurd (omega arith)
+join_last a (b ∷ words) zero within = refl
+join_last a (b ∷ words) (suc p) within =
+    ap (λ (xs : List ℕ). a ++ 32 ∷ xs) (join_last b words p (omega arith))
+    ∙ sym (append_assoc a (32 ∷ join_with_byte 32 (take (suc p) (b ∷ words))) (32 ∷ word_at words p))
 
-pub join_first : (ms : List (Option ℕ)) (p : ℕ) (m : Option ℕ) (before out now : List ℕ) → m ≡ get_or ms p m → p < length ms → p ≤ 0
-    → out ≡ before ++ join_with_byte 32 (map member_word (take p ms)) → now ≡ out ++ member_word m
-    → now ≡ before ++ join_with_byte 32 (map member_word (take (p + 1) ms))
-join_first [] p m before out now is within first old new = absurd (omega arith)
-join_first (a ∷ ms) zero m before out now is within first old new =
-    new ∙ ap (λ xs. xs ++ member_word m) (old ∙ append-nil before) ∙ ap (λ x. before ++ member_word x) is
-join_first (a ∷ ms) (suc p) m before out now is within first old new = absurd (omega arith)
+pub join_first : (words : List (List ℕ)) (p : ℕ) (before out now : List ℕ) → p < length words → p ≤ 0
+    → out ≡ before ++ join_with_byte 32 (take p words) → now ≡ out ++ word_at words p → now ≡ before ++ join_with_byte 32 (take (p + 1) words)
+join_first [] p before out now within first old new = absurd (omega arith)
+join_first (a ∷ words) zero before out now within first old new = new ∙ ap (λ (xs : List ℕ). xs ++ a) (old ∙ append-nil before)
+join_first (a ∷ words) (suc p) before out now within first old new = absurd (omega arith)
 
-pub join_next : (ms : List (Option ℕ)) (p : ℕ) (m : Option ℕ) (before out now : List ℕ) → m ≡ get_or ms p m → p < length ms → 0 < p
-    → out ≡ before ++ join_with_byte 32 (map member_word (take p ms)) → now ≡ (out ++ 32 ∷ []) ++ member_word m
-    → now ≡ before ++ join_with_byte 32 (map member_word (take (p + 1) ms))
-join_next [] p m before out now is within more old new = absurd (omega arith)
-join_next (a ∷ ms) zero m before out now is within more old new = absurd (omega arith)
-join_next (a ∷ ms) (suc p) m before out now is within more old new =
-    let joined = join_with_byte 32 (map member_word (take (suc p) (a ∷ ms))) in
+pub join_next : (words : List (List ℕ)) (p : ℕ) (before out now : List ℕ) → p < length words → 0 < p
+    → out ≡ before ++ join_with_byte 32 (take p words) → now ≡ (out ++ 32 ∷ []) ++ word_at words p → now ≡ before ++ join_with_byte 32 (take (p + 1) words)
+join_next [] p before out now within more old new = absurd (omega arith)
+join_next (a ∷ words) zero before out now within more old new = absurd (omega arith)
+join_next (a ∷ words) (suc p) before out now within more old new =
+    let joined = join_with_byte 32 (take (suc p) (a ∷ words)) in
+    let word = word_at words p in
     rw add-one
-    (new ∙ append_assoc out (32 ∷ []) (member_word m) ∙ ap (λ xs. xs ++ 32 ∷ member_word m) old
-    ∙ append_assoc before joined (32 ∷ member_word m) ∙ ap (λ xs. before ++ xs) (sym (join_last a ms p m is (omega arith))))
+    (new ∙ append_assoc out (32 ∷ []) word ∙ ap (λ (xs : List ℕ). xs ++ 32 ∷ word) old
+    ∙ append_assoc before joined (32 ∷ word) ∙ ap (λ (xs : List ℕ). before ++ xs) (sym (join_last a words p (omega arith))))
+
+-- each member has a word
+pub length-words : (c : Content) → length (words_of c) ≡ members_in c
+length-words (text_content mutable units) = refl
+length-words (data_content mutable bytes) = refl
+length-words (number_content n) = refl
+length-words (instance_content key fields) = length-map fields member_word
+length-words (array_content plain elements) = length-map elements number_word
+length-words (dictionary_content plain pairs) = length-map pairs pair_word

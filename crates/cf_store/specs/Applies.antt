@@ -1,25 +1,72 @@
--- What the store tells of a statement that was applied.
-use Rattle.std.specs.Prelude.{◌≡◌, ℕ, List, Option, None, Some, Result, Ok, Err}
-use Rattle.cf_contents.specs.Contents.{Content, Object}
-use Rattle.cf_contents.specs.Deeds.{Source, nowhere, fresh, Deed, content_after, changed_by}
-use Rattle.cf_store.specs.declared.store.Applied.{Applied}
+-- Deeds as the store keeps them, and what it tells of one that was done.
+use Rattle.std.specs.Prelude.{◌≡◌, ℕ, List, slice_get, Option, None, Some}
+use Rattle.std.specs.Option.{option_map}
+use Rattle.cf_contents.specs.Contents.{Object}
+use Rattle.cf_contents.specs.Keys.{Numbered}
+use Rattle.cf_contents.specs.Deeds as deeds
+use Rattle.cf_store.specs.Bodies.{BodyView, held_of}
+use Rattle.cf_store.specs.Changes.{change_of, done_of, IsNamed, CanBeAt, IsReadyAt}
+use Rattle.cf_contents.specs.Stores.{live, Ready}
+use Rattle.cf_store.specs.declared.change.Change.TheVariants.{Nothing}
+use Rattle.cf_store.specs.declared.deed.Source.{Source}
+use Rattle.cf_store.specs.declared.deed.Source.TheVariants.{Nowhere, Fresh, There}
+use Rattle.cf_store.specs.declared.deed.Deed.{Deed}
+use Rattle.cf_store.specs.declared.deed.ReadyDeed.{ReadyDeed}
+use Rattle.cf_store.specs.declared.store.Edited.{Edited}
 
--- a body that is new, or none
-abbrev pub source_of : Option Object → Source
-source_of None = nowhere
-source_of (Some o) = fresh o
+abbrev pub source_of : Source → deeds.Source
+source_of Nowhere = deeds.nowhere
+source_of (Fresh ob) = deeds.fresh ob
+source_of (There o) = deeds.there o
 
--- it has the answer of the deed, and the body that it binds where that is new
-pub record IsDeed (deed : Deed) (a : Applied) : Type 0 where
-  pub answer : a.answer ≡ deed.answer
-  pub source : source_of a.fresh ≡ deed.source
+-- a deed, and the same with the objects that come in
+abbrev pub deed_by : Deed → deeds.Deed
+deed_by d = record { answer = d.answer; source = source_of d.source; change = change_of d.change }
 
--- the deed is done to a content, or a refusal has left it as it was
-abbrev pub DoneTo : {E : Type 0} → Deed → (old new : Content) → Result Applied E → Type 0
-DoneTo deed old new (Ok a) = IsDeed deed a × (new ≡ content_after deed.change old)
-DoneTo deed old new (Err e) = new ≡ old
+abbrev pub ready_by : ReadyDeed → Ready
+ready_by r = record {
+  object = r.object;
+  deed = record { answer = r.deed.answer; source = source_of r.deed.source; change = done_of r.deed.change };
+}
 
--- the same of the objects, of which the first that is used is `o`
-abbrev pub DoneAmong : {E : Type 0} → Deed → Option ℕ → (old new : List Object) → Result Applied E → Type 0
-DoneAmong deed o old new (Ok a) = IsDeed deed a × (new ≡ changed_by o deed.change old)
-DoneAmong deed o old new (Err e) = new ≡ old
+-- it is the deed on the objects that are used
+pub record Does (deed : deeds.Deed) (a b c : Option Numbered) (d : Deed) : Type 0 where
+  pub is : deed_by d ≡ deed
+  pub can : CanBeAt d.change a
+  pub named : IsNamed d.change b c
+
+-- it is a deed that changes nothing
+pub record IsAlone (deed : deeds.Deed) (d : Deed) : Type 0 where
+  pub is : deed_by d ≡ deed
+  pub change : d.change ≡ Nothing
+
+abbrev pub body_at : List BodyView → Option ℕ → Option BodyView
+body_at bodies None = None
+body_at bodies (Some o) = slice_get bodies o
+
+-- what is ready can be done
+abbrev pub IsReadyIn : List BodyView → Option ReadyDeed → Type 0
+IsReadyIn bodies None = Unit {0}
+IsReadyIn bodies (Some r) = IsReadyAt r.deed.change (body_at bodies r.object)
+
+-- the object that a deed binds, where that is new, and where it is there
+abbrev pub fresh_in : deeds.Source → Option Object
+fresh_in deeds.nowhere = None
+fresh_in (deeds.fresh ob) = Some ob
+fresh_in (deeds.there o) = None
+
+abbrev pub there_in : deeds.Source → Option ℕ
+there_in deeds.nowhere = None
+there_in (deeds.fresh ob) = None
+there_in (deeds.there o) = Some o
+
+-- an object that is there, or none
+abbrev pub source_there : Option ℕ → deeds.Source
+source_there None = deeds.nowhere
+source_there (Some o) = deeds.there o
+
+-- what is told has the answer of the deed and the object that it binds: a new body is live and has given up nothing
+pub record IsDeed (deed : deeds.Deed) (e : Edited) : Type 0 where
+  pub answer : e.answer ≡ deed.answer
+  pub fresh : option_map held_of e.fresh ≡ option_map live (fresh_in deed.source)
+  pub there : e.there ≡ there_in deed.source

@@ -1,2 +1,6 @@
+pub mod Pairs
 pub mod Bodies
+pub mod Changes
 pub mod Applies
+pub mod Groups
+pub mod Finds

@@ -1,71 +1,100 @@
 //! What an object is made of.
 ghost use Rattle.std.specs.Prelude.{◌≡◌};
-ghost use Rattle.std.specs.Option.{option_map};
-ghost use Rattle.cf_store.specs.Bodies.{units_in, number_in};
+ghost use Rattle.cf_store.specs.Bodies.{held_of};
+ghost use Rattle.cf_contents.specs.Stores.{live};
 
+use crate::pairs::Pairs;
+use cf_array::Array;
 use cf_data::Bytes;
-use cf_ids::{ObjId, Seq, TypeId};
+use cf_ids::{ObjId, TypeId};
 use cf_number::Num;
 use cf_string::Str;
 use std::marker::Model;
+
+/// A body has fewer members than this: fields, elements or pairs.
+pub(crate) const MEMBER_LIMIT: usize = 2_147_483_648;
+
+/// The key and the fields of an instance of a script's class.
+#[derive(Drop)]
+pub(crate) struct Instance {
+    pub(crate) key: i64,
+    pub(crate) fields: Vec<Option<ObjId>>,
+}
 
 /// What an object contains.
 #[derive(Drop)]
 pub(crate) enum Kind {
     /// The text of a string.
-    Text {
-        mutable: bool,
-        text: Str,
-    },
+    Text { mutable: bool, text: Str },
     /// The bytes of data.
-    Data {
-        mutable: bool,
-        bytes: Bytes,
-    },
+    Data { mutable: bool, bytes: Bytes },
     /// A number.
     Number(Num),
-    /// The key and the fields of an instance of a script's class.
-    Instance {
-        key: i64,
-        fields: Seq<Option<ObjId>>,
-    },
+    /// An instance of a script's class.
+    Instance(Instance),
+    /// The elements of an array. A plain one retains nothing.
+    Array { plain: bool, elements: Array<ObjId> },
+    /// The pairs of a dictionary.
+    Dictionary(Pairs),
 }
 
-/// The body of an object. Contracts see the object: its type, and what it contains.
+/// An object that is new. Contracts see its type, and what it contains.
 #[derive(Drop)]
-pub struct Body {
+pub(crate) struct Made {
     pub(crate) class: TypeId,
     pub(crate) kind: Kind,
 }
 
-impl Model for Body {
+impl Model for Made {
+    ghost use Rattle.std.specs.Prelude.{◌<◌};
     ghost use Rattle.cf_contents.specs.Contents.{Object};
+    ghost use Rattle.cf_store.specs.Bodies.{content_of, members_in, member_limit};
 
     ghost Value = { Object };
 
-    ghost use Rattle.cf_store.specs.Bodies.{content_of};
+    ghost view = { λ m. record { class = m.class; content = content_of m.kind } };
 
-    ghost view = { λ b. record { class = b.class; content = content_of b.kind } };
+    ghost invariant = { λ m. members_in (content_of m.kind) < member_limit };
+}
+
+/// The body of an object. Contracts see the object, whether it is finalised, how many of its slots it has
+/// given up, and how many more units, bytes, elements or pairs come in without memory.
+#[derive(Drop)]
+pub struct Body {
+    pub(crate) class: TypeId,
+    pub(crate) kind: Kind,
+    pub(crate) is_dead: bool,
+    pub(crate) given_up: u32,
+}
+
+impl Model for Body {
+    ghost use Rattle.std.specs.Prelude.{◌<◌};
+    ghost use Rattle.cf_store.specs.Bodies.{BodyView, content_of, room_of, members_in, member_limit};
+
+    ghost Value = { BodyView };
+
+    ghost view = { λ b. record {
+      class = b.class;
+      content = content_of b.kind;
+      is_dead = b.is_dead;
+      given_up = b.given_up;
+      room = room_of b.kind;
+    } };
+
+    ghost invariant = { λ b. members_in (content_of b.kind) < member_limit };
 }
 
 impl Body {
-    /// The text of a string, mutable or not.
-    pub(crate) fn text(&self) -> Option<&Str>
-        ensures { option_map (λ text. text.now.units) result ≡ units_in self.now.content }
+    /// The body of a new object.
+    pub(crate) fn of(made: Made) -> Body
+        ensures { held_of result ≡ live made }
     {
-        match &self.kind {
-            Kind::Text { text, .. } => Some(text),
-            _ => None,
-        }
-    }
-
-    /// The number that the object is.
-    pub(crate) fn number(&self) -> Option<Num>
-        ensures { result ≡ number_in self.now.content }
-    {
-        match &self.kind {
-            Kind::Number(number) => Some(*number),
-            _ => None,
+        let Made { class, kind } = made;
+        Body {
+            class,
+            kind,
+            is_dead: false,
+            given_up: 0,
         }
     }
 }

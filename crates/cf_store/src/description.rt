@@ -3,11 +3,11 @@ ghost use Rattle.std.specs.Prelude.{◌≡◌, ◌++◌, codes, take, length, na
 ghost use Rattle.std.specs.List.{flat_map};
 ghost use Rattle.std.specs.Fmt.{signed_decimal};
 ghost use Rattle.cf_contents.specs.Descriptions.{class_name, more_if, shown_char, characters_of, shown_text, shown_bytes, kind_word, shown_content, description};
-ghost use Rattle.cf_store.specs.Bodies.{content_of};
+ghost use Rattle.cf_store.specs.Bodies.{content_of, object_in, counted};
 
 use crate::body::{Body, Kind};
 use crate::making::FIRST_CLASS;
-use crate::members::push_members;
+use crate::members::{members, push_members};
 use cf_ids::TypeId;
 use cf_number::NumKind;
 use cf_string::Str;
@@ -41,7 +41,7 @@ pub(crate) fn describe(
     classes: &[ClassLine],
     body: &Body,
 ) -> Result<Vec<u8>, NoMemory>
-    ensures { IfOk result (λ d. d.items ≡ description classes.now body.now) }
+    ensures { IfOk result (λ d. d.items ≡ description classes.now (object_in body.now)) }
 {
     let mut out = Vec::from_slice(alloc, class_name(classes, body.class))?;
     out.push(b' ')?;
@@ -61,12 +61,22 @@ fn push_content(alloc: Global, out: &mut Vec<u8>, kind: &Kind) -> Result<(), NoM
             out.push(b' ')?;
             push_integer(alloc, out, number.value())
         }
-        Kind::Instance { key, fields } => {
-            push_integer(alloc, out, *key)?;
+        Kind::Instance(instance) => {
+            push_integer(alloc, out, instance.key)?;
             out.push(b' ')?;
-            push_members(alloc, out, fields.as_slice())
+            push_members(alloc, out, kind)
         }
+        Kind::Array { .. } | Kind::Dictionary(_) => push_counted(alloc, out, kind),
     }
+}
+
+/// Writes how many members there are, and the members.
+fn push_counted(alloc: Global, out: &mut Vec<u8>, kind: &Kind) -> Result<(), NoMemory>
+    ensures { OnOk result (out.new.items ≡ out.old.items ++ counted (content_of kind.now)) }
+{
+    out.extend_from_slice(members(kind).to_string(alloc)?.as_bytes())?;
+    out.push(b' ')?;
+    push_members(alloc, out, kind)
 }
 
 /// Writes a text in quotes: 32 characters at most.

@@ -1,13 +1,17 @@
-//! What statements do that use no object: most of them make a body.
-ghost use Rattle.std.specs.Prelude.{◌≡◌, None, IfOk};
-ghost use Rattle.cf_contents.specs.Contents.{text_content, data_content, number_content, string_class, data_class, number_class, instance_of};
-ghost use Rattle.cf_contents.specs.Deeds.{made, fresh_if, line_of, deed_of};
-ghost use Rattle.cf_store.specs.Applies.{IsDeed};
+//! What statements do that use no object, and those that only count references: most of them make an object.
+ghost use Rattle.std.specs.Prelude.{◌≡◌, ◌<◌, None, [], length, replicate, IfOk};
+ghost use Rattle.std.specs.Option.{option_copied};
+ghost use Rattle.cf_contents.specs.Contents.{text_content, data_content, number_content, array_content, dictionary_content, string_class, data_class, number_class, array_class, dictionary_class, instance_of};
+ghost use Rattle.cf_contents.specs.Keys.{line_of};
+ghost use Rattle.cf_contents.specs.Deeds.{made, fresh_if, deed_of};
+ghost use Rattle.cf_store.specs.Applies.{IsAlone};
 
-use crate::body::Kind;
-use crate::store::Applied;
+use crate::body::{Instance, Kind};
+use crate::deed::Deed;
+use crate::pairs::Pairs;
+use cf_array::Array;
 use cf_data::Bytes;
-use cf_ids::{Answer, Seq, TypeId};
+use cf_ids::{Answer, ObjId, TypeId};
 use cf_number::Num;
 use cf_syntax::{ClassLine, DataLiteral, Statement, TextLiteral};
 use std::alloc::{AllocError as NoMemory, Global};
@@ -21,13 +25,19 @@ const DATA: TypeId = TypeId(4);
 /// The type of numbers.
 const NUMBER: TypeId = TypeId(5);
 
+/// The type of arrays.
+const ARRAY: TypeId = TypeId(6);
+
+/// The type of dictionaries.
+const DICTIONARY: TypeId = TypeId(7);
+
 /// What a statement does where no object is found that it uses.
-pub(crate) fn act_alone(
+pub(crate) fn deed_alone(
     alloc: Global,
     classes: &[ClassLine],
     statement: &Statement,
-) -> Result<Applied, NoMemory>
-    ensures { IfOk result (λ a. IsDeed (deed_of classes.now statement.now None None) a) }
+) -> Result<Deed, NoMemory>
+    ensures { IfOk result (λ d. IsAlone (deed_of classes.now statement.now None None None) d) }
 {
     match statement {
         Statement::MakeString { text, .. } => make_text(alloc, false, text),
@@ -35,41 +45,66 @@ pub(crate) fn act_alone(
         Statement::MakeData { bytes, .. } => make_data(alloc, false, bytes),
         Statement::MakeMdata { bytes, .. } => make_data(alloc, true, bytes),
         Statement::MakeNumber { number, .. } => Ok(make_number(*number)),
+        Statement::MakeArray { plain, .. } => Ok(make_array(alloc, *plain)),
+        Statement::MakeDict { plain, .. } => Ok(make_dictionary(alloc, *plain)),
         Statement::New {
             class: Some(class),
             key,
             ..
         } => make_instance(alloc, classes, *class, *key),
-        Statement::Retain { .. } | Statement::Release { .. } => Ok(Applied::answered(Answer::Ok)),
-        _ => Ok(Applied::answered(Answer::Skip)),
+        Statement::Retain { .. } | Statement::Release { .. } => Ok(Deed::answered(Answer::Ok)),
+        _ => Ok(Deed::skipped()),
     }
 }
 
 /// Makes a string of a text.
-fn make_text(alloc: Global, mutable: bool, literal: &TextLiteral) -> Result<Applied, NoMemory>
+fn make_text(alloc: Global, mutable: bool, literal: &TextLiteral) -> Result<Deed, NoMemory>
     ensures { let deed = made string_class (text_content mutable literal.now) in
-        IfOk result (λ a. IsDeed deed a) }
+        IfOk result (λ d. IsAlone deed d) }
 {
     let text = literal.text().copy(alloc)?;
-    Ok(Applied::made(TypeId::STRING, Kind::Text { mutable, text }))
+    Ok(Deed::made(TypeId::STRING, Kind::Text { mutable, text }))
 }
 
 /// Makes data of bytes.
-fn make_data(alloc: Global, mutable: bool, literal: &DataLiteral) -> Result<Applied, NoMemory>
+fn make_data(alloc: Global, mutable: bool, literal: &DataLiteral) -> Result<Deed, NoMemory>
     ensures { let deed = made data_class (data_content mutable literal.now) in
-        IfOk result (λ a. IsDeed deed a) }
+        IfOk result (λ d. IsAlone deed d) }
 {
-    let mut bytes = Bytes::new(alloc);
-    bytes.reserve(literal.bytes().len())?;
-    bytes.append(literal.bytes());
-    Ok(Applied::made(DATA, Kind::Data { mutable, bytes }))
+    let bytes = copy_bytes(alloc, literal.bytes())?;
+    Ok(Deed::made(DATA, Kind::Data { mutable, bytes }))
+}
+
+/// The same bytes once more.
+pub(crate) fn copy_bytes(alloc: Global, bytes: &[u8]) -> Result<Bytes, NoMemory>
+    ensures { IfOk result (λ copied. copied.items ≡ bytes.now) }
+{
+    let mut copied = Bytes::new(alloc);
+    copied.reserve(bytes.len())?;
+    copied.append(bytes);
+    Ok(copied)
 }
 
 /// Makes a number.
-fn make_number(number: Num) -> Applied
-    ensures { IsDeed (made number_class (number_content number)) result }
+fn make_number(number: Num) -> Deed
+    ensures { IsAlone (made number_class (number_content number)) result }
 {
-    Applied::made(NUMBER, Kind::Number(number))
+    Deed::made(NUMBER, Kind::Number(number))
+}
+
+/// Makes an array without elements.
+fn make_array(alloc: Global, plain: bool) -> Deed
+    ensures { IsAlone (made array_class (array_content plain [])) result }
+{
+    let elements = Array::new(alloc);
+    Deed::made(ARRAY, Kind::Array { plain, elements })
+}
+
+/// Makes a dictionary without pairs.
+fn make_dictionary(alloc: Global, plain: bool) -> Deed
+    ensures { IsAlone (made dictionary_class (dictionary_content plain [])) result }
+{
+    Deed::made(DICTIONARY, Kind::Dictionary(Pairs::new(alloc, plain)))
 }
 
 /// Makes an instance of a class, with empty fields.
@@ -78,14 +113,28 @@ fn make_instance(
     classes: &[ClassLine],
     class: TypeId,
     key: i64,
-) -> Result<Applied, NoMemory>
+) -> Result<Deed, NoMemory>
     ensures { let deed = fresh_if (instance_of class key (line_of classes.now class)) in
-        IfOk result (λ a. IsDeed deed a) }
+        IfOk result (λ d. IsAlone deed d) }
 {
-    let place = class.0.saturating_sub(FIRST_CLASS);
-    let Some(line) = classes.get(usize::from(place)) else {
-        return Ok(Applied::answered(Answer::Skip));
+    let Some(line) = line_of(classes, class) else {
+        return Ok(Deed::skipped());
     };
-    let fields = Seq::from_vec(vec![in alloc; None; usize::from(line.fields)]?);
-    Ok(Applied::made(class, Kind::Instance { key, fields }))
+    let fields = empty_fields(alloc, line.fields)?;
+    Ok(Deed::made(class, Kind::Instance(Instance { key, fields })))
+}
+
+/// So many empty fields.
+fn empty_fields(alloc: Global, count: u8) -> Result<Vec<Option<ObjId>>, NoMemory>
+    ensures empty { IfOk result (λ fields. fields.items ≡ replicate count None) }
+    ensures few { IfOk result (λ fields. length fields.items < 256) }
+{
+    vec![in alloc; None; usize::from(count)]
+}
+
+/// The line of a class.
+pub(crate) fn line_of(classes: &[ClassLine], class: TypeId) -> Option<&ClassLine>
+    ensures { option_copied result ≡ line_of classes.now class }
+{
+    classes.get(usize::from(class.0.saturating_sub(FIRST_CLASS)))
 }

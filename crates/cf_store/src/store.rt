@@ -1,306 +1,215 @@
 //! Bodies by number.
-ghost use Rattle.std.specs.Prelude.{◌≡◌, ◌++◌, ◌∷◌, ◌<◌, [], None, Some, length, slice_get, true, IfOk, IfSome, IfNone, OnOk, OnErr};
-ghost use Rattle.std.specs.Option.{option_map, option_copied};
-ghost use Rattle.cf_contents.specs.Contents.{text_content, data_content};
-ghost use Rattle.cf_contents.specs.Descriptions.{description};
-ghost use Rattle.cf_contents.specs.Deeds.{unchanged, made, answered, changed_to, with_object, with_text, with_mutable_text, with_mutable_data, with_number, edited_text, edited_data, part_of, as_kind, first_of, object_of, deed_of, deed_at, resolved, changed_by};
-ghost use Rattle.cf_store.specs.Bodies.{content_of, text_of};
-ghost use Rattle.cf_store.specs.Applies.{IsDeed, DoneAmong};
+ghost use Rattle.std.specs.Prelude.{◌≡◌, ◌+◌, ◌-◌, ◌≤◌, ◌<◌, ◌++◌, ◌∷◌, [], true, false, None, Some, length, map, slice_get, vec_len, vec_capacity, IfOk, IfSome, IfNone, IsSome, OnOk, OnErr, OnSome};
+ghost use Rattle.std.specs.Option.{option_map};
+ghost use Rattle.cf_contents.specs.Contents.{present};
+ghost use Rattle.cf_contents.specs.Deeds.{object_of, coming_in, going_out, taken_in, given_out};
+ghost use Rattle.cf_store.specs.Bodies.{held_of};
+ghost use Rattle.cf_store.specs.Changes.{done_of, IsReadyAt};
+ghost use Rattle.cf_store.specs.Applies.{IsDeed, body_at, ready_by};
+ghost use Rattle.cf_contents.specs.Stores.{Held, live, objects_of, readied, with_body, body_retired, body_dropped, bodies_changed, is_live_in, given_up_in, left_in};
 
-use crate::body::{Body, Kind};
-use crate::description::describe;
-use crate::making::act_alone;
-use crate::texts::part;
-use cf_ids::{Answer, ObjId, Seq, TypeId};
-use cf_number::NumKind;
-use cf_string::Str;
+use crate::bodies::{bound, change_body, deed_among, make_room};
+use crate::body::Body;
+use crate::change::Moved;
+use crate::deed::{Deed, ReadyDeed, clear};
+use cf_ids::{Answer, ObjId, TypeId};
 use cf_syntax::{ClassLine, Statement};
 use std::alloc::{AllocError as NoMemory, Global};
 use std::marker::Model;
 
-/// What a statement answers where nothing else decides its answer, and the body that it binds where that
-/// is new.
+/// What a deed has done.
 #[derive(Drop)]
-pub struct Applied {
+pub struct Edited {
+    /// What the statement answers where nothing else decides its answer.
     pub answer: Answer,
+    /// The body of the object that is bound, where that is new.
     pub fresh: Option<Body>,
+    /// The object that is bound, where it is there already; it may be finalised.
+    pub there: Option<ObjId>,
+    /// The objects that came into the body, one for each slot more.
+    pub took: [Option<ObjId>; 2],
+    /// The objects that went out of it, in order.
+    pub gave: [Option<ObjId>; 2],
 }
 
-impl Applied {
-    /// This answer, and no new body.
-    pub(crate) fn answered(answer: Answer) -> Applied
-        ensures { IsDeed (answered answer) result }
-    {
-        Applied {
-            answer,
-            fresh: None,
-        }
-    }
-
-    /// A new body.
-    pub(crate) fn made(class: TypeId, kind: Kind) -> Applied
-        ensures { IsDeed (made class (content_of kind)) result }
-    {
-        Applied {
-            answer: Answer::Skip,
-            fresh: Some(Body { class, kind }),
-        }
-    }
-}
-
-/// The bodies of all objects that were made, by number.
+/// The bodies of all objects that were made, by number, and the deed for which room was made.
 #[derive(Drop)]
 pub struct Store {
     bodies: Vec<Body>,
+    ready: Option<ReadyDeed>,
 }
 
 impl Model for Store {
-    ghost use Rattle.std.specs.Prelude.{List};
-    ghost use Rattle.cf_contents.specs.Contents.{Object};
+    ghost use Rattle.std.specs.Prelude.{◌-◌, map, vec_len, vec_capacity};
+    ghost use Rattle.std.specs.Option.{option_map};
+    ghost use Rattle.cf_contents.specs.Stores.{StoreView};
 
-    ghost Value = { List Object };
+    ghost Value = { StoreView };
 
-    ghost view = { λ s. s.bodies.items };
+    ghost use Rattle.cf_store.specs.Bodies.{held_of};
+    ghost use Rattle.cf_store.specs.Applies.{ready_by, IsReadyIn};
+
+    ghost view = { λ s. record {
+      bodies = map held_of s.bodies.items;
+      ready = option_map ready_by s.ready;
+      room = vec_capacity s.bodies - vec_len s.bodies;
+    } };
+
+    ghost invariant = { λ s. IsReadyIn s.bodies.items s.ready };
 }
 
 impl Store {
     /// No bodies. It takes no memory.
     pub fn new(alloc: Global) -> Store
-        ensures { result ≡ [] }
+        ensures { result ≡ record { bodies = []; ready = None; room = 0 } }
     {
         Store {
             bodies: Vec::new(alloc),
+            ready: None,
         }
     }
 
     /// How many objects were made.
     pub fn count(&self) -> usize
-        ensures { result ≡ length self.now }
+        ensures { result ≡ length self.now.bodies }
     {
         self.bodies.len()
     }
 
     /// The type of an object, or `None` where it was not made.
     pub fn class(&self, o: ObjId) -> Option<TypeId>
-        ensures { result ≡ option_map (λ ob. ob.class) (slice_get self.now o) }
+        ensures { result ≡ option_map (λ (h : Held). h.object.class) (slice_get self.now.bodies o) }
     {
         let body = self.bodies.get(o.0 as usize)?;
         Some(body.class)
     }
 
-    /// Makes the next object, of this body. A refusal changes nothing.
-    pub fn make(&mut self, body: Body) -> Result<(), NoMemory>
-        ensures made { OnOk result (self.new ≡ self.old ++ body ∷ []) }
-        ensures refused { OnErr result (self.new ≡ self.old) }
+    /// Whether an object was made and is not finalised.
+    pub fn is_live(&self, o: ObjId) -> bool
+        ensures { result ≡ is_live_in self.now.bodies o }
     {
-        self.bodies.push(body)?;
-        Ok(())
+        match self.bodies.get(o.0 as usize) {
+            Some(body) => !body.is_dead,
+            None => false,
+        }
     }
 
-    /// Does what a statement does to contents, and tells the rest of its deed: `used` are the objects of the
-    /// variables that it uses, and `classes` those of its script. A refusal changes nothing.
-    pub fn apply(
+    /// How many of its slots a body has given up.
+    pub fn given_up(&self, o: ObjId) -> u32
+        ensures { result ≡ given_up_in self.now.bodies o }
+    {
+        match self.bodies.get(o.0 as usize) {
+            Some(body) => body.given_up,
+            None => 0,
+        }
+    }
+
+    /// The object in the slot at a place of those that a body had: none where the slot is given up, or was not
+    /// there.
+    pub fn slot(&self, o: ObjId, k: usize) -> Option<ObjId>
+        ensures left { let given_up = given_up_in self.now.bodies o in
+            given_up ≤ k → result ≡ slice_get (left_in self.now.bodies o) (k - given_up) }
+        ensures given_up { k < given_up_in self.now.bodies o → result ≡ None }
+    {
+        let body = self.bodies.get(o.0 as usize)?;
+        if k < body.given_up as usize {
+            return None;
+        }
+        body.slot(k)
+    }
+
+    /// Finalises an object: it gives up its slots from now on.
+    pub fn retire(&mut self, o: ObjId)
+        requires { is_live_in self.old.bodies o ≡ true }
+        ensures bodies { self.new.bodies ≡ with_body body_retired o self.old.bodies }
+        ensures ready { self.new.ready ≡ self.old.ready }
+        ensures room { self.new.room ≡ self.old.room }
+    {
+        self.bodies[o.0 as usize].retire();
+    }
+
+    /// Gives up the first slot that is left to a finalised object, and tells its place and the object in it.
+    pub fn drop_slot(&mut self, o: ObjId) -> Option<(u32, ObjId)>
+        requires { is_live_in self.old.bodies o ≡ false }
+        ensures slot { let first = slice_get (left_in self.old.bodies o) 0 in
+            result ≡ option_map (λ s. (given_up_in self.old.bodies o, s)) first }
+        ensures given_up { OnSome result (self.new.bodies ≡ with_body body_dropped o self.old.bodies) }
+        ensures ready { self.new.ready ≡ self.old.ready }
+        ensures none { IfNone result (self.new ≡ self.old) }
+        ensures room { self.new.room ≡ self.old.room }
+    {
+        let place = o.0 as usize;
+        if self.bodies.len() <= place {
+            return None;
+        }
+        self.bodies[place].drop_slot()
+    }
+
+    /// Makes the next object, of this body. It takes no memory.
+    pub fn make(&mut self, body: Body) -> ObjId
+        requires room { 0 < self.old.room }
+        requires few { length self.old.bodies < 65536 }
+        ensures number { result ≡ length self.old.bodies }
+        ensures bodies { self.new.bodies ≡ self.old.bodies ++ held_of body ∷ [] }
+        ensures ready { self.new.ready ≡ None }
+        ensures room { self.new.room + 1 ≡ self.old.room }
+    {
+        let number = self.bodies.len() as u32;
+        clear(&mut self.ready);
+        self.bodies.push_reserved(body);
+        ObjId(number)
+    }
+
+    /// Makes room for what a statement does: `used` are the objects of the variables that it uses, and `classes`
+    /// those of its script. A refusal changes no body.
+    pub fn reserve_for(
         &mut self,
         alloc: Global,
         classes: &[ClassLine],
         statement: &Statement,
         used: &[Option<ObjId>; 3],
-    ) -> Result<Applied, NoMemory>
-        ensures deed { IfOk result (λ a. IsDeed (deed_at classes.now self.old statement.now used.now) a) }
-        ensures objects { OnOk result (self.new
-            ≡ changed_by (first_of used.now) (resolved used.now (deed_at classes.now self.old statement.now used.now).change) self.old) }
-        ensures refused { OnErr result (self.new ≡ self.old) }
+    ) -> Result<(), NoMemory>
+        ensures bodies { self.new.bodies ≡ self.old.bodies }
+        ensures ready { OnOk result (self.new.ready ≡ Some (readied classes.now self.old.bodies statement.now used.now)) }
+        ensures room { OnOk result (0 < self.new.room) }
+        ensures refused { OnErr result (self.new.ready ≡ None) }
     {
-        let [first, second, _] = *used;
-        self.act(alloc, classes, statement, first, second)
+        clear(&mut self.ready);
+        self.bodies.reserve(1)?;
+        let ready = deed_among(alloc, classes, &self.bodies, statement, used)?;
+        make_room(&mut self.bodies, ready.object, &ready.deed.change)?;
+        self.ready = Some(ready);
+        Ok(())
     }
 
-    /// Does what a statement does to contents, by the first two objects that it uses.
-    fn act(
-        &mut self,
-        alloc: Global,
-        classes: &[ClassLine],
-        statement: &Statement,
-        first: Option<ObjId>,
-        second: Option<ObjId>,
-    ) -> Result<Applied, NoMemory>
-        ensures { let deed = deed_of classes.now statement.now (object_of self.old first) (object_of self.old second) in
-            DoneAmong deed first self.old self.new result }
+    /// Does the deed for which room was made, and tells what it did. It takes no memory.
+    pub fn apply(&mut self) -> Edited
+        requires { IsSome self.old.ready }
+        ensures deed { IfSome self.old.ready (λ r. IsDeed r.deed result) }
+        ensures took { IfSome self.old.ready (λ r.
+            present result.took ≡ taken_in (object_of (objects_of self.old.bodies) r.object) r.deed.change) }
+        ensures gave { IfSome self.old.ready (λ r.
+            present result.gave ≡ given_out (object_of (objects_of self.old.bodies) r.object) r.deed.change) }
+        ensures bodies { IfSome self.old.ready (λ r. self.new.bodies ≡ bodies_changed r.object r.deed.change self.old.bodies) }
+        ensures ready { self.new.ready ≡ None }
+        ensures room { self.new.room ≡ self.old.room }
     {
-        match statement {
-            Statement::Show { .. } => self.show(alloc, classes, first),
-            Statement::NumAs { kind, .. } => Ok(self.read_as(first, *kind)),
-            Statement::StrSub { at, len, .. } => self.part_of(alloc, first, *at, *len),
-            Statement::StrAppend { .. } => self.append_text(alloc, first, second),
-            Statement::StrInsert { at, text, .. } => self.replace_text(first, *at, 0, text.text()),
-            Statement::StrDelete { at, len, .. } => {
-                self.replace_text(first, *at, *len, &Str::new(alloc))
-            }
-            Statement::StrReplace { at, len, text, .. } => {
-                self.replace_text(first, *at, *len, text.text())
-            }
-            Statement::DataAppend { bytes, .. } => self.append_bytes(first, bytes.bytes()),
-            Statement::DataReplace { at, len, bytes, .. } => {
-                self.replace_bytes(first, *at, *len, bytes.bytes())
-            }
-            Statement::DataDelete { at, len, .. } => self.replace_bytes(first, *at, *len, &[]),
-            Statement::MakeString { .. }
-            | Statement::MakeMstring { .. }
-            | Statement::MakeData { .. }
-            | Statement::MakeMdata { .. }
-            | Statement::MakeNumber { .. }
-            | Statement::New { .. }
-            | Statement::Retain { .. }
-            | Statement::Release { .. } => act_alone(alloc, classes, statement),
+        let Some(ReadyDeed { object, deed }) = self.ready.take() else {
+            unreachable!()
+        };
+        let Deed {
+            answer,
+            source,
+            change,
+        } = deed;
+        let Moved { took, gave } = change_body(&mut self.bodies, object, change);
+        let (fresh, there) = bound(source);
+        Edited {
+            answer,
+            fresh,
+            there,
+            took,
+            gave,
         }
-    }
-
-    /// The body of an object, where it was made.
-    fn body(&self, o: Option<ObjId>) -> Option<&Body>
-        ensures { option_copied result ≡ object_of self.now o }
-    {
-        self.bodies.get(o?.0 as usize)
-    }
-
-    /// Where the body of an object stands, if it was made.
-    fn place(&self, o: Option<ObjId>) -> Option<usize>
-        ensures made { IfSome result (λ place. (o ≡ Some place) × (place < length self.now)) }
-        ensures none { IfNone result (object_of self.now o ≡ None) }
-    {
-        let place = o?.0 as usize;
-        if place < self.bodies.len() {
-            Some(place)
-        } else {
-            None
-        }
-    }
-
-    /// The text of an object, where it is one.
-    fn text(&self, o: Option<ObjId>) -> Option<&Str>
-        ensures { option_map (λ text. text.now.units) result ≡ text_of (object_of self.now o) }
-    {
-        self.body(o)?.text()
-    }
-
-    /// Describes an object.
-    fn show(
-        &self,
-        alloc: Global,
-        classes: &[ClassLine],
-        o: Option<ObjId>,
-    ) -> Result<Applied, NoMemory>
-        ensures { let deed = with_object (object_of self.now o)
-            (λ ob. answered (Answer.Shown (description classes.now ob))) in
-            DoneAmong deed o self.now self.now result }
-    {
-        let Some(body) = self.body(o) else {
-            return Ok(Applied::answered(Answer::Skip));
-        };
-        let description = describe(alloc, classes, body)?;
-        Ok(Applied::answered(Answer::Shown(Seq::from_vec(description))))
-    }
-
-    /// Reads a number as one of a kind.
-    fn read_as(&self, o: Option<ObjId>, kind: NumKind) -> Applied
-        ensures told { IsDeed (with_number (object_of self.now o) (as_kind kind)) result }
-        ensures kept { (with_number (object_of self.now o) (as_kind kind)).change ≡ unchanged }
-    {
-        let Some(number) = self.body(o).and_then(Body::number) else {
-            return Applied::answered(Answer::Skip);
-        };
-        Applied::answered(match number.get_as(kind) {
-            Ok(value) => Answer::Number(value),
-            Err(_) => Answer::Lossy,
-        })
-    }
-
-    /// Makes a string of a part of a text.
-    fn part_of(
-        &self,
-        alloc: Global,
-        o: Option<ObjId>,
-        at: u32,
-        len: u32,
-    ) -> Result<Applied, NoMemory>
-        ensures { let deed = with_text (object_of self.now o) (λ units. part_of units at len) in
-            DoneAmong deed o self.now self.now result }
-    {
-        match self.text(o) {
-            Some(text) => part(alloc, text, at as usize, len as usize),
-            None => Ok(Applied::answered(Answer::Skip)),
-        }
-    }
-
-    /// Puts the text of another object behind that of a mutable string. The two may be one object.
-    fn append_text(
-        &mut self,
-        alloc: Global,
-        o: Option<ObjId>,
-        other: Option<ObjId>,
-    ) -> Result<Applied, NoMemory>
-        ensures { let deed = with_mutable_text (object_of self.old o)
-            (λ units. with_text (object_of self.old other)
-            (λ more. changed_to (text_content true (units ++ more)))) in
-            DoneAmong deed o self.old self.new result }
-    {
-        let Some(other) = self.text(other) else {
-            return Ok(Applied::answered(Answer::Skip));
-        };
-        let other = other.copy(alloc)?;
-        let Some(place) = self.place(o) else {
-            return Ok(Applied::answered(Answer::Skip));
-        };
-        self.bodies[place].append_text(&other)
-    }
-
-    /// Puts a text in place of the `len` units from `at` on in a mutable string.
-    #[tactic(auto, using(crate::proofs::Doing::text_done))]
-    fn replace_text(
-        &mut self,
-        o: Option<ObjId>,
-        at: u32,
-        len: u32,
-        other: &Str,
-    ) -> Result<Applied, NoMemory>
-        ensures { let deed = with_mutable_text (object_of self.old o)
-            (λ units. edited_text units at len other.now.units) in
-            DoneAmong deed o self.old self.new result }
-    {
-        let Some(place) = self.place(o) else {
-            return Ok(Applied::answered(Answer::Skip));
-        };
-        self.bodies[place].replace_text(at as usize, len as usize, other)
-    }
-
-    /// Puts bytes behind those of mutable data.
-    #[tactic(auto, using(crate::proofs::Doing::data_done))]
-    fn append_bytes(&mut self, o: Option<ObjId>, other: &[u8]) -> Result<Applied, NoMemory>
-        ensures { let deed = with_mutable_data (object_of self.old o)
-            (λ bytes. changed_to (data_content true (bytes ++ other.now))) in
-            DoneAmong deed o self.old self.new result }
-    {
-        let Some(place) = self.place(o) else {
-            return Ok(Applied::answered(Answer::Skip));
-        };
-        self.bodies[place].append_bytes(other)
-    }
-
-    /// Puts bytes in place of the `len` bytes from `at` on in mutable data.
-    #[tactic(auto, using(crate::proofs::Doing::data_done))]
-    fn replace_bytes(
-        &mut self,
-        o: Option<ObjId>,
-        at: u32,
-        len: u32,
-        other: &[u8],
-    ) -> Result<Applied, NoMemory>
-        ensures { let deed = with_mutable_data (object_of self.old o)
-            (λ bytes. edited_data bytes at len other.now) in
-            DoneAmong deed o self.old self.new result }
-    {
-        let Some(place) = self.place(o) else {
-            return Ok(Applied::answered(Answer::Skip));
-        };
-        self.bodies[place].replace_bytes(at as usize, len as usize, other)
     }
 }

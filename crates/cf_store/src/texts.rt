@@ -1,95 +1,51 @@
-//! What statements do to texts.
-ghost use Rattle.std.specs.Prelude.{◌≡◌, ◌++◌, true, IfOk, Some};
-ghost use Rattle.cf_contents.specs.Contents.{text_content};
-ghost use Rattle.cf_contents.specs.Deeds.{skipped, changed_to, mutable_text_in, unless_cut, edited_text, part_of};
-ghost use Rattle.cf_store.specs.Applies.{IsDeed, DoneTo};
+//! Where texts may be cut.
+ghost use Rattle.std.specs.Prelude.{◌≡◌, Some, slice_index};
+ghost use Rattle.std.specs.Char.Utf16.{is_high_surrogate, is_low_surrogate};
+ghost use Rattle.cf_string.specs.Faults.{cut_fault};
+ghost use Rattle.cf_string.specs.Units.{splits_pair};
+ghost use Rattle.cf_contents.specs.Deeds.{skipped, unless_cut};
 
-use crate::body::{Body, Kind};
-use crate::store::Applied;
-use cf_ids::{Answer, TypeId};
+use cf_ids::Answer;
 use cf_string::{Str, StrFault};
-use std::alloc::{AllocError as NoMemory, Global};
 
-impl Body {
-    /// Puts a text behind that of a mutable string.
-    pub(crate) fn append_text(&mut self, other: &Str) -> Result<Applied, NoMemory>
-        ensures content { let deed = mutable_text_in self.old.content
-            (λ units. changed_to (text_content true (units ++ other.now.units))) in
-            DoneTo deed self.old.content self.new.content result }
-        ensures class { self.new.class ≡ self.old.class }
-    {
-        match &mut self.kind {
-            Kind::Text {
-                mutable: true,
-                text,
-            } => append(text, other),
-            _ => Ok(Applied::answered(Answer::Skip)),
-        }
+/// Why the units of a text may not be cut at `at` and at `at + len`, if they may not.
+pub(crate) fn cut_fault(text: &Str, at: usize, len: usize) -> Option<StrFault>
+    ensures { result ≡ cut_fault text.now.units at len }
+{
+    let all = text.length();
+    if all < at || all - at < len {
+        return Some(StrFault::Range);
     }
-
-    /// Puts a text in place of the `len` units from `at` on in a mutable string.
-    pub(crate) fn replace_text(
-        &mut self,
-        at: usize,
-        len: usize,
-        other: &Str,
-    ) -> Result<Applied, NoMemory>
-        ensures content { let deed = mutable_text_in self.old.content
-            (λ units. edited_text units at len other.now.units) in
-            DoneTo deed self.old.content self.new.content result }
-        ensures class { self.new.class ≡ self.old.class }
-    {
-        match &mut self.kind {
-            Kind::Text {
-                mutable: true,
-                text,
-            } => replace(text, at, len, other),
-            _ => Ok(Applied::answered(Answer::Skip)),
-        }
+    if splits_pair(text, at) || splits_pair(text, at + len) {
+        return Some(StrFault::SplitsPair);
     }
+    None
 }
 
-/// Puts a text behind another.
-fn append(text: &mut Str, other: &Str) -> Result<Applied, NoMemory>
-    ensures { let deed = changed_to (text_content true (text.old.units ++ other.now.units)) in
-        DoneTo deed (text_content true text.old.units) (text_content true text.new.units) result }
+/// Whether a place falls inside a surrogate pair.
+fn splits_pair(text: &Str, place: usize) -> bool
+    ensures { result ≡ splits_pair text.now.units place }
 {
-    text.reserve(other.length())?;
-    text.append(other);
-    Ok(Applied::answered(Answer::Ok))
+    0 < place
+        && 0xD800 <= unit(text, place - 1)
+        && unit(text, place - 1) < 0xDC00
+        && 0xDC00 <= unit(text, place)
+        && unit(text, place) < 0xE000
 }
 
-/// Puts a text in place of the `len` units from `at` on.
-fn replace(text: &mut Str, at: usize, len: usize, other: &Str) -> Result<Applied, NoMemory>
-    ensures { let deed = edited_text text.old.units at len other.now.units in
-        DoneTo deed (text_content true text.old.units) (text_content true text.new.units) result }
+/// The unit at a place, and 0 from the length on.
+#[tactic(auto, using(std::proofs::lemmas::Option::gets))]
+fn unit(text: &Str, place: usize) -> u16
+    ensures { result ≡ slice_index text.now.units place }
 {
-    text.reserve(other.length())?;
-    match text.replace(at, len, other) {
-        Ok(()) => Ok(Applied::answered(Answer::Ok)),
-        Err(fault) => Ok(Applied::answered(answer_to(fault))),
-    }
-}
-
-/// A new string of the `len` units from `at` on.
-pub(crate) fn part(alloc: Global, text: &Str, at: usize, len: usize) -> Result<Applied, NoMemory>
-    ensures { IfOk result (λ a. IsDeed (part_of text.now.units at len) a) }
-{
-    match text.substring(alloc, at, len) {
-        Ok(text) => Ok(Applied::made(
-            TypeId::STRING,
-            Kind::Text {
-                mutable: false,
-                text,
-            },
-        )),
-        Err(StrFault::NoMemory) => Err(NoMemory),
-        Err(fault) => Ok(Applied::answered(answer_to(fault))),
+    match text.unit_at(place) {
+        Some(unit) => unit,
+        None => 0,
     }
 }
 
 /// What is answered where a text may not be cut.
-fn answer_to(fault: StrFault) -> Answer
+pub(crate) fn answer_to(fault: StrFault) -> Answer
     ensures { result ≡ (unless_cut (Some fault) skipped).answer }
 {
     match fault {

@@ -1,7 +1,7 @@
 -- What each form of statement does to variables. This project's own; a further form adds a line to each.
 use Rattle.std.specs.Prelude.{ℕ, ◌-◌, Bool, true, false, List, [], ◌∷◌, ◌++◌, length, map, replicate, Option, Some, None}
 use Rattle.cf_syntax.specs.declared.statement.Statement.{Statement}
-use Rattle.cf_syntax.specs.declared.statement.Statement.TheVariants.{MakeString, MakeMstring, MakeData, MakeMdata, MakeNumber, New, Retain, Release, Show, StrAppend, StrInsert, StrDelete, StrReplace, StrSub, DataAppend, DataReplace, DataDelete, NumAs}
+use Rattle.cf_syntax.specs.declared.statement.Statement.TheVariants.{MakeString, MakeMstring, MakeData, MakeMdata, MakeNumber, New, Retain, Release, Show, StrAppend, StrInsert, StrDelete, StrReplace, StrSub, DataAppend, DataReplace, DataDelete, NumAs, MakeArray, MakeDict, ArrAppend, ArrInsert, ArrSet, ArrRemove, ArrTake, DictAdd, DictSet, DictReplace, DictRemove, DictTake, FieldSet, FieldClear, FieldTake}
 use Rattle.cf_syntax.specs.declared.statement.Touch.{Touch}
 use Rattle.cf_syntax.specs.declared.statement.Touch.TheVariants.{Nothing, Binds, Plus, Minus}
 
@@ -25,6 +25,21 @@ touch_of (DataAppend v bytes) = Nothing
 touch_of (DataReplace v at len bytes) = Nothing
 touch_of (DataDelete v at len) = Nothing
 touch_of (NumAs v kind) = Nothing
+touch_of (MakeArray v plain) = Binds v
+touch_of (MakeDict v plain) = Binds v
+touch_of (ArrAppend v x) = Nothing
+touch_of (ArrInsert v at x) = Nothing
+touch_of (ArrSet v at x) = Nothing
+touch_of (ArrRemove v at) = Nothing
+touch_of (ArrTake v a at) = Binds v
+touch_of (DictAdd v k x) = Nothing
+touch_of (DictSet v k x) = Nothing
+touch_of (DictReplace v k x) = Nothing
+touch_of (DictRemove v k) = Nothing
+touch_of (DictTake v d k) = Binds v
+touch_of (FieldSet v at x) = Nothing
+touch_of (FieldClear v at) = Nothing
+touch_of (FieldTake v o at) = Binds v
 
 -- the variable whose references a touch changes
 abbrev pub touched : Touch → List ℕ
@@ -53,6 +68,21 @@ read_by (DataAppend v bytes) = v ∷ []
 read_by (DataReplace v at len bytes) = v ∷ []
 read_by (DataDelete v at len) = v ∷ []
 read_by (NumAs v kind) = v ∷ []
+read_by (MakeArray v plain) = []
+read_by (MakeDict v plain) = []
+read_by (ArrAppend v x) = v ∷ x ∷ []
+read_by (ArrInsert v at x) = v ∷ x ∷ []
+read_by (ArrSet v at x) = v ∷ x ∷ []
+read_by (ArrRemove v at) = v ∷ []
+read_by (ArrTake v a at) = a ∷ []
+read_by (DictAdd v k x) = v ∷ k ∷ x ∷ []
+read_by (DictSet v k x) = v ∷ k ∷ x ∷ []
+read_by (DictReplace v k x) = v ∷ k ∷ x ∷ []
+read_by (DictRemove v k) = v ∷ k ∷ []
+read_by (DictTake v d k) = d ∷ k ∷ []
+read_by (FieldSet v at x) = v ∷ x ∷ []
+read_by (FieldClear v at) = v ∷ []
+read_by (FieldTake v o at) = o ∷ []
 
 -- the variables that a statement uses, in the order of its words
 abbrev pub used_by : Statement → List ℕ
@@ -62,6 +92,19 @@ used_by s = touched (touch_of s) ++ read_by s
 abbrev pub is_known : Statement → Bool
 is_known (New v None key) = false
 is_known _ = true
+
+-- the forms that make an object, or may make one
+abbrev pub makes_object : Statement → Bool
+makes_object (MakeString v text) = true
+makes_object (MakeMstring v text) = true
+makes_object (MakeData v bytes) = true
+makes_object (MakeMdata v bytes) = true
+makes_object (MakeNumber v number) = true
+makes_object (MakeArray v plain) = true
+makes_object (MakeDict v plain) = true
+makes_object (New v class key) = true
+makes_object (StrSub v text at len) = true
+makes_object _ = false
 
 -- a list of at most three, as three places
 abbrev pub padded : {A : Type 0} → List A → List (Option A)

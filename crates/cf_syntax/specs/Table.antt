@@ -1,5 +1,5 @@
 -- The table of the forms of statements. This project's own; a further form adds a line to each.
-use Rattle.std.specs.Prelude.{ℕ, ◌+◌, Bool, true, false, not, ◌||◌, ℤ, pos, List, [], ◌∷◌, ◌++◌, length, codes, Option, Some, None, is_some, unwrap_or, Result, Ok, Err, slice_index_or, nat_lt, nat_le, ◌==◌, ◌-◌, if◌then◌else◌}
+use Rattle.std.specs.Prelude.{ℕ, ◌+◌, Bool, true, false, not, ◌||◌, ℤ, pos, List, [], ◌∷◌, ◌++◌, length, codes, Option, Some, None, is_some, unwrap_or, Result, Ok, Err, slice_index_or, nat_lt, nat_le, ◌==◌, ◌-◌, slice_index, if◌then◌else◌}
 use Rattle.std.specs.List.{list_any, position_or_len}
 use Rattle.std.specs.Str.{bytes_eq, is_utf8, chars}
 use Rattle.cf_number.specs.declared.kinds.NumKind.{NumKind}
@@ -14,13 +14,21 @@ use Rattle.cf_syntax.specs.declared.form.DataForm.{DataForm}
 use Rattle.cf_syntax.specs.declared.form.DataForm.TheVariants as datas
 use Rattle.cf_syntax.specs.declared.form.PlainForm.{PlainForm}
 use Rattle.cf_syntax.specs.declared.form.PlainForm.TheVariants as plains
+use Rattle.cf_syntax.specs.declared.form.Collection.{Collection}
+use Rattle.cf_syntax.specs.declared.form.Collection.TheVariants as collections
+use Rattle.cf_syntax.specs.declared.form.ArrayForm.{ArrayForm}
+use Rattle.cf_syntax.specs.declared.form.ArrayForm.TheVariants as arrays
+use Rattle.cf_syntax.specs.declared.form.DictForm.{DictForm}
+use Rattle.cf_syntax.specs.declared.form.DictForm.TheVariants as dicts
+use Rattle.cf_syntax.specs.declared.form.FieldForm.{FieldForm}
+use Rattle.cf_syntax.specs.declared.form.FieldForm.TheVariants as fields
 use Rattle.cf_syntax.specs.declared.form.Class.{Class}
-use Rattle.cf_syntax.specs.declared.form.Class.TheVariants.{Fixed, Variable, Name, Text, Hex, Int, Index, Kind, Fields, Count, Equal, Equality}
+use Rattle.cf_syntax.specs.declared.form.Class.TheVariants.{Fixed, Variable, Name, Text, Hex, Int, Index, Kind, Plain, Fields, Count, Equal, Equality}
 use Rattle.cf_syntax.specs.declared.refusal.Refusal.{Refusal}
 use Rattle.cf_syntax.specs.declared.refusal.Reason.TheVariants.{Unread}
 use Rattle.cf_syntax.specs.declared.script.ClassLine.{ClassLine}
 use Rattle.cf_syntax.specs.declared.statement.Statement.{Statement}
-use Rattle.cf_syntax.specs.declared.statement.Statement.TheVariants.{MakeString, MakeMstring, MakeData, MakeMdata, MakeNumber, New, Retain, Release, Show, StrAppend, StrInsert, StrDelete, StrReplace, StrSub, DataAppend, DataReplace, DataDelete, NumAs}
+use Rattle.cf_syntax.specs.declared.statement.Statement.TheVariants.{MakeString, MakeMstring, MakeData, MakeMdata, MakeNumber, New, Retain, Release, Show, StrAppend, StrInsert, StrDelete, StrReplace, StrSub, DataAppend, DataReplace, DataDelete, NumAs, MakeArray, MakeDict, ArrAppend, ArrInsert, ArrSet, ArrRemove, ArrTake, DictAdd, DictSet, DictReplace, DictRemove, DictTake, FieldSet, FieldClear, FieldTake}
 use Rattle.cf_syntax.specs.Words.{is_name, is_text, text_of}
 use Rattle.cf_syntax.specs.Numbers.{index_of, integer_of, bytes_of, kind_of}
 
@@ -70,16 +78,34 @@ plain_classes plains.StrSub = Fixed ∷ Variable ∷ Variable ∷ Index ∷ Inde
 plain_classes plains.DataDelete = Fixed ∷ Variable ∷ Index ∷ Index ∷ []
 plain_classes plains.NumAs = Fixed ∷ Variable ∷ Kind ∷ []
 
+abbrev pub array_classes : ArrayForm → List Class
+array_classes arrays.Append = Fixed ∷ Variable ∷ Variable ∷ []
+array_classes arrays.Insert = Fixed ∷ Variable ∷ Index ∷ Variable ∷ []
+array_classes arrays.Set = Fixed ∷ Variable ∷ Index ∷ Variable ∷ []
+array_classes arrays.Remove = Fixed ∷ Variable ∷ Index ∷ []
+array_classes arrays.Take = Fixed ∷ Variable ∷ Variable ∷ Index ∷ []
+
+abbrev pub dict_classes : DictForm → List Class
+dict_classes dicts.Add = Fixed ∷ Variable ∷ Variable ∷ Variable ∷ []
+dict_classes dicts.Set = Fixed ∷ Variable ∷ Variable ∷ Variable ∷ []
+dict_classes dicts.Replace = Fixed ∷ Variable ∷ Variable ∷ Variable ∷ []
+dict_classes dicts.Remove = Fixed ∷ Variable ∷ Variable ∷ []
+dict_classes dicts.Take = Fixed ∷ Variable ∷ Variable ∷ Variable ∷ []
+
+abbrev pub field_classes : FieldForm → List Class
+field_classes fields.Set = Fixed ∷ Variable ∷ Index ∷ Variable ∷ []
+field_classes fields.Clear = Fixed ∷ Variable ∷ Index ∷ []
+field_classes fields.Take = Fixed ∷ Variable ∷ Variable ∷ Index ∷ []
+
 abbrev pub classes_of : Form → List Class
 classes_of (forms.Text form) = text_classes form
 classes_of (forms.Data form) = data_classes form
 classes_of (forms.Plain form) = plain_classes form
-
--- the third word is a variable too, as the second is of every form
-abbrev pub names_two : Form → Bool
-names_two (forms.Plain plains.StrAppend) = true
-names_two (forms.Plain plains.StrSub) = true
-names_two _ = false
+classes_of (forms.Make collection) = Fixed ∷ Variable ∷ Fixed ∷ []
+classes_of (forms.MakePlain collection) = Fixed ∷ Variable ∷ Fixed ∷ Plain ∷ []
+classes_of (forms.Array form) = array_classes form
+classes_of (forms.Dict form) = dict_classes form
+classes_of (forms.Field form) = field_classes form
 
 -- a word that finds a form
 pub record Row : Type 0 where
@@ -105,6 +131,19 @@ first_words =
     ∷ row (codes "data.replace") (forms.Data datas.DataReplace)
     ∷ row (codes "data.delete") (forms.Plain plains.DataDelete)
     ∷ row (codes "num.as") (forms.Plain plains.NumAs)
+    ∷ row (codes "arr.append") (forms.Array arrays.Append)
+    ∷ row (codes "arr.insert") (forms.Array arrays.Insert)
+    ∷ row (codes "arr.set") (forms.Array arrays.Set)
+    ∷ row (codes "arr.remove") (forms.Array arrays.Remove)
+    ∷ row (codes "arr.take") (forms.Array arrays.Take)
+    ∷ row (codes "dict.add") (forms.Dict dicts.Add)
+    ∷ row (codes "dict.set") (forms.Dict dicts.Set)
+    ∷ row (codes "dict.replace") (forms.Dict dicts.Replace)
+    ∷ row (codes "dict.remove") (forms.Dict dicts.Remove)
+    ∷ row (codes "dict.take") (forms.Dict dicts.Take)
+    ∷ row (codes "field.set") (forms.Field fields.Set)
+    ∷ row (codes "field.clear") (forms.Field fields.Clear)
+    ∷ row (codes "field.take") (forms.Field fields.Take)
     ∷ []
 
 abbrev pub kinds : List Row
@@ -114,6 +153,8 @@ kinds =
     ∷ row (codes "data") (forms.Data datas.MakeData)
     ∷ row (codes "mdata") (forms.Data datas.MakeMdata)
     ∷ row (codes "number") (forms.Plain plains.MakeNumber)
+    ∷ row (codes "array") (forms.Make collections.Array)
+    ∷ row (codes "dict") (forms.Make collections.Dict)
     ∷ []
 
 -- the form that a word finds
@@ -121,10 +162,21 @@ abbrev pub form_in : List Row → List ℕ → Result Form Refusal
 form_in [] word = Err unread
 form_in (r ∷ rs) word = if bytes_eq word r.word then Ok r.form else form_in rs word
 
+-- a form on a line of so many words: one that makes a collection makes a plain one where there is a fourth
+abbrev pub on_words : ℕ → Form → Form
+on_words count (forms.Make collection) = if nat_lt 3 count then forms.MakePlain collection else forms.Make collection
+on_words count form = form
+
+-- the form that the words of a line begin, where it makes an object
+abbrev pub make_of : List (List ℕ) → Result Form Refusal
+make_of ws = do
+  form ← form_in kinds (word_at ws 2)
+  Ok (on_words (length ws) form)
+
 -- the form that the words of a line begin
 abbrev pub form_of : List (List ℕ) → Result Form Refusal
 form_of ws =
-    if bytes_eq (word_at ws 0) (codes "make") then form_in kinds (word_at ws 2)
+    if bytes_eq (word_at ws 0) (codes "make") then make_of ws
     else form_in first_words (word_at ws 0)
 
 -- an INDEX that is at most 255
@@ -142,6 +194,7 @@ is_of Hex word = is_some (bytes_of word)
 is_of Int word = is_some (integer_of word)
 is_of Index word = is_some (index_of word)
 is_of Kind word = is_some (kind_of word)
+is_of Plain word = bytes_eq word (codes "plain")
 is_of Fields word = bytes_eq word (codes "fields")
 is_of Count word = is_count (index_of word)
 is_of Equal word = bytes_eq word (codes "equal")
@@ -164,14 +217,28 @@ pub record With (A : Type 0) : Type 0 where
 abbrev pub with_name : List (List ℕ) → List ℕ → List (List ℕ)
 with_name names word = if list_any (bytes_eq word) names then names else names ++ word ∷ []
 
--- the number of a variable is its place among the names, that of a new one behind them; there are 256
-abbrev pub numbered : List (List ℕ) → List ℕ → Result (With ℕ) Refusal
-numbered names word = let n = position_or_len (bytes_eq word) names in
-    if nat_lt n 256 then Ok (record { names = with_name names word; value = n }) else Err unread
+-- The numbers of a line's variables, with one more: its place among the names, that of a new one behind them.
+-- There are 256.
+abbrev pub with_variable : With (List ℕ) → List ℕ → Result (With (List ℕ)) Refusal
+with_variable so_far word = let n = position_or_len (bytes_eq word) so_far.names in
+    if nat_lt n 256 then Ok (record { names = with_name so_far.names word; value = so_far.value ++ n ∷ [] }) else Err unread
 
--- the number of the third word, where it is a variable
-abbrev pub second_numbered : Form → List (List ℕ) → List (List ℕ) → Result (With ℕ) Refusal
-second_numbered form names ws = if names_two form then numbered names (word_at ws 2) else Ok (record { names = names; value = 0 })
+-- the same with a word of a class, which may be a variable
+abbrev pub with_word : With (List ℕ) → Class → List ℕ → Result (With (List ℕ)) Refusal
+with_word so_far Variable word = with_variable so_far word
+with_word so_far _ word = Ok so_far
+
+-- the same with the words of a form, from left to right
+abbrev pub with_words : With (List ℕ) → List Class → List (List ℕ) → Result (With (List ℕ)) Refusal
+with_words so_far [] ws = Ok so_far
+with_words so_far (c ∷ cs) [] = Ok so_far
+with_words so_far (c ∷ cs) (w ∷ ws) = do
+  more ← with_word so_far c w
+  with_words more cs ws
+
+-- the numbers of a line's variables, in the order of its words
+abbrev pub numbered : List Class → List (List ℕ) → List (List ℕ) → Result (With (List ℕ)) Refusal
+numbered classes names ws = with_words (record { names = names; value = [] }) classes ws
 
 -- the type number of a class, by its name: 14 for the first class line
 abbrev pub class_named : List ClassLine → List ℕ → Option ℕ
@@ -201,7 +268,7 @@ with_text ws statement = do
 abbrev pub with_data : List (List ℕ) → (List ℕ → Statement) → Result Statement Refusal
 with_data ws statement = Ok (statement (unwrap_or (bytes_of (last_word ws)) []))
 
--- the statement of a form, by the numbers of its variables and its words
+-- the statement of a form, by the numbers of its variables, v, w and x, and its words
 abbrev pub text_statement : TextForm → ℕ → List (List ℕ) → Result Statement Refusal
 text_statement texts.MakeString v ws = with_text ws (λ t. MakeString v t)
 text_statement texts.MakeMstring v ws = with_text ws (λ t. MakeMstring v t)
@@ -231,21 +298,48 @@ plain_statement classes plains.StrSub v w ws = Ok (StrSub v w (index_at ws 3) (i
 plain_statement classes plains.DataDelete v w ws = Ok (DataDelete v (index_at ws 2) (index_at ws 3))
 plain_statement classes plains.NumAs v w ws = Ok (NumAs v (kind_at ws 2))
 
-abbrev pub statement_by : List ClassLine → Form → ℕ → ℕ → List (List ℕ) → Result Statement Refusal
-statement_by classes (forms.Text form) v w ws = text_statement form v ws
-statement_by classes (forms.Data form) v w ws = data_statement form v ws
-statement_by classes (forms.Plain form) v w ws = plain_statement classes form v w ws
+abbrev pub make_statement : Collection → Bool → ℕ → Statement
+make_statement collections.Array plain v = MakeArray v plain
+make_statement collections.Dict plain v = MakeDict v plain
 
--- the statement that the words of a line are, with the variables' names after it
+abbrev pub array_statement : ArrayForm → ℕ → ℕ → List (List ℕ) → Statement
+array_statement arrays.Append v w ws = ArrAppend v w
+array_statement arrays.Insert v w ws = ArrInsert v (index_at ws 2) w
+array_statement arrays.Set v w ws = ArrSet v (index_at ws 2) w
+array_statement arrays.Remove v w ws = ArrRemove v (index_at ws 2)
+array_statement arrays.Take v w ws = ArrTake v w (index_at ws 3)
+
+abbrev pub dict_statement : DictForm → ℕ → ℕ → ℕ → Statement
+dict_statement dicts.Add v w x = DictAdd v w x
+dict_statement dicts.Set v w x = DictSet v w x
+dict_statement dicts.Replace v w x = DictReplace v w x
+dict_statement dicts.Remove v w x = DictRemove v w
+dict_statement dicts.Take v w x = DictTake v w x
+
+abbrev pub field_statement : FieldForm → ℕ → ℕ → List (List ℕ) → Statement
+field_statement fields.Set v w ws = FieldSet v (index_at ws 2) w
+field_statement fields.Clear v w ws = FieldClear v (index_at ws 2)
+field_statement fields.Take v w ws = FieldTake v w (index_at ws 3)
+
+abbrev pub statement_by : List ClassLine → Form → ℕ → ℕ → ℕ → List (List ℕ) → Result Statement Refusal
+statement_by classes (forms.Text form) v w x ws = text_statement form v ws
+statement_by classes (forms.Data form) v w x ws = data_statement form v ws
+statement_by classes (forms.Plain form) v w x ws = plain_statement classes form v w ws
+statement_by classes (forms.Make collection) v w x ws = Ok (make_statement collection false v)
+statement_by classes (forms.MakePlain collection) v w x ws = Ok (make_statement collection true v)
+statement_by classes (forms.Array form) v w x ws = Ok (array_statement form v w ws)
+statement_by classes (forms.Dict form) v w x ws = Ok (dict_statement form v w x)
+statement_by classes (forms.Field form) v w x ws = Ok (field_statement form v w ws)
+
+-- the statement that the words of a line are, with the variables' names after it; a form has at most three variables
 unfoldable pub statement_of : List ClassLine → List (List ℕ) → List (List ℕ) → Result (With Statement) Refusal
 statement_of classes names ws = do
   form ← form_of ws
   _ ← required (length ws == length (classes_of form))
   _ ← are_of (classes_of form) ws
-  v ← numbered names (word_at ws 1)
-  w ← second_numbered form v.names ws
-  s ← statement_by classes form v.value w.value ws
-  Ok (record { names = w.names; value = s })
+  vs ← numbered (classes_of form) names ws
+  s ← statement_by classes form (slice_index vs.value 0) (slice_index vs.value 1) (slice_index vs.value 2) ws
+  Ok (record { names = vs.names; value = s })
 
 -- the words of a class line, and the class that they say. There are at most 1,011, and no two of one name
 abbrev pub class_words : List Class

@@ -1,6 +1,6 @@
 //! The forms of statements, and what the words of each have to be.
 ghost use Rattle.std.specs.Prelude.{◌≡◌};
-ghost use Rattle.cf_syntax.specs.Table.{classes_of, text_classes, data_classes, plain_classes, names_two};
+ghost use Rattle.cf_syntax.specs.Table.{classes_of, text_classes, data_classes, plain_classes, array_classes, dict_classes, field_classes, on_words};
 
 /// A form of statement that ends with a TEXT.
 #[derive(Clone, Copy)]
@@ -28,7 +28,8 @@ pub enum DataForm {
     DataReplace,
 }
 
-/// A form of statement that has neither, so that its statement takes no memory.
+/// A form of statement that makes, counts, shows or edits an object and has neither, so that its
+/// statement takes no memory.
 #[derive(Clone, Copy)]
 pub enum PlainForm {
     /// `make V number KIND INT`
@@ -53,12 +54,69 @@ pub enum PlainForm {
     NumAs,
 }
 
+/// What a form that makes a collection makes.
+#[derive(Clone, Copy)]
+pub enum Collection {
+    /// `array`
+    Array,
+    /// `dict`
+    Dict,
+}
+
+/// A form of statement that acts on an array.
+#[derive(Clone, Copy)]
+pub enum ArrayForm {
+    /// `arr.append A X`
+    Append,
+    /// `arr.insert A INDEX X`
+    Insert,
+    /// `arr.set A INDEX X`
+    Set,
+    /// `arr.remove A INDEX`
+    Remove,
+    /// `arr.take V A INDEX`
+    Take,
+}
+
+/// A form of statement that acts on a dictionary.
+#[derive(Clone, Copy)]
+pub enum DictForm {
+    /// `dict.add D K X`
+    Add,
+    /// `dict.set D K X`
+    Set,
+    /// `dict.replace D K X`
+    Replace,
+    /// `dict.remove D K`
+    Remove,
+    /// `dict.take V D K`
+    Take,
+}
+
+/// A form of statement that acts on a field of an instance.
+#[derive(Clone, Copy)]
+pub enum FieldForm {
+    /// `field.set O INDEX X`
+    Set,
+    /// `field.clear O INDEX`
+    Clear,
+    /// `field.take V O INDEX`
+    Take,
+}
+
 /// A form of statement. The first word of a line finds it, and behind `make` the third too.
 #[derive(Clone, Copy)]
 pub enum Form {
     Text(TextForm),
     Data(DataForm),
     Plain(PlainForm),
+    /// `make V array` and the like.
+    Make(Collection),
+    /// `make V array plain` and the like.
+    MakePlain(Collection),
+    Array(ArrayForm),
+    Dict(DictForm),
+    Field(FieldForm),
 }
 
 /// What a word of a line has to be.
@@ -80,6 +138,8 @@ pub enum Class {
     Index,
     /// A KIND: `s8`, `s16`, `s32` or `s64`.
     Kind,
+    /// The word `plain`.
+    Plain,
     /// The word `fields`.
     Fields,
     /// A number of fields: an INDEX that is at most 255.
@@ -162,6 +222,49 @@ impl PlainForm {
     }
 }
 
+impl ArrayForm {
+    fn classes(&self) -> &'static [Class]
+        ensures { result.now ≡ array_classes self.now }
+    {
+        match self {
+            ArrayForm::Append => &[Class::Fixed, Class::Variable, Class::Variable],
+            ArrayForm::Insert | ArrayForm::Set => {
+                &[Class::Fixed, Class::Variable, Class::Index, Class::Variable]
+            }
+            ArrayForm::Remove => &[Class::Fixed, Class::Variable, Class::Index],
+            ArrayForm::Take => &[Class::Fixed, Class::Variable, Class::Variable, Class::Index],
+        }
+    }
+}
+
+impl DictForm {
+    fn classes(&self) -> &'static [Class]
+        ensures { result.now ≡ dict_classes self.now }
+    {
+        match self {
+            DictForm::Add | DictForm::Set | DictForm::Replace | DictForm::Take => &[
+                Class::Fixed,
+                Class::Variable,
+                Class::Variable,
+                Class::Variable,
+            ],
+            DictForm::Remove => &[Class::Fixed, Class::Variable, Class::Variable],
+        }
+    }
+}
+
+impl FieldForm {
+    fn classes(&self) -> &'static [Class]
+        ensures { result.now ≡ field_classes self.now }
+    {
+        match self {
+            FieldForm::Set => &[Class::Fixed, Class::Variable, Class::Index, Class::Variable],
+            FieldForm::Clear => &[Class::Fixed, Class::Variable, Class::Index],
+            FieldForm::Take => &[Class::Fixed, Class::Variable, Class::Variable, Class::Index],
+        }
+    }
+}
+
 impl Form {
     /// The classes of the words, in order.
     pub fn classes(&self) -> &'static [Class]
@@ -171,16 +274,22 @@ impl Form {
             Form::Text(form) => form.classes(),
             Form::Data(form) => form.classes(),
             Form::Plain(form) => form.classes(),
+            Form::Make(_) => &[Class::Fixed, Class::Variable, Class::Fixed],
+            Form::MakePlain(_) => &[Class::Fixed, Class::Variable, Class::Fixed, Class::Plain],
+            Form::Array(form) => form.classes(),
+            Form::Dict(form) => form.classes(),
+            Form::Field(form) => form.classes(),
         }
     }
 
-    /// Whether the third word is a variable too, as the second is of every form.
-    pub fn names_two(&self) -> bool
-        ensures { result ≡ names_two self.now }
+    /// The form on a line of so many words: one that makes a collection makes a plain one where
+    /// there is a fourth.
+    pub fn on_words(self, count: usize) -> Form
+        ensures { result ≡ on_words count self }
     {
-        matches!(
-            self,
-            Form::Plain(PlainForm::StrAppend) | Form::Plain(PlainForm::StrSub)
-        )
+        match self {
+            Form::Make(collection) if 3 < count => Form::MakePlain(collection),
+            form => form,
+        }
     }
 }

@@ -10,10 +10,12 @@ mod rows;
 mod script;
 mod statement;
 
-pub use form::{Class, DataForm, Form, PlainForm, TextForm};
+pub use form::{
+    ArrayForm, Class, Collection, DataForm, DictForm, FieldForm, Form, PlainForm, TextForm,
+};
 pub use literal::{DataLiteral, TextLiteral};
 pub use place::Place;
 pub use refusal::{Reason, Refusal};
-pub use rows::a_text_and_its_script;
+pub use rows::{a_text_and_its_script, members_and_their_script};
 pub use script::{Block, ClassLine, Given, Script};
 pub use statement::{Statement, Touch};

@@ -1,6 +1,6 @@
 //! The statements of a script.
 ghost use Rattle.std.specs.Prelude.{◌≡◌};
-ghost use Rattle.cf_syntax.specs.Forms.{touch_of, used_by, is_known, padded};
+ghost use Rattle.cf_syntax.specs.Forms.{touch_of, used_by, is_known, makes_object, padded};
 
 use crate::literal::{DataLiteral, TextLiteral};
 use cf_ids::{TypeId, VarId};
@@ -40,6 +40,16 @@ pub enum Statement {
         variable: VarId,
         class: Option<TypeId>,
         key: i64,
+    },
+    /// `make V array` and `make V array plain`: a new array without elements. A plain one retains nothing.
+    MakeArray {
+        variable: VarId,
+        plain: bool,
+    },
+    /// `make V dict` and `make V dict plain`: a new dictionary without pairs.
+    MakeDict {
+        variable: VarId,
+        plain: bool,
     },
     /// `retain V`: one more reference.
     Retain {
@@ -107,6 +117,80 @@ pub enum Statement {
         variable: VarId,
         kind: NumKind,
     },
+    /// `arr.append A X`: puts X behind the last element of A.
+    ArrAppend {
+        variable: VarId,
+        element: VarId,
+    },
+    /// `arr.insert A INDEX X`: puts X in before the element at a place.
+    ArrInsert {
+        variable: VarId,
+        at: u32,
+        element: VarId,
+    },
+    /// `arr.set A INDEX X`: puts X in place of the element at a place, or behind the last one.
+    ArrSet {
+        variable: VarId,
+        at: u32,
+        element: VarId,
+    },
+    /// `arr.remove A INDEX`: takes out the element at a place.
+    ArrRemove {
+        variable: VarId,
+        at: u32,
+    },
+    /// `arr.take V A INDEX`: binds V to the element of A at a place, where there is one.
+    ArrTake {
+        variable: VarId,
+        array: VarId,
+        at: u32,
+    },
+    /// `dict.add D K X`: adds a pair of the key K and the value X, where no equal key is there.
+    DictAdd {
+        variable: VarId,
+        key: VarId,
+        value: VarId,
+    },
+    /// `dict.set D K X`: lets X be the value of the key equal to K, or adds the pair.
+    DictSet {
+        variable: VarId,
+        key: VarId,
+        value: VarId,
+    },
+    /// `dict.replace D K X`: lets X be the value of the key equal to K, where there is one.
+    DictReplace {
+        variable: VarId,
+        key: VarId,
+        value: VarId,
+    },
+    /// `dict.remove D K`: takes out the pair whose key is equal to K.
+    DictRemove {
+        variable: VarId,
+        key: VarId,
+    },
+    /// `dict.take V D K`: binds V to the value of the key equal to K, where there is one.
+    DictTake {
+        variable: VarId,
+        dictionary: VarId,
+        key: VarId,
+    },
+    /// `field.set O INDEX X`: lets a field of the instance O be X.
+    FieldSet {
+        variable: VarId,
+        at: u32,
+        element: VarId,
+    },
+    /// `field.clear O INDEX`: empties a field.
+    FieldClear {
+        variable: VarId,
+        at: u32,
+    },
+    /// `field.take V O INDEX`: binds V to the object in a field of O, where there is one.
+    FieldTake {
+        variable: VarId,
+        instance: VarId,
+        at: u32,
+    },
 }
 
 /// What a statement does to the number of references that a variable of its block owns.
@@ -134,7 +218,12 @@ impl Statement {
             | Statement::MakeMdata { variable, .. }
             | Statement::MakeNumber { variable, .. }
             | Statement::New { variable, .. }
-            | Statement::StrSub { variable, .. } => Touch::Binds(*variable),
+            | Statement::MakeArray { variable, .. }
+            | Statement::MakeDict { variable, .. }
+            | Statement::StrSub { variable, .. }
+            | Statement::ArrTake { variable, .. }
+            | Statement::DictTake { variable, .. }
+            | Statement::FieldTake { variable, .. } => Touch::Binds(*variable),
             Statement::Retain { variable } => Touch::Plus(*variable),
             Statement::Release { variable } => Touch::Minus(*variable),
             _ => Touch::Nothing,
@@ -151,7 +240,9 @@ impl Statement {
             | Statement::MakeData { .. }
             | Statement::MakeMdata { .. }
             | Statement::MakeNumber { .. }
-            | Statement::New { .. } => [None, None, None],
+            | Statement::New { .. }
+            | Statement::MakeArray { .. }
+            | Statement::MakeDict { .. } => [None, None, None],
             Statement::Retain { variable }
             | Statement::Release { variable }
             | Statement::Show { variable }
@@ -161,9 +252,50 @@ impl Statement {
             | Statement::DataAppend { variable, .. }
             | Statement::DataReplace { variable, .. }
             | Statement::DataDelete { variable, .. }
-            | Statement::NumAs { variable, .. } => [Some(*variable), None, None],
+            | Statement::NumAs { variable, .. }
+            | Statement::ArrRemove { variable, .. }
+            | Statement::FieldClear { variable, .. } => [Some(*variable), None, None],
             Statement::StrAppend { variable, other } => [Some(*variable), Some(*other), None],
             Statement::StrSub { text, .. } => [Some(*text), None, None],
+            Statement::ArrAppend { variable, element }
+            | Statement::ArrInsert {
+                variable,
+                element,
+                ..
+            }
+            | Statement::ArrSet {
+                variable,
+                element,
+                ..
+            }
+            | Statement::FieldSet {
+                variable,
+                element,
+                ..
+            } => [Some(*variable), Some(*element), None],
+            Statement::ArrTake { array, .. } => [Some(*array), None, None],
+            Statement::DictAdd {
+                variable,
+                key,
+                value,
+            }
+            | Statement::DictSet {
+                variable,
+                key,
+                value,
+            }
+            | Statement::DictReplace {
+                variable,
+                key,
+                value,
+            } => [Some(*variable), Some(*key), Some(*value)],
+            Statement::DictRemove { variable, key } => [Some(*variable), Some(*key), None],
+            Statement::DictTake {
+                dictionary,
+                key,
+                ..
+            } => [Some(*dictionary), Some(*key), None],
+            Statement::FieldTake { instance, .. } => [Some(*instance), None, None],
         }
     }
 
@@ -172,5 +304,23 @@ impl Statement {
         ensures { result ≡ is_known self.now }
     {
         !matches!(self, Statement::New { class: None, .. })
+    }
+
+    /// Whether the statement is of a form that makes an object, or may make one.
+    pub fn makes_object(&self) -> bool
+        ensures { result ≡ makes_object self.now }
+    {
+        matches!(
+            self,
+            Statement::MakeString { .. }
+                | Statement::MakeMstring { .. }
+                | Statement::MakeData { .. }
+                | Statement::MakeMdata { .. }
+                | Statement::MakeNumber { .. }
+                | Statement::MakeArray { .. }
+                | Statement::MakeDict { .. }
+                | Statement::New { .. }
+                | Statement::StrSub { .. }
+        )
     }
 }

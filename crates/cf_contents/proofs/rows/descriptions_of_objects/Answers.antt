@@ -17,3 +17,11 @@ returns-clause-number c = refl
 pub returns-clause-instance : goal.returns-clause-instance
 unfolding description_on_literals
 returns-clause-instance c = refl
+
+pub returns-clause-array : goal.returns-clause-array
+unfolding description_on_literals
+returns-clause-array c = refl
+
+pub returns-clause-dictionary : goal.returns-clause-dictionary
+unfolding description_on_literals
+returns-clause-dictionary c = refl

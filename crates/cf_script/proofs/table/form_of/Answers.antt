@@ -4,4 +4,4 @@ use Rattle.cf_script.proofs.FormLaws.{by_first_word}
 use Rattle.cf_script.proofs.table.form_of.Goals as goal
 
 pub returns-else-is : goal.returns-else-is
-returns-else-is c = by_first_word (lent c.args.words.now) c.word_at-first.result.now c.form_in-else-is.result c.word_at-first.ensures (sym c.if-is.ensures) c.form_in-else-is.ensures
+returns-else-is c = by_first_word (lent c.args.words.now) c.word_at-first.result.now c.form_in.result c.word_at-first.ensures (sym c.if-is.ensures) c.form_in.ensures

@@ -1,0 +1,57 @@
+-- What objects are compared by: an immutable string by its text, immutable data by its bytes, a number by its value, an
+-- instance of a class with keys by its key, and every other object by its identity. No change of an object changes that.
+-- This project's own, after the type callbacks of the Collections guide.
+use Rattle.std.specs.Prelude.{ℕ, ◌-◌, Bool, true, false, List, Option, Some, None, slice_get, if◌then◌else◌}
+use Rattle.cf_types.specs.Views.{FormView, text_form, data_form, whole_form, same_form}
+use Rattle.cf_types.specs.Cells.{cells_equal}
+use Rattle.cf_types.specs.declared.cells.Cell.{Cell}
+use Rattle.cf_types.specs.declared.callbacks.CellCallbacks.{CellCallbacks}
+use Rattle.cf_types.specs.declared.callbacks.CellCallbacks.TheVariants.{Typed, Plain}
+use Rattle.cf_syntax.specs.declared.script.ClassLine.{ClassLine}
+use Rattle.cf_contents.specs.Contents.{Content, text_content, data_content, number_content, instance_content, array_content, dictionary_content, Object, first_class}
+
+-- an object with its number
+pub record Numbered : Type 0 where
+  pub number : ℕ
+  pub object : Object
+
+abbrev pub with_number_of : ℕ → Option Object → Option Numbered
+with_number_of o None = None
+with_number_of o (Some ob) = Some (record { number = o; object = ob })
+
+abbrev pub numbered : List Object → Option ℕ → Option Numbered
+numbered objects None = None
+numbered objects (Some o) = with_number_of o (slice_get objects o)
+
+-- the line of a class, by the number of its type
+abbrev pub line_of : List ClassLine → ℕ → Option ClassLine
+line_of classes class = slice_get classes (class - first_class)
+
+abbrev pub is_keyed : Option ClassLine → Bool
+is_keyed None = false
+is_keyed (Some line) = line.keyed
+
+-- what an object is compared by
+abbrev pub form_of : Bool → ℕ → Content → FormView
+form_of keyed o (text_content true units) = same_form o
+form_of keyed o (text_content false units) = text_form units
+form_of keyed o (data_content true bytes) = same_form o
+form_of keyed o (data_content false bytes) = data_form bytes
+form_of keyed o (number_content n) = whole_form n.value
+form_of keyed o (instance_content key fields) = if keyed then whole_form key else same_form o
+form_of keyed o (array_content plain os) = same_form o
+form_of keyed o (dictionary_content plain pairs) = same_form o
+
+-- an object as an element of a collection
+abbrev pub cell_of : List ClassLine → Numbered → Cell
+cell_of classes u = record {
+  id = u.number;
+  leaf = record { class = u.object.class; form = form_of (is_keyed (line_of classes u.object.class)) u.number u.object.content };
+}
+
+-- equality of elements: a plain collection compares identities
+abbrev pub callbacks_of : Bool → CellCallbacks
+callbacks_of plain = if plain then Plain else Typed
+
+abbrev pub equal_to : Bool → Cell → Cell → Bool
+equal_to plain key other = cells_equal (callbacks_of plain) key other

@@ -1,0 +1,81 @@
+-- What a store is to its callers: the bodies by the numbers of their objects, the deed for which room was made, and for
+-- how many more bodies there is room.
+use Rattle.std.specs.Prelude.{ℕ, zero, suc, ◌+◌, Bool, true, false, not, List, [], ◌∷◌, Option, None, Some, map, drop, slice_get}
+use Rattle.cf_syntax.specs.declared.script.ClassLine.{ClassLine}
+use Rattle.cf_syntax.specs.declared.statement.Statement.{Statement}
+use Rattle.cf_contents.specs.Contents.{Object, slots_in}
+use Rattle.cf_contents.specs.Deeds.{Deed, Change, deed_at, resolved, first_of, changed}
+
+-- a body: its object, whether that is finalised, and how many of its slots it has given up
+pub record Held : Type 0 where
+  pub object : Object
+  pub is_dead : Bool
+  pub given_up : ℕ
+
+-- a deed that can be done, on the first object that its statement uses; what comes in has its numbers
+pub record Ready : Type 0 where
+  pub object : Option ℕ
+  pub deed : Deed
+
+pub record StoreView : Type 0 where
+  pub bodies : List Held
+  pub ready : Option Ready
+  pub room : ℕ
+
+-- a new body
+abbrev pub live : Object → Held
+live ob = record { object = ob; is_dead = false; given_up = 0 }
+
+abbrev pub objects_of : List Held → List Object
+objects_of bodies = map (λ (h : Held). h.object) bodies
+
+-- the deed of a statement among bodies
+abbrev pub readied : List ClassLine → List Held → Statement → List (Option ℕ) → Ready
+readied classes bodies s used =
+    let deed = deed_at classes (objects_of bodies) s used in
+    record {
+      object = first_of used;
+      deed = record { answer = deed.answer; source = deed.source; change = resolved used deed.change };
+    }
+
+-- bodies with one of them changed in its content, finalised, and with a slot given up
+abbrev pub with_body : (Held → Held) → ℕ → List Held → List Held
+with_body f o [] = []
+with_body f zero (h ∷ hs) = f h ∷ hs
+with_body f (suc o) (h ∷ hs) = h ∷ with_body f o hs
+
+abbrev pub body_changed : Change → Held → Held
+body_changed change h = record { object = changed change h.object; is_dead = h.is_dead; given_up = h.given_up }
+
+abbrev pub body_retired : Held → Held
+body_retired h = record { object = h.object; is_dead = true; given_up = h.given_up }
+
+abbrev pub body_dropped : Held → Held
+body_dropped h = record { object = h.object; is_dead = h.is_dead; given_up = h.given_up + 1 }
+
+abbrev pub bodies_changed : Option ℕ → Change → List Held → List Held
+bodies_changed None change bodies = bodies
+bodies_changed (Some o) change bodies = with_body (body_changed change) o bodies
+
+-- what is known of the body of an object, where it was made
+abbrev pub is_live_body : Option Held → Bool
+is_live_body None = false
+is_live_body (Some h) = not h.is_dead
+
+abbrev pub is_live_in : List Held → ℕ → Bool
+is_live_in bodies o = is_live_body (slice_get bodies o)
+
+abbrev pub given_up_by : Option Held → ℕ
+given_up_by None = 0
+given_up_by (Some h) = h.given_up
+
+abbrev pub given_up_in : List Held → ℕ → ℕ
+given_up_in bodies o = given_up_by (slice_get bodies o)
+
+-- the slots that are left to a body
+abbrev pub left_to : Option Held → List ℕ
+left_to None = []
+left_to (Some h) = drop h.given_up (slots_in h.object.content)
+
+abbrev pub left_in : List Held → ℕ → List ℕ
+left_in bodies o = left_to (slice_get bodies o)

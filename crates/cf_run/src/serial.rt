@@ -1,0 +1,204 @@
+//! The serial run: the one thread makes an entry after another, and each object has one plain number, of the references
+//! that lead to it.
+ghost use Rattle.std.specs.Prelude.{◌≡◌, ◌==◌, if◌then◌else◌, ℕ, ◌+◌, ◌*◌, ◌^◌, ◌<◌, ◌≤◌, length, OnOk, IfOk, IsSome, IsSomeAnd, IsTrue, Some, None, slice_index, Contains};
+ghost use Rattle.cf_contents.specs.Contents.{times};
+ghost use Rattle.cf_model.specs.Finals.{cut_of};
+ghost use Rattle.cf_world.specs.Worlds.{next_in, acting, ended_at};
+ghost use Rattle.cf_run.specs.Tally.{grown, raised, lowered, finals_by, is_act, ending_of as ending_by, IsRun, IsOver};
+
+use crate::tally::{Tally, tallied};
+use cf_ids::{DEFAULT_LIMIT, Ended, ObjId, ThreadId};
+use cf_model::Ending;
+use cf_script::Checked;
+use cf_world::{Next, World};
+use std::alloc::{AllocError as NoMemory, Global};
+
+/// A run as far as it has come: its world, how many references lead to each object, by number, and how many objects are
+/// finalised.
+#[derive(Drop)]
+pub struct Run {
+    pub world: World,
+    pub references: Vec<usize>,
+    pub finals: usize,
+}
+
+/// A run that is over: its world, its ending, how many references lead to each object, by number, and how many objects
+/// are finalised.
+#[derive(Drop)]
+pub struct Over {
+    pub world: World,
+    pub ending: Ending,
+    pub tallies: Vec<Tally>,
+    pub finals: usize,
+}
+
+// The numbers of so many objects, of which the last may be new.
+fn grow(references: &mut Vec<usize>, made: usize) -> Result<(), NoMemory>
+    ensures { OnOk result (references.new.items ≡ grown made references.old.items) }
+{
+    if references.len() < made {
+        references.push(0)?;
+    }
+    Ok(())
+}
+
+// One more reference to an object.
+fn raise(references: &mut Vec<usize>, o: ObjId)
+    requires made { o < length references.old.items }
+    requires fits { slice_index references.old.items o + 1 < 2 ^ 64 }
+    ensures { references.new.items ≡ raised o references.old.items }
+{
+    references[o.0 as usize] += 1;
+}
+
+// One reference less.
+fn lower(references: &mut Vec<usize>, o: ObjId)
+    requires made { o < length references.old.items }
+    requires some { 0 < slice_index references.old.items o }
+    ensures { references.new.items ≡ lowered o references.old.items }
+{
+    references[o.0 as usize] -= 1;
+}
+
+// One more reference to each of these objects.
+fn raise_all(references: &mut Vec<usize>, gained: &[ObjId])
+    requires made { (o : ℕ) → Contains gained.now o → o < length references.old.items }
+    requires fits { (o : ℕ) → slice_index references.old.items o + length gained.now < 2 ^ 64 }
+    ensures size { length references.new.items ≡ length references.old.items }
+    ensures at { (o : ℕ) → o < length references.old.items → slice_index references.new.items o ≡ slice_index references.old.items o + times o gained.now }
+{
+    for o in gained {
+        raise(references, *o);
+    }
+}
+
+// What the release of a reference to an object leaves, by the number of references before it.
+fn ended(references: &[usize], o: ObjId) -> Ended
+    requires made { o < length references.now }
+    ensures { result ≡ ended_at (slice_index references.now o) }
+{
+    if references[o.0 as usize] == 1 {
+        Ended::Last
+    } else {
+        Ended::More
+    }
+}
+
+// How many more objects are finalised.
+fn finals(ended: Ended) -> usize
+    ensures { result ≡ finals_by ended }
+{
+    match ended {
+        Ended::Last => 1,
+        Ended::More => 0,
+    }
+}
+
+impl Run {
+    // A run at its start.
+    fn begin(alloc: Global, script: Checked) -> Result<Run, NoMemory>
+        ensures run { IfOk result (λ r. IsRun r.world r.references.items r.finals) }
+        ensures script { IfOk result (λ r. r.world.script ≡ Some script) }
+    {
+        let mut world = World::empty(alloc);
+        world.begin(script, DEFAULT_LIMIT as u32)?;
+        Ok(Run {
+            world,
+            references: Vec::new(alloc),
+            finals: 0,
+        })
+    }
+
+    // The thread may act.
+    fn can_go(&self) -> bool
+        ensures { result ≡ is_act (next_in self.now.world 0) }
+    {
+        match &self.world.next(ThreadId::SETUP) {
+            Next::Act(_) => true,
+            _ => false,
+        }
+    }
+
+    // How the run ends, where the thread may not act.
+    fn ending(&self) -> Ending
+        ensures { result ≡ ending_by (next_in self.now.world 0) }
+    {
+        match &self.world.next(ThreadId::SETUP) {
+            Next::Done => Ending::Done,
+            Next::Limit => Ending::Limit,
+            Next::Full => Ending::Full,
+            _ => Ending::Stalled,
+        }
+    }
+
+    // Does an action that takes a reference to an object away.
+    fn release(&mut self, o: ObjId)
+        requires run { IsRun self.old.world self.old.references.items self.old.finals }
+        requires room { self.old.world.room ≡ Some 0 }
+        requires acts { IsSomeAnd (acting self.old.world 0) (λ a. cut_of a ≡ Some o) }
+        ensures run { IsRun self.new.world self.new.references.items self.new.finals }
+        ensures script { self.new.world.script ≡ self.old.world.script }
+        ensures more { length self.new.world.journal ≡ length self.old.world.journal + 1 }
+    {
+        let ended = ended(self.references.as_slice(), o);
+        self.world.release(ThreadId::SETUP, o, ended);
+        lower(&mut self.references, o);
+        self.finals += finals(ended);
+    }
+
+    // Does an action that takes no reference away.
+    fn apply(&mut self) -> Result<(), NoMemory>
+        requires run { IsRun self.old.world self.old.references.items self.old.finals }
+        requires room { self.old.world.room ≡ Some 0 }
+        requires acts { IsSomeAnd (acting self.old.world 0) (λ a. cut_of a ≡ None) }
+        ensures run { OnOk result (IsRun self.new.world self.new.references.items self.new.finals) }
+        ensures script { self.new.world.script ≡ self.old.world.script }
+        ensures more { length self.new.world.journal ≡ length self.old.world.journal + 1 }
+    {
+        self.world.apply(ThreadId::SETUP);
+        grow(&mut self.references, self.world.made())?;
+        raise_all(&mut self.references, self.world.gained());
+        Ok(())
+    }
+
+    // Does the next action. Want of memory leaves the run where no one may go on with it.
+    fn step(&mut self, alloc: Global) -> Result<(), NoMemory>
+        requires run { IsRun self.old.world self.old.references.items self.old.finals }
+        requires going { IsTrue (is_act (next_in self.old.world 0)) }
+        ensures run { OnOk result (IsRun self.new.world self.new.references.items self.new.finals) }
+        ensures script { OnOk result (self.new.world.script ≡ self.old.world.script) }
+        ensures more { OnOk result (length self.new.world.journal ≡ length self.old.world.journal + 1) }
+    {
+        self.world.reserve(alloc, ThreadId::SETUP)?;
+        let next = self.world.next(ThreadId::SETUP);
+        let Next::Act(action) = &next else {
+            return Ok(());
+        };
+        match &action.cuts() {
+            Some(o) => {
+                self.release(*o);
+                Ok(())
+            }
+            None => self.apply(),
+        }
+    }
+}
+
+/// Runs a script to its end.
+pub fn run_script(alloc: Global, script: Checked) -> Result<Over, NoMemory>
+    ensures { IfOk result (λ over. IsOver script over.world over.ending over.tallies.items over.finals) }
+{
+    let mut run = Run::begin(alloc, script)?;
+    while run.can_go() {
+        run.step(alloc)?;
+    }
+    let ending = run.ending();
+    let edges = run.world.edges(alloc)?;
+    let tallies = tallied(alloc, run.world.made(), &edges)?;
+    Ok(Over {
+        world: run.world,
+        ending,
+        tallies,
+        finals: run.finals,
+    })
+}

@@ -1,0 +1,10 @@
+use Rattle.cf_store.proofs.Setting.{held_at, ready_at}
+use Rattle.cf_store.proofs.bodies.make_room.Goals as goal
+
+pub returns-in-Some-clause-held : goal.returns-in-Some-clause-held
+returns-in-Some-clause-held c =
+    held_at _ _ _ _ (rw c.deref.ensures.value at c.in-Some.ensures.made).1 c.index_mut.ensures.value c.reserve.ensures.held
+
+pub returns-in-Some-clause-ready : goal.returns-in-Some-clause-ready
+returns-in-Some-clause-ready c =
+    ready_at _ _ _ _ _ _ _ (rw c.deref.ensures.value at c.in-Some.ensures.made) c.index_mut.ensures.value c.requires c.reserve.ensures.held c.reserve.ensures.room

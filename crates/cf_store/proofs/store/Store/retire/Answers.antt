@@ -1,0 +1,14 @@
+use Rattle.std.proofs.Common.{ap}
+use Rattle.cf_contents.specs.Stores.{Held, body_retired}
+use Rattle.cf_store.proofs.Setting.{set_at, ready_stays, live_within}
+use Rattle.cf_store.proofs.store.Store.retire.Goals as goal
+
+pub invariant_of-self : goal.invariant_of-self
+invariant_of-self c =
+    ready_stays c.self.inside.ready _ _ _ _ (live_within _ _ (rw (← c.self.view_is, ← c.o.view_is) at c.requires)) c.index_mut.ensures.value
+    (ap (λ (h : Held). h.object.content) c.retire.ensures.held) c.retire.ensures.room c.self.invariant
+
+pub returns-clause-bodies : goal.returns-clause-bodies
+returns-clause-bodies c =
+    rw (← c.self.view_is, ← c.o.view_is)
+    (set_at body_retired _ _ _ _ (live_within _ _ (rw (← c.self.view_is, ← c.o.view_is) at c.requires)) c.index_mut.ensures.value c.retire.ensures.held)

@@ -1,0 +1,101 @@
+//! The bodies among which a statement acts.
+ghost use Rattle.std.specs.Prelude.{◌≡◌, ◌<◌, map, length, Some, None, vec_len, vec_capacity, IfOk, IfSome, IfNone, OnOk};
+ghost use Rattle.std.specs.Option.{option_map};
+ghost use Rattle.cf_contents.specs.Contents.{present};
+ghost use Rattle.cf_contents.specs.Deeds.{object_of, taken_in, given_out};
+ghost use Rattle.cf_store.specs.Bodies.{held_of};
+ghost use Rattle.cf_store.specs.Changes.{done_of, CanBe, IsReadyAt};
+ghost use Rattle.cf_store.specs.Applies.{body_at, ready_by, source_of, fresh_in, there_in};
+ghost use Rattle.cf_contents.specs.Stores.{live, objects_of, readied, bodies_changed};
+
+use crate::body::Body;
+use crate::change::{Change, Moved};
+use crate::deed::{ReadyDeed, Source};
+use crate::deeds::deed;
+use crate::seen::{Found, see};
+use cf_ids::ObjId;
+use cf_syntax::{ClassLine, Statement};
+use std::alloc::{AllocError as NoMemory, Global};
+
+/// What a statement does among bodies, where it uses these objects.
+pub(crate) fn deed_among(
+    alloc: Global,
+    classes: &[ClassLine],
+    bodies: &[Body],
+    statement: &Statement,
+    used: &[Option<ObjId>; 3],
+) -> Result<ReadyDeed, NoMemory>
+    ensures ready { IfOk result (λ r. ready_by r ≡ readied classes.now (map held_of bodies.now) statement.now used.now) }
+    ensures can { IfOk result (λ r. IfSome (body_at bodies.now r.object) (λ b. CanBe r.deed.change b.content)) }
+{
+    let found = Found {
+        first: see(bodies, used[0]),
+        second: see(bodies, used[1]),
+        third: see(bodies, used[2]),
+    };
+    let deed = deed(alloc, classes, statement, &found)?;
+    Ok(ReadyDeed {
+        object: used[0],
+        deed,
+    })
+}
+
+/// Where the body of an object stands, if it was made.
+fn place_of(bodies: &[Body], object: Option<ObjId>) -> Option<usize>
+    ensures made { IfSome result (λ place. (object ≡ Some place) × (place < length bodies.now)) }
+    ensures none { IfNone result (body_at bodies.now object ≡ None) }
+{
+    let place = object?.0 as usize;
+    if place < bodies.len() {
+        Some(place)
+    } else {
+        None
+    }
+}
+
+/// Makes room for a change of the body of an object.
+pub(crate) fn make_room(
+    bodies: &mut Vec<Body>,
+    object: Option<ObjId>,
+    change: &Change,
+) -> Result<(), NoMemory>
+    requires { IfSome (body_at bodies.old.items object) (λ b. CanBe change.now b.content) }
+    ensures held { map held_of bodies.new.items ≡ map held_of bodies.old.items }
+    ensures ready { OnOk result (IsReadyAt change.now (body_at bodies.new.items object)) }
+    ensures len { vec_len bodies.new ≡ vec_len bodies.old }
+    ensures capacity { vec_capacity bodies.new ≡ vec_capacity bodies.old }
+{
+    match place_of(bodies, object) {
+        Some(place) => bodies[place].reserve(change),
+        None => Ok(()),
+    }
+}
+
+/// Changes the body of an object, where it was made.
+pub(crate) fn change_body(bodies: &mut Vec<Body>, object: Option<ObjId>, change: Change) -> Moved
+    requires { IsReadyAt change (body_at bodies.old.items object) }
+    ensures bodies { map held_of bodies.new.items ≡ bodies_changed object (done_of change) (map held_of bodies.old.items) }
+    ensures took { let old = objects_of (map held_of bodies.old.items) in
+        present result.took ≡ taken_in (object_of old object) (done_of change) }
+    ensures gave { let old = objects_of (map held_of bodies.old.items) in
+        present result.gave ≡ given_out (object_of old object) (done_of change) }
+    ensures len { vec_len bodies.new ≡ vec_len bodies.old }
+    ensures capacity { vec_capacity bodies.new ≡ vec_capacity bodies.old }
+{
+    match place_of(bodies, object) {
+        Some(place) => bodies[place].change(change),
+        None => Moved::nothing(),
+    }
+}
+
+/// The object that is bound: a new body, or one that is there.
+pub(crate) fn bound(source: Source) -> (Option<Body>, Option<ObjId>)
+    ensures fresh { option_map held_of result.0 ≡ option_map live (fresh_in (source_of source)) }
+    ensures there { result.1 ≡ there_in (source_of source) }
+{
+    match source {
+        Source::Nowhere => (None, None),
+        Source::Fresh(made) => (Some(Body::of(made)), None),
+        Source::There(object) => (None, Some(object)),
+    }
+}

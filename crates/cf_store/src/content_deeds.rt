@@ -1,0 +1,183 @@
+//! What statements do to texts, data and numbers.
+ghost use Rattle.std.specs.Prelude.{◌≡◌, ◌+◌, ◌≤◌, [], true, length, IfOk};
+ghost use Rattle.cf_ids.specs.declared.answer.Answer.TheVariants as answers;
+ghost use Rattle.cf_contents.specs.Descriptions.{description};
+ghost use Rattle.cf_contents.specs.Deeds.{answered, with_object, with_text, with_mutable_text, with_mutable_data, with_number, edited_text, edited_data, part_of, as_kind, deed_of};
+ghost use Rattle.cf_store.specs.Applies.{Does, IsAlone};
+ghost use Rattle.cf_store.specs.Groups.{acts_on_content};
+
+use crate::body::Kind;
+use crate::change::Change;
+use crate::deed::Deed;
+use crate::description::describe;
+use crate::making::copy_bytes;
+use crate::seen::{Found, Seen, mutable_bytes_in, mutable_text_in, number_in, text_in};
+use crate::texts::{answer_to, cut_fault};
+use cf_data::Bytes;
+use cf_ids::{Answer, Seq, TypeId};
+use cf_number::NumKind;
+use cf_string::{Str, StrFault};
+use cf_syntax::{ClassLine, Statement};
+use std::alloc::{AllocError as NoMemory, Global};
+
+/// What a statement does to a text, to data or to a number, or shows of any object.
+pub(crate) fn content_deed(
+    alloc: Global,
+    classes: &[ClassLine],
+    statement: &Statement,
+    used: &Found,
+) -> Result<Deed, NoMemory>
+    requires { acts_on_content statement.now ≡ true }
+    ensures { let deed = deed_of classes.now statement.now used.now.first used.now.second used.now.third in
+        IfOk result (λ d. Does deed used.now.first used.now.second used.now.third d) }
+{
+    match statement {
+        Statement::Show { .. } => show(alloc, classes, used),
+        Statement::NumAs { kind, .. } => Ok(read_as(used, *kind)),
+        Statement::StrSub { at, len, .. } => take_part(alloc, used, *at, *len),
+        Statement::StrAppend { .. } => append_text(alloc, used),
+        Statement::StrInsert { at, text, .. } => put_text(alloc, used, *at, 0, text.text()),
+        Statement::StrDelete { at, len, .. } => {
+            Ok(edit_text(used, *at as usize, *len as usize, Str::new(alloc)))
+        }
+        Statement::StrReplace { at, len, text, .. } => {
+            put_text(alloc, used, *at, *len, text.text())
+        }
+        Statement::DataAppend { bytes, .. } => append_bytes(alloc, used, bytes.bytes()),
+        Statement::DataReplace { at, len, bytes, .. } => {
+            put_bytes(alloc, used, *at, *len, bytes.bytes())
+        }
+        Statement::DataDelete { at, len, .. } => {
+            Ok(edit_bytes(used, *at as usize, *len as usize, Bytes::new(alloc)))
+        }
+        _ => unreachable!(),
+    }
+}
+
+/// Describes an object.
+fn show(alloc: Global, classes: &[ClassLine], used: &Found) -> Result<Deed, NoMemory>
+    ensures { let deed = with_object used.now.first (λ ob. answered (answers.Shown (description classes.now ob))) in
+        IfOk result (λ d. Does deed used.now.first used.now.second used.now.third d) }
+{
+    let Some(seen) = &used.first else {
+        return Ok(Deed::skipped());
+    };
+    let description = describe(alloc, classes, seen.body)?;
+    Ok(Deed::answered(Answer::Shown(Seq::from_vec(description))))
+}
+
+/// Reads a number as one of a kind.
+fn read_as(used: &Found, kind: NumKind) -> Deed
+    ensures { Does (with_number used.now.first (as_kind kind)) used.now.first used.now.second used.now.third result }
+{
+    let Some(number) = number_in(&used.first) else {
+        return Deed::skipped();
+    };
+    Deed::answered(match number.get_as(kind) {
+        Ok(value) => Answer::Number(value),
+        Err(_) => Answer::Lossy,
+    })
+}
+
+/// Makes a string of a part of a text.
+fn take_part(alloc: Global, used: &Found, at: u32, len: u32) -> Result<Deed, NoMemory>
+    ensures { let deed = with_text used.now.first (λ units. part_of units at len) in
+        IfOk result (λ d. Does deed used.now.first used.now.second used.now.third d) }
+{
+    match text_in(&used.first) {
+        Some(text) => part(alloc, text, at as usize, len as usize),
+        None => Ok(Deed::skipped()),
+    }
+}
+
+/// A new string of the `len` units from `at` on.
+fn part(alloc: Global, text: &Str, at: usize, len: usize) -> Result<Deed, NoMemory>
+    ensures { IfOk result (λ d. IsAlone (part_of text.now.units at len) d) }
+{
+    match text.substring(alloc, at, len) {
+        Ok(text) => Ok(Deed::made(
+            TypeId::STRING,
+            Kind::Text {
+                mutable: false,
+                text,
+            },
+        )),
+        Err(StrFault::NoMemory) => Err(NoMemory),
+        Err(fault) => Ok(Deed::answered(answer_to(fault))),
+    }
+}
+
+/// Puts the text of another object behind that of a mutable string. The two may be one object.
+fn append_text(alloc: Global, used: &Found) -> Result<Deed, NoMemory>
+    ensures { let deed = with_mutable_text used.now.first
+        (λ units. with_text used.now.second (λ more. edited_text units (length units) 0 more)) in
+        IfOk result (λ d. Does deed used.now.first used.now.second used.now.third d) }
+{
+    let Some(text) = mutable_text_in(&used.first) else {
+        return Ok(Deed::skipped());
+    };
+    let Some(other) = text_in(&used.second) else {
+        return Ok(Deed::skipped());
+    };
+    let other = other.copy(alloc)?;
+    Ok(edit_text(used, text.length(), 0, other))
+}
+
+/// Puts a copy of a text in place of the `len` units from `at` on in a mutable string.
+fn put_text(alloc: Global, used: &Found, at: u32, len: u32, other: &Str) -> Result<Deed, NoMemory>
+    ensures { let deed = with_mutable_text used.now.first (λ units. edited_text units at len other.now.units) in
+        IfOk result (λ d. Does deed used.now.first used.now.second used.now.third d) }
+{
+    let other = other.copy(alloc)?;
+    Ok(edit_text(used, at as usize, len as usize, other))
+}
+
+/// Puts a text in place of the `len` units from `at` on in a mutable string.
+fn edit_text(used: &Found, at: usize, len: usize, text: Str) -> Deed
+    ensures { let deed = with_mutable_text used.now.first (λ units. edited_text units at len text.units) in
+        Does deed used.now.first used.now.second used.now.third result }
+{
+    let Some(old) = mutable_text_in(&used.first) else {
+        return Deed::skipped();
+    };
+    match cut_fault(old, at, len) {
+        None => Deed::changing(Answer::Ok, Change::Text { at, len, text }),
+        Some(fault) => Deed::answered(answer_to(fault)),
+    }
+}
+
+/// Puts bytes behind those of mutable data.
+fn append_bytes(alloc: Global, used: &Found, other: &[u8]) -> Result<Deed, NoMemory>
+    ensures { let deed = with_mutable_data used.now.first (λ old. edited_data old (length old) 0 other.now) in
+        IfOk result (λ d. Does deed used.now.first used.now.second used.now.third d) }
+{
+    let Some(old) = mutable_bytes_in(&used.first) else {
+        return Ok(Deed::skipped());
+    };
+    let other = copy_bytes(alloc, other)?;
+    Ok(edit_bytes(used, old.length(), 0, other))
+}
+
+/// Puts a copy of bytes in place of the `len` bytes from `at` on in mutable data.
+fn put_bytes(alloc: Global, used: &Found, at: u32, len: u32, other: &[u8]) -> Result<Deed, NoMemory>
+    ensures { let deed = with_mutable_data used.now.first (λ old. edited_data old at len other.now) in
+        IfOk result (λ d. Does deed used.now.first used.now.second used.now.third d) }
+{
+    let other = copy_bytes(alloc, other)?;
+    Ok(edit_bytes(used, at as usize, len as usize, other))
+}
+
+/// Puts bytes in place of the `len` bytes from `at` on in mutable data.
+fn edit_bytes(used: &Found, at: usize, len: usize, bytes: Bytes) -> Deed
+    ensures { let deed = with_mutable_data used.now.first (λ old. edited_data old at len bytes.items) in
+        Does deed used.now.first used.now.second used.now.third result }
+{
+    let Some(old) = mutable_bytes_in(&used.first) else {
+        return Deed::skipped();
+    };
+    let all = old.length();
+    if all < at || all - at < len {
+        return Deed::answered(Answer::Range);
+    }
+    Deed::changing(Answer::Ok, Change::Data { at, len, bytes })
+}

@@ -1,0 +1,126 @@
+//! What statements do to dictionaries.
+ghost use Rattle.std.specs.Prelude.{◌≡◌, true, IfOk};
+ghost use Rattle.cf_contents.specs.Deeds.{with_object, add_pair, set_pair, replace_pair, remove_pair, deed_of};
+ghost use Rattle.cf_store.specs.Applies.{Does};
+ghost use Rattle.cf_store.specs.Finds.{IsEntry, IsFound};
+ghost use Rattle.cf_store.specs.Groups.{acts_on_pairs};
+
+use crate::body::Kind;
+use crate::change::Change;
+use crate::deed::Deed;
+use crate::keys::key_of;
+use crate::seen::{Found, number_of};
+use cf_ids::{Answer, ObjId};
+use cf_syntax::{ClassLine, Statement};
+use cf_types::Cell;
+use std::alloc::{AllocError as NoMemory, Global};
+
+/// A key, and the value of the key in a dictionary that is equal to it, where there is one.
+#[derive(Drop)]
+pub(crate) struct Entry {
+    pub(crate) key: Cell,
+    pub(crate) value: Option<ObjId>,
+}
+
+/// What a statement does to a dictionary.
+pub(crate) fn pair_deed(
+    alloc: Global,
+    classes: &[ClassLine],
+    statement: &Statement,
+    used: &Found,
+) -> Result<Deed, NoMemory>
+    requires { acts_on_pairs statement.now ≡ true }
+    ensures { let deed = deed_of classes.now statement.now used.now.first used.now.second used.now.third in
+        IfOk result (λ d. Does deed used.now.first used.now.second used.now.third d) }
+{
+    let Some(entry) = find(alloc, classes, used)? else {
+        return Ok(Deed::skipped());
+    };
+    Ok(match statement {
+        Statement::DictAdd { .. } => add_pair(used, entry),
+        Statement::DictSet { .. } => set_pair(used, entry),
+        Statement::DictReplace { .. } => replace_pair(used, entry),
+        Statement::DictRemove { .. } => remove_pair(used, entry),
+        Statement::DictTake { .. } => Deed::taken(entry.value),
+        _ => unreachable!(),
+    })
+}
+
+/// The second object that is used as a key of the first one, where that is a dictionary.
+fn find(alloc: Global, classes: &[ClassLine], used: &Found) -> Result<Option<Entry>, NoMemory>
+    ensures { IfOk result (λ found. IsFound classes.now used.now.first used.now.second found) }
+{
+    let Some(dictionary) = &used.first else {
+        return Ok(None);
+    };
+    let Some(key) = &used.second else {
+        return Ok(None);
+    };
+    let body = dictionary.body;
+    let Kind::Dictionary(pairs) = &body.kind else {
+        return Ok(None);
+    };
+    let key = key_of(alloc, classes, key)?;
+    let value = pairs.get(&key);
+    Ok(Some(Entry { key, value }))
+}
+
+/// Adds a pair, unless its key is there.
+fn add_pair(used: &Found, entry: Entry) -> Deed
+    requires { IsEntry used.now.first used.now.second entry }
+    ensures { let deed = with_object used.now.third (λ ob. add_pair entry.key entry.value) in
+        Does deed used.now.first used.now.second used.now.third result }
+{
+    let Some(value) = number_of(&used.third) else {
+        return Deed::skipped();
+    };
+    let Entry { key, value: old } = entry;
+    match old {
+        None => Deed::changing(Answer::Ok, Change::Put { key, value }),
+        Some(_) => Deed::answered(Answer::Present),
+    }
+}
+
+/// Puts a pair in, its value alone where its key is there.
+fn set_pair(used: &Found, entry: Entry) -> Deed
+    requires { IsEntry used.now.first used.now.second entry }
+    ensures { let deed = with_object used.now.third (λ ob. set_pair entry.key entry.value) in
+        Does deed used.now.first used.now.second used.now.third result }
+{
+    let Some(value) = number_of(&used.third) else {
+        return Deed::skipped();
+    };
+    let Entry { key, value: old } = entry;
+    match old {
+        None => Deed::changing(Answer::Added, Change::Put { key, value }),
+        Some(_) => Deed::changing(Answer::Changed, Change::Put { key, value }),
+    }
+}
+
+/// Lets an object be the value of a key that is there.
+fn replace_pair(used: &Found, entry: Entry) -> Deed
+    requires { IsEntry used.now.first used.now.second entry }
+    ensures { let deed = with_object used.now.third (λ ob. replace_pair entry.key entry.value) in
+        Does deed used.now.first used.now.second used.now.third result }
+{
+    let Some(value) = number_of(&used.third) else {
+        return Deed::skipped();
+    };
+    let Entry { key, value: old } = entry;
+    match old {
+        None => Deed::answered(Answer::Absent),
+        Some(_) => Deed::changing(Answer::Ok, Change::Put { key, value }),
+    }
+}
+
+/// Takes out a pair, where its key is there.
+fn remove_pair(used: &Found, entry: Entry) -> Deed
+    requires { IsEntry used.now.first used.now.second entry }
+    ensures { Does (remove_pair entry.key entry.value) used.now.first used.now.second used.now.third result }
+{
+    let Entry { key, value: old } = entry;
+    match old {
+        None => Deed::answered(Answer::Absent),
+        Some(_) => Deed::changing(Answer::Ok, Change::Take { key }),
+    }
+}

@@ -1,0 +1,159 @@
+//! What statements do to arrays and to fields.
+ghost use Rattle.std.specs.Prelude.{◌≡◌, [], ◌∷◌, Some, None, true, length, slice_get, nat_lt, nat_le};
+ghost use Rattle.cf_contents.specs.Deeds.{with_object, with_elements, with_fields, within, edited_places, taken, in_field, deed_of};
+ghost use Rattle.cf_store.specs.Applies.{Does};
+ghost use Rattle.cf_store.specs.Groups.{acts_on_places};
+
+use crate::change::Change;
+use crate::deed::Deed;
+use crate::seen::{Found, elements_in, fields_in, number_of};
+use cf_ids::Answer;
+use cf_syntax::Statement;
+
+/// What a statement does to an array or to fields.
+pub(crate) fn place_deed(statement: &Statement, used: &Found) -> Deed
+    requires { acts_on_places statement.now ≡ true }
+    ensures { let deed = deed_of [] statement.now used.now.first used.now.second used.now.third in
+        Does deed used.now.first used.now.second used.now.third result }
+{
+    match statement {
+        Statement::ArrAppend { .. } => append_element(used),
+        Statement::ArrInsert { at, .. } => insert_element(used, *at),
+        Statement::ArrSet { at, .. } => replace_element(used, *at),
+        Statement::ArrRemove { at, .. } => remove_element(used, *at),
+        Statement::ArrTake { at, .. } => take_element(used, *at),
+        Statement::FieldSet { at, .. } => fill_field(used, *at),
+        Statement::FieldClear { at, .. } => clear_field(used, *at),
+        Statement::FieldTake { at, .. } => take_field(used, *at),
+        _ => unreachable!(),
+    }
+}
+
+/// Puts an element behind the last one.
+fn append_element(used: &Found) -> Deed
+    ensures { let deed = with_elements used.now.first
+        (λ os. with_object used.now.second (λ ob. edited_places (length os) 0 (Some 1 ∷ []))) in
+        Does deed used.now.first used.now.second used.now.third result }
+{
+    let Some(elements) = elements_in(&used.first) else {
+        return Deed::skipped();
+    };
+    let Some(element) = number_of(&used.second) else {
+        return Deed::skipped();
+    };
+    let at = elements.length();
+    Deed::changing(Answer::Ok, Change::Insert { at, element })
+}
+
+/// Puts an element in before the one at a place.
+fn insert_element(used: &Found, at: u32) -> Deed
+    ensures { let deed = with_elements used.now.first
+        (λ os. with_object used.now.second (λ ob. within (nat_le at (length os)) (edited_places at 0 (Some 1 ∷ [])))) in
+        Does deed used.now.first used.now.second used.now.third result }
+{
+    let at = at as usize;
+    let Some(elements) = elements_in(&used.first) else {
+        return Deed::skipped();
+    };
+    let Some(element) = number_of(&used.second) else {
+        return Deed::skipped();
+    };
+    if elements.length() < at {
+        return Deed::answered(Answer::Range);
+    }
+    Deed::changing(Answer::Ok, Change::Insert { at, element })
+}
+
+/// Puts an element in place of the one at a place, or behind the last one.
+fn replace_element(used: &Found, at: u32) -> Deed
+    ensures { let deed = with_elements used.now.first
+        (λ os. with_object used.now.second (λ ob. within (nat_le at (length os)) (edited_places at 1 (Some 1 ∷ [])))) in
+        Does deed used.now.first used.now.second used.now.third result }
+{
+    let at = at as usize;
+    let Some(elements) = elements_in(&used.first) else {
+        return Deed::skipped();
+    };
+    let Some(element) = number_of(&used.second) else {
+        return Deed::skipped();
+    };
+    if elements.length() < at {
+        return Deed::answered(Answer::Range);
+    }
+    Deed::changing(Answer::Ok, Change::Replace { at, element })
+}
+
+/// Takes out the element at a place.
+fn remove_element(used: &Found, at: u32) -> Deed
+    ensures { let deed = with_elements used.now.first (λ os. within (nat_lt at (length os)) (edited_places at 1 [])) in
+        Does deed used.now.first used.now.second used.now.third result }
+{
+    let at = at as usize;
+    let Some(elements) = elements_in(&used.first) else {
+        return Deed::skipped();
+    };
+    if elements.length() <= at {
+        return Deed::answered(Answer::Range);
+    }
+    Deed::changing(Answer::Ok, Change::Remove { at })
+}
+
+/// Binds the element at a place, where there is one.
+fn take_element(used: &Found, at: u32) -> Deed
+    ensures { let deed = with_elements used.now.first (λ os. taken (slice_get os at)) in
+        Does deed used.now.first used.now.second used.now.third result }
+{
+    let Some(elements) = elements_in(&used.first) else {
+        return Deed::skipped();
+    };
+    Deed::taken(elements.get(at as usize).copied())
+}
+
+/// Puts an object in a field.
+fn fill_field(used: &Found, at: u32) -> Deed
+    ensures { let deed = with_fields used.now.first
+        (λ fields. with_object used.now.second (λ ob. within (nat_lt at (length fields)) (edited_places at 1 (Some 1 ∷ [])))) in
+        Does deed used.now.first used.now.second used.now.third result }
+{
+    let at = at as usize;
+    let Some(fields) = fields_in(&used.first) else {
+        return Deed::skipped();
+    };
+    let Some(element) = number_of(&used.second) else {
+        return Deed::skipped();
+    };
+    if fields.len() <= at {
+        return Deed::answered(Answer::Range);
+    }
+    Deed::changing(Answer::Ok, Change::Fill { at, element })
+}
+
+/// Empties a field.
+fn clear_field(used: &Found, at: u32) -> Deed
+    ensures { let deed = with_fields used.now.first
+        (λ fields. within (nat_lt at (length fields)) (edited_places at 1 (None ∷ []))) in
+        Does deed used.now.first used.now.second used.now.third result }
+{
+    let at = at as usize;
+    let Some(fields) = fields_in(&used.first) else {
+        return Deed::skipped();
+    };
+    if fields.len() <= at {
+        return Deed::answered(Answer::Range);
+    }
+    Deed::changing(Answer::Ok, Change::Clear { at })
+}
+
+/// Binds the object in a field, where there is one.
+fn take_field(used: &Found, at: u32) -> Deed
+    ensures { let deed = with_fields used.now.first (λ fields. taken (in_field (slice_get fields at))) in
+        Does deed used.now.first used.now.second used.now.third result }
+{
+    let Some(fields) = fields_in(&used.first) else {
+        return Deed::skipped();
+    };
+    match fields.get(at as usize) {
+        Some(field) => Deed::taken(*field),
+        None => Deed::taken(None),
+    }
+}

@@ -1,0 +1,12 @@
+pub mod Mirroring
+pub mod Tables
+pub mod Stepping
+pub mod Cutting
+pub mod Entering
+pub mod Releasing
+pub mod Working
+pub mod Stating
+pub mod Going
+pub mod Acting
+pub mod Applying
+pub mod Referring

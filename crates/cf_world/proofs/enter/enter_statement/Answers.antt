@@ -1,0 +1,28 @@
+use Rattle.std.proofs.Common.{◌∙◌, ap, ◌++◌, map}
+use Rattle.cf_contents.specs.Contents.{present}
+use Rattle.cf_model.specs.State.{release_of}
+use Rattle.cf_world.specs.Works.{works}
+use Rattle.cf_world.proofs.Stating.{stated, few_told}
+use Rattle.cf_world.proofs.enter.enter_statement.Goals as goal
+
+pub returns-clause-stated : goal.returns-clause-stated
+returns-clause-stated c =
+    stated c.args.statement.now c.args.store.now.ready c.args.store.now.bodies c.apply-answer.new.self.bodies c.touched-object.new.store.bodies
+    c.args.frame.now.table c.bind.new.table c.args.frame.now.number c.used_objects-used.result c.touch-touch.result c.apply-answer.result
+    c.touched-object.result c.answer_of-answer.result c.of-action.result c.gain.new.gained.items (works c.owe.new.work.items) (works c.trim.new.work.items)
+    (record {
+      used_is = c.used_objects-used.ensures;
+      touch_is = c.touch-touch.ensures;
+      object_is = c.touched-object.ensures.object;
+      bodies_are = c.touched-object.ensures.bodies;
+      answer_is = c.answer_of-answer.ensures;
+      action_is = c.of-action.ensures;
+      table_is = c.bind.ensures.table;
+      gained_is = c.gain.ensures.items;
+      owed_is = c.owe.ensures.items ∙ ap (λ ws. map release_of (present c.apply-answer.result.gave) ++ works ws) c.requires.idle;
+      work_is = c.trim.ensures.items;
+    })
+    c.requires.first c.apply-answer.ensures.deed c.apply-answer.ensures.took c.apply-answer.ensures.gave c.apply-answer.ensures.bodies
+
+pub touched-object-requires-clause-few : goal.touched-object-requires-clause-few
+touched-object-requires-clause-few c = few_told c.args.store.now.ready c.args.store.now.bodies c.apply-answer.new.self.bodies c.apply-answer.result c.apply-answer.ensures.deed c.apply-answer.ensures.bodies c.requires.few c.requires.ready

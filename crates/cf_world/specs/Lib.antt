@@ -1,0 +1,7 @@
+pub mod Worlds
+pub mod Mirrors
+pub mod Works
+pub mod Running
+pub mod Inside
+pub mod Ends
+pub mod Referring

@@ -1,0 +1,61 @@
+-- The work of a thread as the program keeps it: the first item stands last.
+use Rattle.std.specs.Prelude.{◌≡◌, ℕ, ◌+◌, Bool, false, List, [], ◌∷◌, ◌++◌, length, map, Option, Some, None, ◌==◌, if◌then◌else◌}
+use Rattle.std.specs.Option.{option_to_list}
+use Rattle.cf_syntax.specs.declared.statement.Statement.{Statement}
+use Rattle.cf_syntax.specs.declared.statement.Touch.{Touch}
+use Rattle.cf_syntax.specs.declared.statement.Touch.TheVariants.{Nothing, Binds, Plus, Minus}
+use Rattle.cf_syntax.specs.Forms.{touch_of}
+use Rattle.cf_contents.specs.Deeds.{object_of, taken_in, given_out}
+use Rattle.cf_contents.specs.Stores.{Held, Ready, objects_of, is_live_in, left_in}
+use Rattle.cf_model.specs.State.{Work, release_of, slots_of}
+use Rattle.cf_model.specs.Steps.{answer_of}
+use Rattle.cf_model.specs.declared.action.Entry.{Entry}
+use Rattle.cf_world.specs.declared.work.Item.{Item}
+use Rattle.cf_world.specs.declared.work.Item.TheVariants.{Release, Slots}
+use Rattle.cf_world.specs.Mirrors.{trimmed_by, object_in, bodies_after, table_after, gained_after, statement_action}
+
+abbrev pub work_item : Item → Work
+work_item (Release o) = release_of o
+work_item (Slots b) = slots_of b
+
+abbrev pub works : List Item → List Work
+works [] = []
+works (w ∷ ws) = works ws ++ work_item w ∷ []
+
+-- the first item is a body that has nothing left
+abbrev pub is_over : List Held → Option Work → Bool
+is_over bodies None = false
+is_over bodies (Some (release_of o)) = false
+is_over bodies (Some (slots_of b)) = length (left_in bodies b) == 0
+
+-- what a statement has done to the parts of a world
+pub record IsStated (x : Statement) (r : Ready) (bodies : List Held) (table : List (Option ℕ)) (number : ℕ) (entry : Entry) (bodies' : List Held) (table' : List (Option ℕ)) (work' : List Work) (number' : ℕ) (gained : List ℕ) : Type 0 where
+  pub entry_is : entry ≡ record {
+    thread = 0;
+    action = statement_action table number (Some x);
+    answer = answer_of (touch_of x) (object_in bodies (touch_of x) r.deed.source r.object) r.deed.answer;
+  }
+  pub bodies_are : bodies' ≡ bodies_after bodies (touch_of x) r
+  pub table_is : table' ≡ table_after (touch_of x) (object_in bodies (touch_of x) r.deed.source r.object) table
+  pub work_is : work' ≡ trimmed_by bodies' (map release_of (given_out (object_of (objects_of bodies) r.object) r.deed.change) ++ [])
+  pub number_is : number' ≡ number + 1
+  pub gained_is : gained ≡ gained_after (touch_of x) (object_in bodies (touch_of x) r.deed.source r.object) (taken_in (object_of (objects_of bodies) r.object) r.deed.change)
+
+-- the object that is bound, by the new body and the object that is there, as the store tells them
+abbrev pub bound_to : List Held → Option Held → Option ℕ → Option ℕ
+bound_to bodies (Some h) there = Some (length bodies)
+bound_to bodies None None = None
+bound_to bodies None (Some o) = if is_live_in bodies o then Some o else None
+
+-- the object that a touch is about, and the body that it makes
+abbrev pub touched_by : Touch → List Held → Option Held → (there used : Option ℕ) → Option ℕ
+touched_by Nothing bodies fresh there used = None
+touched_by (Binds v) bodies fresh there used = bound_to bodies fresh there
+touched_by (Plus v) bodies fresh there used = used
+touched_by (Minus v) bodies fresh there used = used
+
+abbrev pub body_by : Touch → Option Held → List Held
+body_by Nothing fresh = []
+body_by (Binds v) fresh = option_to_list fresh
+body_by (Plus v) fresh = []
+body_by (Minus v) fresh = []

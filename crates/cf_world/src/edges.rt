@@ -1,0 +1,182 @@
+//! The references that there are.
+ghost use Rattle.std.specs.Prelude.{◌≡◌, ℕ, ◌+◌, ◌-◌, ◌<◌, ◌≤◌, ◌^◌, [], ◌∷◌, ◌++◌, length, take, replicate, slice_index, OnOk, IfOk};
+ghost use Rattle.cf_syntax.specs.Owned.{one_of};
+ghost use Rattle.cf_graph.specs.Edges.{edge_of, edges_of};
+ghost use Rattle.cf_model.specs.Steps.{owed_reference};
+ghost use Rattle.cf_model.specs.Journals.{setup};
+ghost use Rattle.cf_world.specs.Referring.{Tallied, Noted, HasRoom, below, copies, counted_references, variable_references, owed_references, slot_references};
+
+use crate::frame::{Frame, Table};
+use crate::work::Item;
+use cf_graph::{Edge, Owner};
+use cf_ids::{ObjId, ThreadId, VARIABLES, VarId};
+use cf_store::Store;
+use cf_syntax::{Script, Statement, Touch};
+use std::alloc::{AllocError as NoMemory, Global};
+
+/// How many references statements give to each variable, and how many they take from it.
+#[derive(Drop)]
+struct Tally {
+    given: [usize; VARIABLES],
+    taken: [usize; VARIABLES],
+}
+
+/// One more for a variable.
+fn add_one(counts: &mut [usize; VARIABLES], variable: VarId)
+    requires { (v : ℕ) → v < 256 → slice_index counts.old v + 1 < 2 ^ 64 }
+    ensures { (v : ℕ) → v < 256 → slice_index counts.new v ≡ slice_index counts.old v + one_of v variable }
+{
+    let cell = &mut counts[variable.0 as usize];
+    *cell += 1;
+}
+
+/// The counts with one touch more.
+fn note(tally: &mut Tally, touch: Touch)
+    requires { HasRoom tally.old }
+    ensures { Noted tally.old touch tally.new }
+{
+    match touch {
+        Touch::Nothing => {}
+        Touch::Binds(variable) | Touch::Plus(variable) => add_one(&mut tally.given, variable),
+        Touch::Minus(variable) => add_one(&mut tally.taken, variable),
+    }
+}
+
+/// The counts of statements.
+fn count(statements: &[Statement]) -> Tally
+    ensures { Tallied result statements.now }
+{
+    let mut counts = Tally {
+        given: [0; VARIABLES],
+        taken: [0; VARIABLES],
+    };
+    for statement in statements {
+        note(&mut counts, statement.touch());
+    }
+    counts
+}
+
+/// The first statements, as many as there are up to a number.
+fn first(statements: &[Statement], number: usize) -> &[Statement]
+    ensures { result.now ≡ take number statements.now }
+{
+    if number < statements.len() {
+        &statements[..number]
+    } else {
+        statements
+    }
+}
+
+/// The statements of setup before a number.
+fn earlier(script: &Script, number: u32) -> &[Statement]
+    ensures { result.now ≡ take number (setup script.now) }
+{
+    match script.blocks.as_slice().first() {
+        Some(block) => first(block.statements.as_slice(), number as usize),
+        None => &[],
+    }
+}
+
+/// Adds an edge from setup's thread as often as a number says.
+fn add_copies(edges: &mut Vec<Edge>, object: ObjId, number: usize) -> Result<(), NoMemory>
+    ensures { OnOk result (edges.new.items ≡ edges.old.items ++ replicate number (edge_of (owed_reference 0 object))) }
+{
+    for _ in 0..number {
+        edges.push(Edge {
+            owner: Owner::Thread(ThreadId::SETUP),
+            object,
+        })?;
+    }
+    Ok(())
+}
+
+/// The same for the object of a variable, where it has one.
+fn add_variable(edges: &mut Vec<Edge>, object: Option<ObjId>, number: usize) -> Result<(), NoMemory>
+    ensures { OnOk result (edges.new.items ≡ edges.old.items ++ copies object number) }
+{
+    match object {
+        Some(object) => add_copies(edges, object, number),
+        None => Ok(()),
+    }
+}
+
+/// Adds the edges of the variables of setup.
+fn add_variables(edges: &mut Vec<Edge>, table: &Table, tally: &Tally) -> Result<(), NoMemory>
+    ensures { OnOk result (edges.new.items ≡ edges.old.items ++ edges_of (below (counted_references table.now tally.now) 256)) }
+{
+    for v in 0..VARIABLES {
+        add_variable(
+            edges,
+            table[v],
+            tally.given[v].saturating_sub(tally.taken[v]),
+        )?;
+    }
+    Ok(())
+}
+
+/// Adds the edge of an item of work, where it is a release.
+fn add_item(edges: &mut Vec<Edge>, item: &Item) -> Result<(), NoMemory>
+    ensures { OnOk result (edges.new.items ≡ edges.old.items ++ edges_of (owed_references (item.now ∷ []))) }
+{
+    match item {
+        Item::Release(object) => add_copies(edges, *object, 1),
+        Item::Slots(_) => Ok(()),
+    }
+}
+
+/// Adds the edges of what the thread was given out.
+fn add_owed(edges: &mut Vec<Edge>, work: &[Item]) -> Result<(), NoMemory>
+    ensures { OnOk result (edges.new.items ≡ edges.old.items ++ edges_of (owed_references work.now)) }
+{
+    for item in work {
+        add_item(edges, item)?;
+    }
+    Ok(())
+}
+
+/// Adds the edges of the slots that are left to a body.
+fn add_body(edges: &mut Vec<Edge>, store: &Store, body: ObjId) -> Result<(), NoMemory>
+    ensures { OnOk result (edges.new.items ≡ edges.old.items ++ edges_of (slot_references store.now.bodies body)) }
+{
+    let mut place = store.given_up(body) as usize;
+    while let Some(object) = store.slot(body, place) {
+        edges.push(Edge {
+            owner: Owner::Slot(body),
+            object,
+        })?;
+        place += 1;
+    }
+    Ok(())
+}
+
+/// Adds the edges of the slots of all bodies.
+fn add_bodies(edges: &mut Vec<Edge>, store: &Store) -> Result<(), NoMemory>
+    requires { length store.now.bodies ≤ 65536 }
+    ensures { OnOk result (edges.new.items ≡ edges.old.items ++ edges_of (below (slot_references store.now.bodies) (length store.now.bodies))) }
+{
+    for body in 0..store.count() {
+        add_body(edges, store, ObjId(body as u32))?;
+    }
+    Ok(())
+}
+
+/// The edges that there are: those of variables, of owed releases and of slots.
+pub(crate) fn edges_by(
+    alloc: Global,
+    script: &Script,
+    store: &Store,
+    frame: &Frame,
+) -> Result<Vec<Edge>, NoMemory>
+    requires { length store.now.bodies ≤ 65536 }
+    ensures { IfOk result (λ es. es.items
+        ≡ edges_of (below (variable_references frame.now.table (take frame.now.number (setup script.now))) 256)
+        ++ edges_of (owed_references frame.now.work.items)
+        ++ edges_of (below (slot_references store.now.bodies) (length store.now.bodies))) }
+{
+    let tally = count(earlier(script, frame.number));
+    let mut edges = Vec::new(alloc);
+    add_variables(&mut edges, &frame.table, &tally)?;
+    add_owed(&mut edges, frame.work.as_slice())?;
+    add_bodies(&mut edges, store)?;
+    Ok(edges)
+}

@@ -1,0 +1,146 @@
+//! The entry of a statement that takes no reference away, and what it does to the parts of a world.
+ghost use Rattle.std.specs.Prelude.{◌≡◌, ◌+◌, ◌<◌, ◌≤◌, ◌^◌, ◌++◌, ◌∷◌, [], None, length, IfSome, IsSome, vec_len, vec_capacity};
+ghost use Rattle.std.specs.Option.{option_map, option_to_list};
+ghost use Rattle.cf_syntax.specs.Forms.{touch_of, makes_object};
+ghost use Rattle.cf_contents.specs.Contents.{present};
+ghost use Rattle.cf_contents.specs.Deeds.{first_of};
+ghost use Rattle.cf_store.specs.Applies.{fresh_in};
+ghost use Rattle.cf_store.specs.Bodies.{held_of};
+ghost use Rattle.cf_model.specs.Steps.{answer_of, cut_by};
+ghost use Rattle.cf_world.specs.Mirrors.{used_in, BindsWithin, gained_after};
+ghost use Rattle.cf_world.specs.Works.{works, bound_to, touched_by, body_by, IsStated};
+
+use crate::frame::{Frame, bind, used_objects};
+use crate::work::{owe, trim};
+use cf_ids::{Answer, ObjId, ThreadId};
+use cf_model::{Action, Entry};
+use cf_store::{Body, Edited, Store};
+use cf_syntax::{Statement, Touch};
+
+/// The object that is bound: a new one, or one that is there, where it is live.
+fn found(store: &mut Store, fresh: Option<Body>, there: Option<ObjId>) -> Option<ObjId>
+    requires room { IsSome fresh → 0 < store.old.room }
+    requires few { IsSome fresh → length store.old.bodies < 65536 }
+    ensures object { result ≡ bound_to store.old.bodies (option_map held_of fresh) there }
+    ensures bodies { store.new.bodies ≡ store.old.bodies ++ option_to_list (option_map held_of fresh) }
+{
+    if let Some(body) = fresh {
+        return Some(store.make(body));
+    }
+    let object = there?;
+    if store.is_live(object) {
+        Some(object)
+    } else {
+        None
+    }
+}
+
+/// The object that a statement is about: what it binds, or the first that it uses where it retains or releases.
+fn touched(
+    touch: &Touch,
+    store: &mut Store,
+    fresh: Option<Body>,
+    there: Option<ObjId>,
+    used: &[Option<ObjId>; 3],
+) -> Option<ObjId>
+    requires room { IsSome fresh → 0 < store.old.room }
+    requires few { IsSome fresh → length store.old.bodies < 65536 }
+    ensures object { result ≡ touched_by touch.now store.old.bodies (option_map held_of fresh) there (first_of used.now) }
+    ensures bodies { store.new.bodies ≡ store.old.bodies ++ body_by touch.now (option_map held_of fresh) }
+{
+    match touch {
+        Touch::Nothing => None,
+        Touch::Binds(_) => found(store, fresh, there),
+        Touch::Plus(_) | Touch::Minus(_) => used[0],
+    }
+}
+
+/// What a statement answers, by the object that it is about and what its deed answers.
+fn answer_of(touch: &Touch, object: &Option<ObjId>, answer: Answer) -> Answer
+    ensures { result ≡ answer_of touch.now object.now answer }
+{
+    match (touch, object) {
+        (Touch::Binds(_), Some(object)) => Answer::Object(*object),
+        (Touch::Plus(_) | Touch::Minus(_), None) => Answer::Skip,
+        _ => answer,
+    }
+}
+
+/// One more reference to an object, where there is one.
+fn gain_one(gained: &mut Vec<ObjId>, object: Option<ObjId>)
+    requires { vec_len gained.old < vec_capacity gained.old }
+    ensures items { gained.new.items ≡ gained.old.items ++ present (object ∷ []) }
+    ensures len { vec_len gained.new ≤ vec_len gained.old + 1 }
+    ensures capacity { vec_capacity gained.new ≡ vec_capacity gained.old }
+{
+    if let Some(object) = object {
+        gained.push_reserved(object);
+    }
+}
+
+/// The references that a statement adds: to what it binds or retains, or to what comes into a body.
+fn gain(gained: &mut Vec<ObjId>, touch: &Touch, object: &Option<ObjId>, took: &[Option<ObjId>; 2])
+    requires { 2 ≤ vec_capacity gained.old }
+    ensures items { gained.new.items ≡ gained_after touch.now object.now (present took.now) }
+    ensures few { vec_len gained.new ≤ 2 }
+    ensures capacity { vec_capacity gained.new ≡ vec_capacity gained.old }
+{
+    gained.clear();
+    match touch {
+        Touch::Nothing => {
+            let [first, second] = *took;
+            gain_one(gained, first);
+            gain_one(gained, second);
+        }
+        Touch::Binds(_) | Touch::Plus(_) => gain_one(gained, *object),
+        Touch::Minus(_) => {}
+    }
+}
+
+/// Enters the next statement of a thread: its deed is done, what it binds is bound, and what it gives out becomes
+/// work.
+pub(crate) fn enter_statement(
+    statement: &Statement,
+    store: &mut Store,
+    frame: &mut Frame,
+    gained: &mut Vec<ObjId>,
+) -> Entry
+    requires idle { frame.old.work.items ≡ [] }
+    requires work_room { 2 ≤ vec_capacity frame.old.work }
+    requires gained_room { 2 ≤ vec_capacity gained.old }
+    requires number { frame.old.number + 1 < 2 ^ 32 }
+    requires ready { IsSome store.old.ready }
+    requires first { IfSome store.old.ready (λ r. r.object ≡ first_of (used_in frame.old.table statement.now)) }
+    requires room { 0 < store.old.room }
+    requires few { IfSome store.old.ready (λ r. IsSome (fresh_in r.deed.source) → length store.old.bodies < 65536) }
+    ensures stated { IfSome store.old.ready (λ r. IsStated statement.now r store.old.bodies frame.old.table frame.old.number
+        result store.new.bodies frame.new.table (works frame.new.work.items) frame.new.number gained.new.items) }
+    ensures within { BindsWithin (touch_of statement.now) }
+    ensures going { frame.new.is_done ≡ frame.old.is_done }
+    ensures work_room { vec_capacity frame.new.work ≡ vec_capacity frame.old.work }
+    ensures gained_room { vec_capacity gained.new ≡ vec_capacity gained.old }
+    ensures few { vec_len gained.new ≤ 2 }
+{
+    let used = used_objects(&frame.table, statement);
+    let touch = statement.touch();
+    let Edited {
+        answer,
+        fresh,
+        there,
+        took,
+        gave,
+    } = store.apply();
+    let object = touched(&touch, store, fresh, there, &used);
+    let answer = answer_of(&touch, &object, answer);
+    let action = Action::of(statement, 0, frame.number, used);
+    bind(&mut frame.table, &touch, &object);
+    gain(gained, &touch, &object, &took);
+    owe(&mut frame.work, &gave);
+    trim(&mut frame.work, store);
+    frame.number += 1;
+    Entry {
+        thread: ThreadId::SETUP,
+        action,
+        answer,
+    }
+}

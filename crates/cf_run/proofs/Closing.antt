@@ -24,18 +24,19 @@ use Rattle.cf_world.specs.Worlds.{WorldView, state_of, state_in, next_in, next_b
 use Rattle.cf_run.specs.declared.tally.Tally.{Tally}
 use Rattle.cf_run.specs.Tally.{default_limit, is_act, ending_of, nothing, Tallied, IsRun, IsOver}
 use Rattle.cf_run.specs.Counted.{counted_at}
+use Rattle.cf_run.proofs.Stops.{next_when}
 
 -- ---- work that was trimmed has something left
 
 module _ (objects : List Object) (dropped : List ℕ) where
-  kept_if : (n : ℕ) (b : ℕ) (work rest : List Work) (none : Bool) → length rest ≤ length work → length (cond none rest (slots_of b ∷ work)) ≤ length (slots_of b ∷ work)
-  kept_if n b work rest true h = omega (arith, h)
-  kept_if n b work rest false h = omega arith
+  kept_if : (b : ℕ) (work rest : List Work) (none : Bool) → length rest ≤ length work → length (cond none rest (slots_of b ∷ work)) ≤ length (slots_of b ∷ work)
+  kept_if b work rest true h = omega (arith, h)
+  kept_if b work rest false h = omega arith
 
   trimmed_le : (work : List Work) → length (trimmed objects dropped work) ≤ length work
   trimmed_le [] = omega arith
   trimmed_le (release_of o ∷ work) = omega arith
-  trimmed_le (slots_of b ∷ work) = kept_if 0 b work (trimmed objects dropped work) (length (left_of objects dropped b) == 0) (trimmed_le work)
+  trimmed_le (slots_of b ∷ work) = kept_if b work (trimmed objects dropped work) (length (left_of objects dropped b) == 0) (trimmed_le work)
 
   some_left : (b : ℕ) (work : List Work) → trimmed objects dropped (slots_of b ∷ work) ≡ slots_of b ∷ work → left_of objects dropped b ≡ [] → ⊥
   some_left b work trim none =
@@ -55,10 +56,6 @@ done_if : (s : Script) (st : State) (d : Bool) → trimmed st.objects st.dropped
 done_if s st true trim e = refl
 done_if s st false trim e = absurd (work_some s st st.frame.work trim e)
 
-going_if : (d : Bool) (w : Option Action) (a : Action) → cond d None w ≡ Some a → d ≡ false
-going_if true w a e = absurd cc
-going_if false w a e = refl
-
 same_script : (s script : Script) → ◌≡◌ {A = Option Script} (Some s) (Some script) → s ≡ script
 same_script s script e = cc
 
@@ -76,7 +73,7 @@ module _ (w : WorldView) (references : List ℕ) (finals : ℕ) (run : IsRun w r
   ended n = is_act n ≡ false → Ends s default_limit w.journal (ending_of n)
 
   at_full : (a : Action) → next_action s st 0 ≡ Some a → (l m f : Bool) → nat_le w.limit (length w.journal) ≡ l → makes s a ≡ m → nat_le 65536 (length (state_of w).objects) ≡ f → ended (cond l Limit (cond (m && f) Full (Act a)))
-  at_full a e true m f l mm ff stop = (omega (arith, run.within, run.limit, reached), going_if st.frame.is_done (worked s st st.frame.work) a e)
+  at_full a e true m f l mm ff stop = (omega (arith, run.within, run.limit, reached), (next_when true st.frame.is_done (worked s st st.frame.work) a e).1)
     where
       reached : w.limit ≤ length w.journal
       reached = grind (arith, nat_tests)

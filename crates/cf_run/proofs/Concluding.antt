@@ -1,5 +1,5 @@
 -- What a command came to, and what of its lines was written, make its outcome.
-use Rattle.std.proofs.Common.{◌≡◌, ℕ, ◌<◌, ◌≤◌, List, [], ◌∷◌, length, Option, Some, None, refl, sym, ap, ◌∙◌, subst, arith, inl, inr, ◌⊎◌}
+use Rattle.std.proofs.Common.{◌≡◌, false, ℕ, ◌<◌, ◌≤◌, List, [], ◌∷◌, length, Option, Some, None, refl, sym, ap, ◌∙◌, subst, arith, inl, inr, ◌⊎◌}
 use Rattle.std.specs.Prelude.{Result, Ok, Err, IsSome, IsSomeAnd, IfSome, Contains}
 use Rattle.std.proofs.lemmas.Bool.{false≢true}
 use Rattle.cf_fault.specs.Fault.{HasRisen}
@@ -26,8 +26,9 @@ use Rattle.cf_run.specs.Outcomes.{script_bytes, IsContent, IsRead, IsAccepted, I
 use Rattle.cf_run.specs.Settled.{Settles, HasFew, due_of, entries_of, status_by, status_after}
 use Rattle.cf_run.specs.Tally.{IsOver}
 use Rattle.cf_run.specs.Lines.{entries_in, run_text}
+use Rattle.cf_model.specs.Journals.{After, IsWhole}
 use Rattle.cf_run.proofs.Rendered.{run_text-rendering}
-use Rattle.cf_run.proofs.Stops.{run_stops}
+use Rattle.cf_run.proofs.Stops.{run_stops, full_going}
 
 -- the script of a run
 begun : (script : Option Script) (P : Script → Type 0) → IsSomeAnd script P → (s : Script) × ((script ≡ Some s) × P s)
@@ -147,6 +148,15 @@ refused_accepted words files told file bytes script r f n c (inr x) a =
     let same = same_bytes words files told file bytes a.bytes f n c a.read in
     not_both bytes script r (subst (λ (bs : List ℕ). Text bs script) same a.text) a.owned x
 
+-- a journal whose thread is not done is not whole, of whichever script the bytes are the text
+unfinished : (words : List (List ℕ)) (files : Option (List File)) (told : List File) (file bytes : List ℕ) (script other : Script) (entries : List Entry) → files ≡ Some told → file_of words ≡ Some file → content_of told file ≡ Some bytes → Text bytes script → IsAccepted words files other → (After other entries).frame.is_done ≡ false → IsWhole script entries → ⊥
+unfinished words files told file bytes script other entries f n c t a going whole =
+    let same = same_bytes words files told file bytes a.bytes f n c a.read in
+    let read : Text bytes other = subst (λ (bs : List ℕ). Text bs other) same a.text in
+    let e : ◌≡◌ {A = Result Script Refusal} (Ok other) (Ok script) = sym read ∙ t in
+    let is : other ≡ script = cc in
+    false≢true (sym going ∙ ap (λ (s : Script). (After s entries).frame.is_done) is ∙ whole.done)
+
 -- ---- what each status tells
 
 module _ (words : List (List ℕ)) (files : Option (List File)) (source source' sink sink' : ℕ) (old new : Option (List ℕ)) (status : ℕ) (entries : List Entry) where
@@ -262,6 +272,17 @@ module _ (words : List (List ℕ)) (files : Option (List File)) (source source' 
   runs_or_memory (unreadable st x) told file bytes script f n c w t o q r = absurd (q x.risen)
   runs_or_memory (unwritten st u x) told file bytes script f n c w t o q r = absurd (r u)
   runs_or_memory (no_memory st x) told file bytes script f n c w t o q r = (1, omega arith, sym st)
+
+  -- an accepted script whose journal is whole, and no fault
+  pub done_or_memory : Outcome words files source source' sink sink' old new status entries → (told : List File) (file bytes : List ℕ) (script : Script) → files ≡ Some told → file_of words ≡ Some file → content_of told file ≡ Some bytes → length bytes ≤ script_bytes → Text bytes script → Owned script → (HasRisen source source' → ⊥) → (HasRisen sink sink' → ⊥) → IsWhole script entries → (status ≡ 0) ⊎ (status ≡ 6)
+  done_or_memory (done st x) told file bytes script f n c w t o q r whole = inl st
+  done_or_memory (limited st x) told file bytes script f n c w t o q r whole = absurd (unfinished words files told file bytes script x.script entries f n c t x.read x.journal.ends.1 whole)
+  done_or_memory (full st x) told file bytes script f n c w t o q r whole = absurd (unfinished words files told file bytes script x.script entries f n c t x.read (full_going x.script (After x.script entries) x.journal.ends.1) whole)
+  done_or_memory (misused st x) told file bytes script f n c w t o q r whole = absurd (no_file words file n x.words_are)
+  done_or_memory (rejected st x) told file bytes script f n c w t o q r whole = absurd (accepted_refused words files told file bytes script x.refusal f n c w t o x.refused)
+  done_or_memory (unreadable st x) told file bytes script f n c w t o q r whole = absurd (q x.risen)
+  done_or_memory (unwritten st u x) told file bytes script f n c w t o q r whole = absurd (r u)
+  done_or_memory (no_memory st x) told file bytes script f n c w t o q r whole = inr st
 
   -- refused bytes and no fault
   pub rejected_or_memory : Outcome words files source source' sink sink' old new status entries → (told : List File) (file bytes : List ℕ) (refusal : Refusal) → files ≡ Some told → file_of words ≡ Some file → content_of told file ≡ Some bytes → IsRefusedText bytes refusal → (HasRisen source source' → ⊥) → (HasRisen sink sink' → ⊥) → (status ≡ 3) ⊎ (status ≡ 6)

@@ -1,5 +1,5 @@
 -- A run after one entry more.
-use Rattle.std.proofs.Common.{◌≡◌, ℕ, zero, suc, ◌+◌, ◌-◌, ◌^◌, ◌<◌, ◌≤◌, Bool, true, false, cond, not, List, [], ◌∷◌, ◌++◌, length, Option, Some, None, refl, sym, ap, ◌∙◌, subst, arith, inl, inr, ◌⊎◌, eqb, ◌==◌, append-nil, length-append}
+use Rattle.std.proofs.Common.{◌≡◌, ℕ, zero, suc, ◌+◌, ◌-◌, ◌^◌, ◌<◌, ◌≤◌, Bool, true, false, cond, List, [], ◌∷◌, ◌++◌, length, Option, Some, None, refl, sym, ap, ◌∙◌, subst, arith, inl, inr, ◌⊎◌, eqb, ◌==◌, append-nil, length-append}
 use Rattle.std.specs.Prelude.{slice_index, nat_lt, Contains, IsTrue}
 use Rattle.std.proofs.lemmas.Bool.{eq-eqb, cases_lt}
 use Rattle.std.proofs.lemmas.Bool.Decides.{nat_tests}
@@ -21,7 +21,6 @@ use Rattle.cf_model.specs.State.{State, start, degree}
 use Rattle.cf_model.specs.Steps.{Step, cut_by, finals_of, statement_in, touch_step, step_for, effect, gained, gained_by, makes}
 use Rattle.cf_model.specs.Journals.{Next as next_action, IsLegalEntry, IsLegal, After}
 use Rattle.cf_model.specs.Finals.{cut_of, one_at}
-use Rattle.cf_model.specs.Serial.{picked}
 use Rattle.cf_model.proofs.Along.{kept}
 use Rattle.cf_model.proofs.Degrees.{degree_after}
 use Rattle.cf_model.proofs.Demands.{Demand, of_frame, of_owed, of_slot, IsDemanded, legal_is_demanded}
@@ -33,7 +32,8 @@ use Rattle.cf_model.proofs.Soundness.{IsSound, sound}
 use Rattle.cf_world.specs.Worlds.{WorldView, state_of, state_in, next_by, act_in, acting, entry_of, entered, ended_at}
 use Rattle.cf_world.proofs.Acting.{acts_next, entered_is}
 use Rattle.cf_run.specs.Tally.{grown, lowered, finals_by, Counts, IsRun}
-use Rattle.cf_run.proofs.Raising.{times-contains, times_le-length, index_lowered, index-past, index-grown}
+use Rattle.cf_run.proofs.Stops.{picked_setup}
+use Rattle.cf_run.proofs.Raising.{one_most, times-contains, times_le-length, index_lowered, index-past, index-grown}
 
 -- ---- an entry that takes a reference away gains none, and makes no object
 
@@ -86,19 +86,9 @@ next_legal s st a own h next room = by (legal_is_demanded s st (entry_of s 0 st 
         of (of_owed o rest w e) going = legal_owed s st (entry_of s 0 st a) o rest h going w refl e refl
         of (of_slot b o rest os w l e) going = legal_drop s st (entry_of s 0 st a) b o rest os h going w l refl e refl
 
--- the one thread is picked as long as it is not done
-pub picked-setup : (s : Script) (st : State) (p : ℕ) → p ≤ 1 → st.frame.is_done ≡ false → picked s st p ≡ Some 0
-picked-setup s st zero h e = ap (λ (b : Bool). cond (not b) (Some 0) None) e
-picked-setup s st (suc zero) h e = ap (λ (b : Bool). cond (not b) (Some 0) None) e
-picked-setup s st (suc (suc p)) h e = absurd (omega arith)
-
 length_cond : (b : Bool) (o : ℕ) → length (cond b (o ∷ []) []) ≡ cond b 1 0
 length_cond true o = refl
 length_cond false o = refl
-
-one_most : (b : Bool) → cond {A = ℕ} b 1 0 ≤ 1
-one_most true = omega arith
-one_most false = omega arith
 
 -- one reference before is none after
 last_same : (m n : ℕ) → n + 1 ≡ m → (m == 1) ≡ (n == 0)
@@ -200,7 +190,7 @@ module _ (w w' : WorldView) (references : List ℕ) (finals : ℕ) (run : IsRun 
     legal = legal_now;
     limit = limit_is ∙ run.limit;
     within = omega (arith, one_more, limit_is, below);
-    order = rw journal_is (serial_more s start 0 w.journal e run.order (picked-setup s st _ run.pointer demanded.going));
+    order = rw journal_is (serial_more s start 0 w.journal e run.order (picked_setup s st _ run.pointer demanded.going));
     pointer = rw journal_is (omega (arith, pointer_after-more 0 w.journal e));
     counts = counts;
     few = λ o. omega (arith, degrees o, run.few o, times_le-length o w'.gained, gains, one_more);

@@ -9,7 +9,7 @@ use Rattle.cf_contents.specs.Contents.{times}
 use Rattle.cf_contents.proofs.SlotLaws.{times-append}
 use Rattle.cf_run.specs.Tally.{raised, lowered}
 
-one_most : (b : Bool) → cond {A = ℕ} b 1 0 ≤ 1
+pub one_most : (b : Bool) → cond {A = ℕ} b 1 0 ≤ 1
 one_most true = omega arith
 one_most false = omega arith
 

@@ -19,7 +19,7 @@ use Rattle.cf_run.specs.Tally.{IsOver}
 use Rattle.cf_run.specs.Outcomes.{StopsSerially}
 
 -- the one thread is picked as long as it is not done
-picked_setup : (s : Script) (st : State) (p : ℕ) → p ≤ 1 → st.frame.is_done ≡ false → picked s st p ≡ Some 0
+pub picked_setup : (s : Script) (st : State) (p : ℕ) → p ≤ 1 → st.frame.is_done ≡ false → picked s st p ≡ Some 0
 picked_setup s st zero h e = ap (λ (b : Bool). cond (not b) (Some 0) None) e
 picked_setup s st (suc zero) h e = ap (λ (b : Bool). cond (not b) (Some 0) None) e
 picked_setup s st (suc (suc p)) h e = absurd (omega arith)
@@ -27,10 +27,14 @@ picked_setup s st (suc (suc p)) h e = absurd (omega arith)
 none_some : (a : Action) → ◌≡◌ {A = Option Action} None (Some a) → ⊥
 none_some a h = cc
 
-next_when : (here over : Bool) (act : Option Action) (a : Action) → cond here (cond over None act) None ≡ Some a → (here ≡ true) × (over ≡ false)
+pub next_when : (here over : Bool) (act : Option Action) (a : Action) → cond here (cond over None act) None ≡ Some a → (here ≡ true) × (over ≡ false)
 next_when true true act a h = absurd (none_some a h)
 next_when true false act a h = (refl, refl)
 next_when false over act a h = absurd (none_some a h)
+
+-- a run that is full has a thread that is not done
+pub full_going : (s : Script) (st : State) → IsFull s st → st.frame.is_done ≡ false
+full_going s st full = (next_when (full.thread == 0) st.frame.is_done (worked s st st.frame.work) full.action full.next).1
 
 -- the action that would make an object too many is that of the one thread, which is not done
 full_stops : (s : Script) (es : List Entry) → pointer_after 0 es ≤ 1 → IsFull s (After s es) → StopsSerially s Full es

@@ -7,6 +7,7 @@ ghost use Rattle.cf_syntax.specs.declared.refusal.Refusal.{Refusal};
 ghost use Rattle.cf_syntax.specs.Text.{Text};
 ghost use Rattle.cf_syntax.specs.Owned.{Owned};
 ghost use Rattle.cf_model.specs.declared.ending.Ending.TheVariants.{Done, Limit, Full};
+ghost use Rattle.cf_model.specs.Journals.{IsWhole};
 ghost use Rattle.cf_run.specs.Commands.{file_of};
 ghost use Rattle.cf_run.specs.Outcomes.{script_bytes, IsRefusedText, Ran, Misused, Rejected, Unreadable, Shortened, Silent, Outcome};
 ghost use Rattle.cf_run.specs.Settled.{HasFew, Settles, due_of, status_after as after};
@@ -124,6 +125,13 @@ pub fn cfrun_serial<S: Source, K: Sink>(
         → ¬ HasRisen (S.faults source.old) (S.faults source.new)
         → ¬ HasRisen (K.faults sink.old) (K.faults sink.new)
         → Contains (0 ∷ 6 ∷ 7 ∷ 8 ∷ []) result.status }
+    ensures whole_runs { (told : List File) (file bytes : List ℕ) (script : Script)
+        → S.files source.old ≡ Some told → file_of (map (λ w. w.now) words.now) ≡ Some file
+        → content_of told file ≡ Some bytes → length bytes ≤ script_bytes → Text bytes script → Owned script
+        → ¬ HasRisen (S.faults source.old) (S.faults source.new)
+        → ¬ HasRisen (K.faults sink.old) (K.faults sink.new)
+        → IsWhole script result.journal.items
+        → (result.status ≡ 0) ⊎ (result.status ≡ 6) }
     ensures refused_is_told { (told : List File) (file bytes : List ℕ) (refusal : Refusal)
         → S.files source.old ≡ Some told → file_of (map (λ w. w.now) words.now) ≡ Some file
         → content_of told file ≡ Some bytes → IsRefusedText bytes refusal

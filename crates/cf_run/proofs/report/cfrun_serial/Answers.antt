@@ -1,5 +1,5 @@
 use Rattle.std.proofs.Common.{map}
-use Rattle.cf_run.proofs.Concluding.{when_done, when_limited, when_full, when_misused, when_rejected, when_unreadable, when_unwritten, when_no_memory, one_of_eight, misused_or_memory, runs_or_memory, rejected_or_memory}
+use Rattle.cf_run.proofs.Concluding.{when_done, when_limited, when_full, when_misused, when_rejected, when_unreadable, when_unwritten, when_no_memory, one_of_eight, misused_or_memory, runs_or_memory, done_or_memory, rejected_or_memory}
 use Rattle.cf_run.proofs.report.cfrun_serial.Goals as goal
 
 pub returns-clause-ran : goal.returns-clause-ran
@@ -34,6 +34,9 @@ returns-clause-misuse_is_told g c = misused_or_memory (map (λ w. w.now) c.args.
 
 pub returns-clause-accepted_runs : goal.returns-clause-accepted_runs
 returns-clause-accepted_runs g c = runs_or_memory (map (λ w. w.now) c.args.words.now) (g.S.Source.files c.args.source.now) (g.S.Source.faults c.args.source.now) (g.S.Source.faults c.run_command.new.source) (g.K.Sink.faults c.args.sink.now) (g.K.Sink.faults c.run_command.new.sink) (g.K.Sink.taken c.args.sink.now) (g.K.Sink.taken c.run_command.new.sink) c.run_command.result.status c.run_command.result.journal.items c.run_command.ensures
+
+pub returns-clause-whole_runs : goal.returns-clause-whole_runs
+returns-clause-whole_runs g c = done_or_memory (map (λ w. w.now) c.args.words.now) (g.S.Source.files c.args.source.now) (g.S.Source.faults c.args.source.now) (g.S.Source.faults c.run_command.new.source) (g.K.Sink.faults c.args.sink.now) (g.K.Sink.faults c.run_command.new.sink) (g.K.Sink.taken c.args.sink.now) (g.K.Sink.taken c.run_command.new.sink) c.run_command.result.status c.run_command.result.journal.items c.run_command.ensures
 
 pub returns-clause-refused_is_told : goal.returns-clause-refused_is_told
 returns-clause-refused_is_told g c = rejected_or_memory (map (λ w. w.now) c.args.words.now) (g.S.Source.files c.args.source.now) (g.S.Source.faults c.args.source.now) (g.S.Source.faults c.run_command.new.source) (g.K.Sink.faults c.args.sink.now) (g.K.Sink.faults c.run_command.new.sink) (g.K.Sink.taken c.args.sink.now) (g.K.Sink.taken c.run_command.new.sink) c.run_command.result.status c.run_command.result.journal.items c.run_command.ensures

@@ -2,6 +2,7 @@
 ghost use Rattle.std.specs.Prelude.{◌≡◌, ◌<◌, ◌++◌, [], Some, length, take, min, Contains, IfOk, OnErr, IsErr};
 ghost use Rattle.cf_fault.specs.Fault.{HasCause};
 ghost use Rattle.cf_io.specs.Memory.{after_call};
+ghost use Rattle.cf_io.specs.Faults.{faults_after};
 
 use crate::schedule::Schedule;
 use crate::{Failed, Sink};
@@ -63,6 +64,7 @@ impl Sink for MemSink {
         ensures taken { IfOk result (λ n. self.new.taken ≡ self.old.taken ++ take n bytes.now) }
         ensures kept { OnErr result (self.new.taken ≡ self.old.taken) }
         ensures plan { self.new.plan ≡ after_call self.old.plan }
+        ensures faults { self.new.faults ≡ faults_after result self.old.faults }
         ensures cause { HasCause result self.old.faults self.new.faults }
     {
         self.schedule.begin()?;

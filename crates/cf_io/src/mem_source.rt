@@ -3,6 +3,7 @@ ghost use Rattle.std.specs.Prelude.{◌≡◌, ◌<◌, ◌≤◌, ◌+◌, ◌^
 ghost use Rattle.cf_fault.specs.Fault.{HasCause};
 ghost use Rattle.cf_io.specs.Files.{content_of};
 ghost use Rattle.cf_io.specs.Memory.{after_call};
+ghost use Rattle.cf_io.specs.Faults.{faults_after};
 ghost use Rattle.std.specs.String.{string_bytes};
 ghost use Rattle.std.specs.Str.{bytes_eq};
 ghost use Rattle.cf_io.specs.MemFiles.{files_of, rest_of};
@@ -73,6 +74,7 @@ impl Source for MemSource {
         ensures files { self.new.files ≡ self.old.files }
         ensures kept { OnErr result (self.new.left ≡ self.old.left) }
         ensures plan { self.new.plan ≡ after_call self.old.plan }
+        ensures faults { self.new.faults ≡ faults_after result self.old.faults }
         ensures cause { HasCause result self.old.faults self.new.faults }
     {
         self.schedule.begin()?;
@@ -95,6 +97,7 @@ impl Source for MemSource {
         ensures files { self.new.files ≡ self.old.files }
         ensures kept { OnErr result (self.new.left ≡ self.old.left) }
         ensures plan { self.new.plan ≡ after_call self.old.plan }
+        ensures faults { self.new.faults ≡ faults_after result self.old.faults }
         ensures cause { HasCause result self.old.faults self.new.faults }
     {
         self.schedule.begin()?;

@@ -1,6 +1,7 @@
 // Which calls of an object in memory fail.
 ghost use Rattle.std.specs.Prelude.{◌≡◌, ◌≤◌, ◌↔◌, ◌+◌, ◌-◌, ◌^◌, min, Contains, IsErr};
 ghost use Rattle.cf_fault.specs.Fault.{HasCause, HasRisen};
+ghost use Rattle.cf_io.specs.Faults.{faults_after};
 
 use crate::Failed;
 use cf_fault::raised;
@@ -31,6 +32,7 @@ impl Schedule {
         ensures listed { IsErr result ↔ Contains self.old.failing.items self.old.calls }
         ensures calls { self.new.calls ≡ min (self.old.calls + 1) (2 ^ 64 - 1) }
         ensures failing { self.new.failing ≡ self.old.failing }
+        ensures faults { self.new.faults ≡ faults_after result self.old.faults }
         ensures cause { HasCause result self.old.faults self.new.faults }
     {
         let call = self.calls;
@@ -45,6 +47,7 @@ impl Schedule {
     pub fn fault(&mut self) -> Failed
         ensures calls { self.new.calls ≡ self.old.calls }
         ensures failing { self.new.failing ≡ self.old.failing }
+        ensures faults { self.new.faults ≡ min (self.old.faults + 1) (2 ^ 64 - 1) }
         ensures never_falls { self.old.faults ≤ self.new.faults }
         ensures risen { HasRisen self.old.faults self.new.faults }
     {

@@ -1,5 +1,5 @@
 pub mod ClassLaws
-pub mod CountLaws
+pub mod FitLaws
 pub mod FormLaws
 pub mod HexLaws
 pub mod NameLaws

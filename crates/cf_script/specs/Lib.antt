@@ -1,8 +1,8 @@
 pub mod BlockViews
-pub mod Counting
 pub mod Gives
 pub mod Judges
 pub mod NamesViews
 pub mod StatementViews
 pub mod TableViews
+pub mod Using
 pub mod Views

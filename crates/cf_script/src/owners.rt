@@ -1,46 +1,12 @@
 //! The owner check.
-ghost use Rattle.std.specs.Prelude.{◌≡◌, ℕ, ◌+◌, ◌<◌, ◌^◌, ◌≤◌, List, [], slice_index, nat_lt, ◌&&◌};
-ghost use Rattle.cf_syntax.specs.Owned.{one_of, may_touch, may_use, is_fit, are_fit, blocks_fit};
-ghost use Rattle.cf_syntax.specs.Forms.{touch_of};
+ghost use Rattle.std.specs.Prelude.{◌≡◌, ◌<◌, List, [], slice_index, nat_lt, ◌&&◌};
+ghost use Rattle.cf_syntax.specs.Counting.{Counted};
+ghost use Rattle.cf_syntax.specs.Owned.{may_touch, may_use, is_fit, are_fit, blocks_fit};
 ghost use Rattle.cf_syntax.specs.declared.statement.Statement.{Statement};
-ghost use Rattle.cf_script.specs.Counting.{Counted, Noted, HasRoom, may_use_some};
+ghost use Rattle.cf_script.specs.Using.{may_use_some};
 
-use cf_ids::{VARIABLES, VarId};
-use cf_syntax::{Block, Statement, Touch};
-
-/// How often the statements so far bind each variable, and how many references they give to it and
-/// take from it.
-#[derive(Drop)]
-pub(crate) struct Counts {
-    bound: [usize; VARIABLES],
-    given: [usize; VARIABLES],
-    taken: [usize; VARIABLES],
-}
-
-/// One more for a variable.
-fn add_one(table: &mut [usize; VARIABLES], variable: VarId)
-    requires { (v : ℕ) → v < 256 → slice_index table.old v + 1 < 2 ^ 64 }
-    ensures { (v : ℕ) → v < 256 → slice_index table.new v ≡ slice_index table.old v + one_of v variable }
-{
-    let cell = &mut table[variable.0 as usize];
-    *cell += 1;
-}
-
-/// The counts with one touch more.
-fn note(counts: &mut Counts, touch: Touch)
-    requires { HasRoom counts.old }
-    ensures { Noted counts.old touch counts.new }
-{
-    match touch {
-        Touch::Nothing => {}
-        Touch::Binds(variable) => {
-            add_one(&mut counts.bound, variable);
-            add_one(&mut counts.given, variable);
-        }
-        Touch::Plus(variable) => add_one(&mut counts.given, variable),
-        Touch::Minus(variable) => add_one(&mut counts.taken, variable),
-    }
-}
+use cf_ids::VarId;
+use cf_syntax::{Block, Counts, Statement, Touch};
 
 /// Whether the counts at a place are those of a variable that is bound and owns a reference.
 fn is_usable(counts: &Counts, v: usize) -> bool
@@ -93,16 +59,12 @@ fn is_fit(counts: &Counts, statement: &Statement) -> bool
 fn are_fit(statements: &[Statement]) -> bool
     ensures { result ≡ are_fit [] statements.now }
 {
-    let mut counts = Counts {
-        bound: [0; VARIABLES],
-        given: [0; VARIABLES],
-        taken: [0; VARIABLES],
-    };
+    let mut counts = Counts::new();
     for statement in statements {
         if !is_fit(&counts, statement) {
             return false;
         }
-        note(&mut counts, statement.touch());
+        counts.count(statement);
     }
     true
 }

@@ -2,6 +2,7 @@
 //! script's text and of an owned script.
 #![tactic(auto)]
 
+mod counts;
 mod form;
 mod literal;
 mod place;
@@ -10,6 +11,7 @@ mod rows;
 mod script;
 mod statement;
 
+pub use counts::Counts;
 pub use form::{
     ArrayForm, Class, Collection, DataForm, DictForm, FieldForm, Form, PlainForm, TextForm,
 };

@@ -1,5 +1,5 @@
 //! The statements of a script.
-ghost use Rattle.std.specs.Prelude.{◌≡◌};
+ghost use Rattle.std.specs.Prelude.{◌≡◌, ◌≤◌, length, slice_get};
 ghost use Rattle.cf_syntax.specs.Forms.{touch_of, used_by, is_known, makes_object, padded};
 
 use crate::literal::{DataLiteral, TextLiteral};
@@ -234,6 +234,13 @@ impl Statement {
     pub fn uses(&self) -> [Option<VarId>; 3]
         ensures { result ≡ padded (used_by self.now) }
     {
+        [self.first_used(), self.second_used(), self.third_used()]
+    }
+
+    /// The first variable that it uses.
+    fn first_used(&self) -> Option<VarId>
+        ensures { result ≡ slice_get (used_by self.now) 0 }
+    {
         match self {
             Statement::MakeString { .. }
             | Statement::MakeMstring { .. }
@@ -242,10 +249,15 @@ impl Statement {
             | Statement::MakeNumber { .. }
             | Statement::New { .. }
             | Statement::MakeArray { .. }
-            | Statement::MakeDict { .. } => [None, None, None],
+            | Statement::MakeDict { .. } => None,
+            Statement::StrSub { text, .. } => Some(*text),
+            Statement::ArrTake { array, .. } => Some(*array),
+            Statement::DictTake { dictionary, .. } => Some(*dictionary),
+            Statement::FieldTake { instance, .. } => Some(*instance),
             Statement::Retain { variable }
             | Statement::Release { variable }
             | Statement::Show { variable }
+            | Statement::StrAppend { variable, .. }
             | Statement::StrInsert { variable, .. }
             | Statement::StrDelete { variable, .. }
             | Statement::StrReplace { variable, .. }
@@ -253,49 +265,48 @@ impl Statement {
             | Statement::DataReplace { variable, .. }
             | Statement::DataDelete { variable, .. }
             | Statement::NumAs { variable, .. }
+            | Statement::ArrAppend { variable, .. }
+            | Statement::ArrInsert { variable, .. }
+            | Statement::ArrSet { variable, .. }
             | Statement::ArrRemove { variable, .. }
-            | Statement::FieldClear { variable, .. } => [Some(*variable), None, None],
-            Statement::StrAppend { variable, other } => [Some(*variable), Some(*other), None],
-            Statement::StrSub { text, .. } => [Some(*text), None, None],
-            Statement::ArrAppend { variable, element }
-            | Statement::ArrInsert {
-                variable,
-                element,
-                ..
-            }
-            | Statement::ArrSet {
-                variable,
-                element,
-                ..
-            }
-            | Statement::FieldSet {
-                variable,
-                element,
-                ..
-            } => [Some(*variable), Some(*element), None],
-            Statement::ArrTake { array, .. } => [Some(*array), None, None],
-            Statement::DictAdd {
-                variable,
-                key,
-                value,
-            }
-            | Statement::DictSet {
-                variable,
-                key,
-                value,
-            }
-            | Statement::DictReplace {
-                variable,
-                key,
-                value,
-            } => [Some(*variable), Some(*key), Some(*value)],
-            Statement::DictRemove { variable, key } => [Some(*variable), Some(*key), None],
-            Statement::DictTake {
-                dictionary,
-                key,
-                ..
-            } => [Some(*dictionary), Some(*key), None],
-            Statement::FieldTake { instance, .. } => [Some(*instance), None, None],
+            | Statement::DictAdd { variable, .. }
+            | Statement::DictSet { variable, .. }
+            | Statement::DictReplace { variable, .. }
+            | Statement::DictRemove { variable, .. }
+            | Statement::FieldSet { variable, .. }
+            | Statement::FieldClear { variable, .. } => Some(*variable),
+        }
+    }
+
+    /// The second one.
+    fn second_used(&self) -> Option<VarId>
+        ensures { result ≡ slice_get (used_by self.now) 1 }
+    {
+        match self {
+            Statement::StrAppend { other, .. } => Some(*other),
+            Statement::ArrAppend { element, .. }
+            | Statement::ArrInsert { element, .. }
+            | Statement::ArrSet { element, .. }
+            | Statement::FieldSet { element, .. } => Some(*element),
+            Statement::DictAdd { key, .. }
+            | Statement::DictSet { key, .. }
+            | Statement::DictReplace { key, .. }
+            | Statement::DictRemove { key, .. }
+            | Statement::DictTake { key, .. } => Some(*key),
+            _ => None,
+        }
+    }
+
+    /// The third one, which is the last.
+    fn third_used(&self) -> Option<VarId>
+        ensures third { result ≡ slice_get (used_by self.now) 2 }
+        ensures few { length (used_by self.now) ≤ 3 }
+    {
+        match self {
+            Statement::DictAdd { value, .. }
+            | Statement::DictSet { value, .. }
+            | Statement::DictReplace { value, .. } => Some(*value),
+            _ => None,
         }
     }
 

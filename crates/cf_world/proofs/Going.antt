@@ -100,14 +100,14 @@ pub record IsReleased (s : Script) (journal : List Entry) (bodies : List Held) (
       IsAt s (journal ++ entry_of s 0 (After s journal) a ∷ []) left table (trimmed_by left (waits_if ended o ++ work_taken work)) (number_taken (first_work work) number) false
 
 -- an object that may be used is live among the bodies
-live_in : (st : State) (bodies : List Held) (o : ℕ) → MirrorsState st bodies → is_live st o ≡ true → is_live_in bodies o ≡ true
-live_in st bodies o h live = h.live o ∙ live
+live_in : (state : State) (bodies : List Held) (o : ℕ) → MirrorsState state bodies → is_live state o ≡ true → is_live_in bodies o ≡ true
+live_in state bodies o h live = h.live o ∙ live
 
-made_in : (st : State) (bodies : List Held) (o : ℕ) → MirrorsState st bodies → o < length st.objects → o < length bodies
-made_in st bodies o h made = omega (arith, made, length-objects bodies, ap length h.objects_are)
+made_in : (state : State) (bodies : List Held) (o : ℕ) → MirrorsState state bodies → o < length state.objects → o < length bodies
+made_in state bodies o h made = omega (arith, made, length-objects bodies, ap length h.objects_are)
 
-class_in_bodies : (st : State) (bodies : List Held) (o : ℕ) → MirrorsState st bodies → class_of st.objects o ≡ class_of (objects_of bodies) o
-class_in_bodies st bodies o h = ap (λ (os : List Object). class_of os o) (sym h.objects_are)
+class_in_bodies : (state : State) (bodies : List Held) (o : ℕ) → MirrorsState state bodies → class_of state.objects o ≡ class_of (objects_of bodies) o
+class_in_bodies state bodies o h = ap (λ (os : List Object). class_of os o) (sym h.objects_are)
 
 action_same : (a b : Action) → ◌≡◌ {A = Option Action} (Some a) (Some b) → a ≡ b
 action_same a b e = cc

@@ -1,18 +1,18 @@
 -- The references by the parts of a world are those of the state, each as often.
-use Rattle.std.proofs.Common.{◌≡◌, ℕ, zero, suc, ◌+◌, ◌-◌, ◌^◌, ◌<◌, ◌≤◌, Bool, List, [], ◌∷◌, ◌++◌, length, take, map, replicate, get_or, Option, Some, None, refl, sym, ap, ◌∙◌, subst, arith, inl, inr, append_assoc}
+use Rattle.std.proofs.Common.{◌≡◌, ℕ, zero, suc, ◌+◌, ◌-◌, ◌<◌, ◌≤◌, Bool, List, [], ◌∷◌, ◌++◌, length, take, map, replicate, get_or, Option, Some, None, refl, sym, ap, ◌∙◌, subst, arith, inl, inr, append_assoc}
 use Rattle.std.specs.Prelude.{slice_get, count_by}
-use Rattle.std.proofs.lemmas.List.{map-append, get_or-replicate}
+use Rattle.std.proofs.lemmas.List.{map-append}
 use Rattle.std.proofs.lemmas.Bool.Decides.{eqb_tells}
 use Rattle.cf_graph.specs.Holders.{Holder, variable, owed, slot, code_of}
 use Rattle.cf_graph.specs.declared.edge.Edge.{Edge}
 use Rattle.cf_graph.specs.Edges.{Reference, edge_of, edges_of, weigh, one, counted}
 use Rattle.cf_graph.proofs.Counts.{weigh-append}
 use Rattle.cf_graph.proofs.Degrees.{same_counts}
+use Rattle.cf_syntax.specs.declared.counts.Counts.{Counts}
 use Rattle.cf_syntax.specs.declared.script.Script.{Script}
 use Rattle.cf_syntax.specs.declared.statement.Statement.{Statement}
-use Rattle.cf_syntax.specs.Forms.{touch_of}
-use Rattle.cf_syntax.specs.Owned.{given, taken, given_by, taken_by}
-use Rattle.cf_syntax.proofs.OwnedLaws.{total_push, total_le, given_by_le, taken_by_le}
+use Rattle.cf_syntax.specs.Counting.{Counted}
+use Rattle.cf_syntax.specs.Owned.{given, taken}
 use Rattle.cf_contents.specs.Contents.{times}
 use Rattle.cf_contents.specs.Stores.{Held, left_in, left_to}
 use Rattle.cf_contents.proofs.BodyLaws.{length-objects}
@@ -27,7 +27,6 @@ use Rattle.cf_model.proofs.Sizes.{few_made}
 use Rattle.cf_model.proofs.Soundness.{IsForeign, IsSound, sound}
 use Rattle.cf_world.specs.declared.work.Item.{Item}
 use Rattle.cf_world.specs.declared.work.Item.TheVariants.{Release, Slots}
-use Rattle.cf_world.specs.declared.edges.Tally.{Tally}
 use Rattle.cf_world.specs.Mirrors.{Follows, held_at}
 use Rattle.cf_world.specs.Works.{works}
 use Rattle.cf_world.specs.Running.{IsAt}
@@ -35,28 +34,8 @@ use Rattle.cf_world.specs.Worlds.{WorldView, state_of}
 use Rattle.cf_world.specs.Inside.{view_of, IsWorld}
 use Rattle.cf_world.specs.declared.world.World.TheInside.{Inside}
 use Rattle.cf_world.proofs.Acting.{begun_is}
-use Rattle.cf_world.specs.Referring.{Tallied, Noted, HasRoom, below, held_of, copies, counted_references, variable_references, owed_references, slot_references}
+use Rattle.cf_world.specs.Referring.{below, held_references, copies, counted_references, variable_references, owed_references, slot_references}
 use Rattle.cf_world.proofs.Mirroring.{left-mirrors}
-
--- ---- counts
-
-abbrev none : ℕ
-none = 0
-
-pub tallied_start : Tallied (record { given = replicate 256 0; taken = replicate 256 0 }) []
-tallied_start = record { gives = λ v small. get_or-replicate 256 v none none small; takes = λ v small. get_or-replicate 256 v none none small }
-
-pub tallied_more : (old new : Tally) (earlier : List Statement) (s : Statement) → Tallied old earlier → Noted old (touch_of s) new → Tallied new (earlier ++ s ∷ [])
-tallied_more old new earlier s tallied noted = record {
-  gives = λ v small. noted.gives v small ∙ ap (λ (n : ℕ). n + given_by v (touch_of s)) (tallied.gives v small) ∙ sym (total_push (given_by v) earlier s);
-  takes = λ v small. noted.takes v small ∙ ap (λ (n : ℕ). n + taken_by v (touch_of s)) (tallied.takes v small) ∙ sym (total_push (taken_by v) earlier s);
-}
-
-pub has_room : (c : Tally) (earlier : List Statement) → Tallied c earlier → length earlier + 1 < 2 ^ 64 → HasRoom c
-has_room c earlier tallied few = record {
-  gives = λ v small. omega (arith, tallied.gives v small, total_le (given_by v) (given_by_le v) earlier);
-  takes = λ v small. omega (arith, tallied.takes v small, total_le (taken_by v) (taken_by_le v) earlier);
-}
 
 -- ---- lists, one after another
 
@@ -114,7 +93,7 @@ weigh-replicate : (w : Reference → ℕ) (n k : ℕ) (r : Reference) → w r �
 weigh-replicate w zero k r e = (λ q. refl, λ q. refl)
 weigh-replicate w (suc n) k r e = let p = weigh-replicate w n k r e in (λ q. omega (arith, e, q, p.0 q), λ q. omega (arith, e, q, p.1 q))
 
-held-none : (r : Reference) (v : ℕ) (found : Option ℕ) (n : ℕ) → (r.holder ≡ variable 0 v → ⊥) → weigh (one r) (held_of v found n) ≡ 0
+held-none : (r : Reference) (v : ℕ) (found : Option ℕ) (n : ℕ) → (r.holder ≡ variable 0 v → ⊥) → weigh (one r) (held_references v found n) ≡ 0
 held-none r v None n apart = refl
 held-none r v (Some o) n apart = (weigh-replicate (one r) n 0 (reference 0 v o) (one_apart r (reference 0 v o) (λ q. apart (ap (λ (p : Reference). p.holder) q)))).0 refl
 
@@ -214,7 +193,7 @@ module _ (s : Script) (st : State) (bodies : List Held) (table : List (Option �
   clash o e = absurd cc
 
   -- what a variable holds is what it owns
-  own_same : (v o : ℕ) (found : Option ℕ) → look v st.frame.bindings ≡ found → weigh (one (reference 0 v o)) (held_of v found (owns v)) ≡ weigh (one (reference 0 v o)) st.edges
+  own_same : (v o : ℕ) (found : Option ℕ) → look v st.frame.bindings ≡ found → weigh (one (reference 0 v o)) (held_references v found (owns v)) ≡ weigh (one (reference 0 v o)) st.edges
   own_same v o None is = sym (sound_here.holds.loose v o (λ q. clash o (sym is ∙ q)))
   own_same v o (Some p) is = elim (eqb_tells p o) [
     | inl e ↦
@@ -234,7 +213,7 @@ module _ (s : Script) (st : State) (bodies : List Held) (table : List (Option �
       let here : weigh (one r) of_variables ≡ weigh (one r) (variable_references table passed v) =
       weigh-below (one r) (variable_references table passed) 256 v
       (λ i apart. held-none r i (held_at table i) (owns i) (variable_apart v i apart))
-      (λ le. ap (λ (found : Option ℕ). weigh (one r) (held_of v found (owns v))) (none_held table v (omega (arith, h.stands.size, le)))) in
+      (λ le. ap (λ (found : Option ℕ). weigh (one r) (held_references v found (owns v))) (none_held table v (omega (arith, h.stands.size, le)))) in
       let own = own_same v o (held_at table v) (sym (h.stands.table_is v)) in
       omega (arith, weigh-all (one r), here, own, owed-none r items (kinds_apart (variable 0 v) (owed 0) refl), no_slots r (λ b. kinds_apart (variable 0 v) (slot b) refl))
 
@@ -276,7 +255,7 @@ module _ (s : Script) (st : State) (bodies : List Held) (table : List (Option �
 -- ---- the steps of loops
 
 -- the references of a variable as callers see them
-pub edges-held : (v : ℕ) (found : Option ℕ) (n : ℕ) → edges_of (held_of v found n) ≡ copies found n
+pub edges-held : (v : ℕ) (found : Option ℕ) (n : ℕ) → edges_of (held_references v found n) ≡ copies found n
 edges-held v None n = refl
 edges-held v (Some o) n = each n
   where
@@ -285,10 +264,10 @@ edges-held v (Some o) n = each n
     each (suc n) = ap (λ (es : List Edge). edge_of (owed_reference 0 o) ∷ es) (each n)
 
 -- the counts are those behind statements
-pub counted-same : (table : List (Option ℕ)) (c : Tally) (earlier : List Statement) → Tallied c earlier → below (counted_references table c) 256 ≡ below (variable_references table earlier) 256
+pub counted-same : (table : List (Option ℕ)) (c : Counts) (earlier : List Statement) → Counted c earlier → below (counted_references table c) 256 ≡ below (variable_references table earlier) 256
 counted-same table c earlier t =
     below-same (counted_references table c) (variable_references table earlier) 256
-    (λ v small. ap (λ (n : ℕ). held_of v (held_at table v) (n - get_or c.taken v none)) (t.gives v small) ∙ ap (λ (n : ℕ). held_of v (held_at table v) (given v earlier - n)) (t.takes v small))
+    (λ v small. ap (λ (n : ℕ). held_references v (held_at table v) (n - get_or c.taken v 0)) (t.gives v small) ∙ ap (λ (n : ℕ). held_references v (held_at table v) (given v earlier - n)) (t.takes v small))
 
 pub owed-more : (us vs : List Item) → owed_references (us ++ vs) ≡ owed_references us ++ owed_references vs
 owed-more [] vs = refl
@@ -345,10 +324,10 @@ get_or_any [] v d lt = absurd (omega arith)
 get_or_any (x ∷ xs) zero d lt = refl
 get_or_any (x ∷ xs) (suc v) d lt = get_or_any xs v d (omega (arith, lt))
 
-pub variables-more : (table : List (Option ℕ)) (c : Tally) (v : ℕ) (d : Option ℕ) (n : ℕ) (start before after : List Edge) → v < length table → n ≡ get_or c.given v none - get_or c.taken v none → before ≡ start ++ edges_of (below (counted_references table c) v) → after ≡ before ++ copies (get_or table v d) n → after ≡ start ++ edges_of (below (counted_references table c) (v + 1))
+pub variables-more : (table : List (Option ℕ)) (c : Counts) (v : ℕ) (d : Option ℕ) (n : ℕ) (start before after : List Edge) → v < length table → n ≡ get_or c.given v 0 - get_or c.taken v 0 → before ≡ start ++ edges_of (below (counted_references table c) v) → after ≡ before ++ copies (get_or table v d) n → after ≡ start ++ edges_of (below (counted_references table c) (v + 1))
 variables-more table c v d n start before after lt size so_far is =
     edges-more (counted_references table c) v start before after (copies (get_or table v d) n) so_far is
-    (edges-held v (held_at table v) (get_or c.given v none - get_or c.taken v none)
+    (edges-held v (held_at table v) (get_or c.given v 0 - get_or c.taken v 0)
     ∙ ap (λ (k : ℕ). copies (held_at table v) k) (sym size) ∙ ap (λ (found : Option ℕ). copies found n) (sym (get_or_any table v d lt)))
 
 -- a world has at most as many bodies as there are numbers of objects
@@ -362,7 +341,7 @@ world-edges s journal bodies table items number is_done p es at is =
     edges_same s (After s journal) bodies table items number is_done (sound s journal at.owned at.legal) at.follows p es is
 
 -- what is added one after another is all of them
-pub edges-whole : (table : List (Option ℕ)) (c : Tally) (done earlier : List Statement) (us items : List Item) (start held owed_too all_of slots : List Edge) → start ≡ [] → held ≡ start ++ edges_of (below (counted_references table c) 256) → owed_too ≡ held ++ edges_of (owed_references us) → us ≡ items → all_of ≡ owed_too ++ slots → Tallied c done → done ≡ earlier → all_of ≡ (edges_of (below (variable_references table earlier) 256) ++ edges_of (owed_references items)) ++ slots
+pub edges-whole : (table : List (Option ℕ)) (c : Counts) (done earlier : List Statement) (us items : List Item) (start held owed_too all_of slots : List Edge) → start ≡ [] → held ≡ start ++ edges_of (below (counted_references table c) 256) → owed_too ≡ held ++ edges_of (owed_references us) → us ≡ items → all_of ≡ owed_too ++ slots → Counted c done → done ≡ earlier → all_of ≡ (edges_of (below (variable_references table earlier) 256) ++ edges_of (owed_references items)) ++ slots
 edges-whole table c done earlier us items start held owed_too all_of slots none first second same third tallied is =
     let held_is : held ≡ edges_of (below (variable_references table earlier) 256) =
     first ∙ ap (λ (es : List Edge). es ++ edges_of (below (counted_references table c) 256)) none

@@ -1,31 +1,15 @@
 -- The references that there are, by the parts of a world: those of variables, of owed work and of slots.
-use Rattle.std.specs.Prelude.{◌≡◌, ℕ, zero, suc, ◌+◌, ◌-◌, ◌<◌, ◌^◌, List, [], ◌∷◌, ◌++◌, map, replicate, Option, Some, None, slice_index}
+use Rattle.std.specs.Prelude.{ℕ, zero, suc, ◌-◌, List, [], ◌∷◌, ◌++◌, map, replicate, Option, Some, None, slice_index}
+use Rattle.cf_syntax.specs.declared.counts.Counts.{Counts}
 use Rattle.cf_syntax.specs.declared.statement.Statement.{Statement}
-use Rattle.cf_syntax.specs.declared.statement.Touch.{Touch}
-use Rattle.cf_syntax.specs.Owned.{given, taken, given_by, taken_by}
+use Rattle.cf_syntax.specs.Owned.{given, taken}
 use Rattle.cf_graph.specs.declared.edge.Edge.{Edge}
 use Rattle.cf_graph.specs.Edges.{Reference, edge_of}
 use Rattle.cf_contents.specs.Stores.{Held, left_in}
 use Rattle.cf_model.specs.Steps.{reference, owed_reference, slot_reference}
 use Rattle.cf_world.specs.declared.work.Item.{Item}
 use Rattle.cf_world.specs.declared.work.Item.TheVariants.{Release, Slots}
-use Rattle.cf_world.specs.declared.edges.Tally.{Tally}
 use Rattle.cf_world.specs.Mirrors.{held_at}
-
--- the counts are the sums over these statements
-pub record Tallied (c : Tally) (earlier : List Statement) : Type 0 where
-  pub gives : (v : ℕ) → v < 256 → slice_index c.given v ≡ given v earlier
-  pub takes : (v : ℕ) → v < 256 → slice_index c.taken v ≡ taken v earlier
-
--- the counts after a touch
-pub record Noted (old : Tally) (touch : Touch) (new : Tally) : Type 0 where
-  pub gives : (v : ℕ) → v < 256 → slice_index new.given v ≡ slice_index old.given v + given_by v touch
-  pub takes : (v : ℕ) → v < 256 → slice_index new.taken v ≡ slice_index old.taken v + taken_by v touch
-
--- each count can rise by one
-pub record HasRoom (c : Tally) : Type 0 where
-  pub gives : (v : ℕ) → v < 256 → slice_index c.given v + 1 < 2 ^ 64
-  pub takes : (v : ℕ) → v < 256 → slice_index c.taken v + 1 < 2 ^ 64
 
 -- the lists of the numbers below one, one after another
 unfoldable pub below : (ℕ → List Reference) → ℕ → List Reference
@@ -33,9 +17,9 @@ below f zero = []
 below f (suc n) = below f n ++ f n
 
 -- a number of references from a variable to its object
-abbrev pub held_of : ℕ → Option ℕ → ℕ → List Reference
-held_of v None n = []
-held_of v (Some o) n = replicate n (reference 0 v o)
+abbrev pub held_references : ℕ → Option ℕ → ℕ → List Reference
+held_references v None n = []
+held_references v (Some o) n = replicate n (reference 0 v o)
 
 -- the same as callers see them
 abbrev pub copies : Option ℕ → ℕ → List Edge
@@ -43,11 +27,11 @@ copies None n = []
 copies (Some o) n = replicate n (edge_of (owed_reference 0 o))
 
 -- the references of a variable, as many as counts say, and as many as it owns behind statements
-abbrev pub counted_references : List (Option ℕ) → Tally → ℕ → List Reference
-counted_references table c v = held_of v (held_at table v) (slice_index c.given v - slice_index c.taken v)
+abbrev pub counted_references : List (Option ℕ) → Counts → ℕ → List Reference
+counted_references table c v = held_references v (held_at table v) (slice_index c.given v - slice_index c.taken v)
 
 abbrev pub variable_references : List (Option ℕ) → List Statement → ℕ → List Reference
-variable_references table earlier v = held_of v (held_at table v) (given v earlier - taken v earlier)
+variable_references table earlier v = held_references v (held_at table v) (given v earlier - taken v earlier)
 
 -- those that the thread was given out
 abbrev pub owed_references : List Item → List Reference

@@ -1,57 +1,26 @@
 //! The references that there are.
-ghost use Rattle.std.specs.Prelude.{◌≡◌, ℕ, ◌+◌, ◌-◌, ◌<◌, ◌≤◌, ◌^◌, [], ◌∷◌, ◌++◌, length, take, replicate, slice_index, OnOk, IfOk};
-ghost use Rattle.cf_syntax.specs.Owned.{one_of};
+ghost use Rattle.std.specs.Prelude.{◌≡◌, ◌≤◌, [], ◌∷◌, ◌++◌, length, take, replicate, OnOk, IfOk};
+ghost use Rattle.cf_syntax.specs.Counting.{Counted};
 ghost use Rattle.cf_graph.specs.Edges.{edge_of, edges_of};
 ghost use Rattle.cf_model.specs.Steps.{owed_reference};
 ghost use Rattle.cf_model.specs.Journals.{setup};
-ghost use Rattle.cf_world.specs.Referring.{Tallied, Noted, HasRoom, below, copies, counted_references, variable_references, owed_references, slot_references};
+ghost use Rattle.cf_world.specs.Referring.{below, copies, counted_references, variable_references, owed_references, slot_references};
 
 use crate::frame::{Frame, Table};
 use crate::work::Item;
 use cf_graph::{Edge, Owner};
-use cf_ids::{ObjId, ThreadId, VARIABLES, VarId};
+use cf_ids::{ObjId, ThreadId, VARIABLES};
 use cf_store::Store;
-use cf_syntax::{Script, Statement, Touch};
+use cf_syntax::{Counts, Script, Statement};
 use std::alloc::{AllocError as NoMemory, Global};
 
-/// How many references statements give to each variable, and how many they take from it.
-#[derive(Drop)]
-struct Tally {
-    given: [usize; VARIABLES],
-    taken: [usize; VARIABLES],
-}
-
-/// One more for a variable.
-fn add_one(counts: &mut [usize; VARIABLES], variable: VarId)
-    requires { (v : ℕ) → v < 256 → slice_index counts.old v + 1 < 2 ^ 64 }
-    ensures { (v : ℕ) → v < 256 → slice_index counts.new v ≡ slice_index counts.old v + one_of v variable }
-{
-    let cell = &mut counts[variable.0 as usize];
-    *cell += 1;
-}
-
-/// The counts with one touch more.
-fn note(tally: &mut Tally, touch: Touch)
-    requires { HasRoom tally.old }
-    ensures { Noted tally.old touch tally.new }
-{
-    match touch {
-        Touch::Nothing => {}
-        Touch::Binds(variable) | Touch::Plus(variable) => add_one(&mut tally.given, variable),
-        Touch::Minus(variable) => add_one(&mut tally.taken, variable),
-    }
-}
-
 /// The counts of statements.
-fn count(statements: &[Statement]) -> Tally
-    ensures { Tallied result statements.now }
+fn count(statements: &[Statement]) -> Counts
+    ensures { Counted result statements.now }
 {
-    let mut counts = Tally {
-        given: [0; VARIABLES],
-        taken: [0; VARIABLES],
-    };
+    let mut counts = Counts::new();
     for statement in statements {
-        note(&mut counts, statement.touch());
+        counts.count(statement);
     }
     counts
 }
@@ -101,14 +70,14 @@ fn add_variable(edges: &mut Vec<Edge>, object: Option<ObjId>, number: usize) -> 
 }
 
 /// Adds the edges of the variables of setup.
-fn add_variables(edges: &mut Vec<Edge>, table: &Table, tally: &Tally) -> Result<(), NoMemory>
-    ensures { OnOk result (edges.new.items ≡ edges.old.items ++ edges_of (below (counted_references table.now tally.now) 256)) }
+fn add_variables(edges: &mut Vec<Edge>, table: &Table, counts: &Counts) -> Result<(), NoMemory>
+    ensures { OnOk result (edges.new.items ≡ edges.old.items ++ edges_of (below (counted_references table.now counts.now) 256)) }
 {
     for v in 0..VARIABLES {
         add_variable(
             edges,
             table[v],
-            tally.given[v].saturating_sub(tally.taken[v]),
+            counts.given[v].saturating_sub(counts.taken[v]),
         )?;
     }
     Ok(())
@@ -173,9 +142,9 @@ pub(crate) fn edges_by(
         ++ edges_of (owed_references frame.now.work.items)
         ++ edges_of (below (slot_references store.now.bodies) (length store.now.bodies))) }
 {
-    let tally = count(earlier(script, frame.number));
+    let counts = count(earlier(script, frame.number));
     let mut edges = Vec::new(alloc);
-    add_variables(&mut edges, &frame.table, &tally)?;
+    add_variables(&mut edges, &frame.table, &counts)?;
     add_owed(&mut edges, frame.work.as_slice())?;
     add_bodies(&mut edges, store)?;
     Ok(edges)

@@ -1,6 +1,6 @@
 use Rattle.std.proofs.Common.{◌≡◌, [], take, drop}
 use Rattle.cf_syntax.specs.Owned.{are_fit}
-use Rattle.cf_script.specs.Counting.{Counted}
+use Rattle.cf_syntax.specs.Counting.{Counted}
 use Rattle.cf_script.proofs.owners.are_fit.Given as goal
 
 abbrev pub invariant-loop-statement : goal.invariant-loop-statement

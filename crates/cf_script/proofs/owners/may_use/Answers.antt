@@ -1,6 +1,6 @@
 use Rattle.std.proofs.Common.{◌∙◌, ap}
 use Rattle.cf_syntax.specs.Owned.{may_use}
-use Rattle.cf_script.proofs.CountLaws.{may_use_is}
+use Rattle.cf_script.proofs.FitLaws.{may_use_is}
 use Rattle.cf_script.proofs.owners.may_use.Goals as goal
 
 pub returns : goal.returns

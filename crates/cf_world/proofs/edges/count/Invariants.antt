@@ -1,6 +1,6 @@
 use Rattle.std.proofs.Common.{take}
-use Rattle.cf_world.specs.Referring.{Tallied}
+use Rattle.cf_syntax.specs.Counting.{Counted}
 use Rattle.cf_world.proofs.edges.count.Given as goal
 
 abbrev pub invariant-loop-statement : goal.invariant-loop-statement
-invariant-loop-statement l = Tallied l.counts (take l.statement-index l.statements)
+invariant-loop-statement l = Counted l.counts (take l.statement-index l.statements)

@@ -7,6 +7,6 @@ use Rattle.cf_world.proofs.edges.edges_by.Goals as goal
 
 pub returns : goal.returns
 returns c =
-    edges-whole c.args.frame.now.table c.count-tally.result c.earlier.result.now (take c.args.frame.now.number (setup c.args.script.now)) c.as_slice.result.now c.args.frame.now.work.items
+    edges-whole c.args.frame.now.table c.count-counts.result c.earlier.result.now (take c.args.frame.now.number (setup c.args.script.now)) c.as_slice.result.now c.args.frame.now.work.items
     c.new-edges.result.items c.add_variables.new.edges.items c.add_owed.new.edges.items c.add_bodies.new.edges.items (edges_of (below (slot_references c.args.store.now.bodies) (length c.args.store.now.bodies)))
-    c.new-edges.ensures.items c.in_ok-add_variables.ensures c.in_ok-add_owed.ensures c.as_slice.ensures.value c.in_ok-add_bodies.ensures c.count-tally.ensures c.earlier.ensures
+    c.new-edges.ensures.items c.in_ok-add_variables.ensures c.in_ok-add_owed.ensures c.as_slice.ensures.value c.in_ok-add_bodies.ensures c.count-counts.ensures c.earlier.ensures

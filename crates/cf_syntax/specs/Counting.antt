@@ -1,9 +1,9 @@
--- What the running counts of the owner check have to do with the sums over the earlier statements.
-use Rattle.std.specs.Prelude.{◌≡◌, ℕ, ◌+◌, ◌<◌, ◌^◌, Bool, true, List, Option, Some, None, slice_index}
+-- What the running counts of a block's statements have to do with the sums over them.
+use Rattle.std.specs.Prelude.{◌≡◌, ℕ, ◌+◌, ◌<◌, ◌^◌, List, slice_index}
+use Rattle.cf_syntax.specs.declared.counts.Counts.{Counts}
 use Rattle.cf_syntax.specs.declared.statement.Statement.{Statement}
 use Rattle.cf_syntax.specs.declared.statement.Touch.{Touch}
-use Rattle.cf_syntax.specs.Owned.{bound, given, taken, bound_by, given_by, taken_by, may_use}
-use Rattle.cf_script.specs.declared.owners.Counts.{Counts}
+use Rattle.cf_syntax.specs.Owned.{bound, given, taken, bound_by, given_by, taken_by}
 
 -- the counts are the sums over these statements
 pub record Counted (c : Counts) (earlier : List Statement) : Type 0 where
@@ -18,12 +18,7 @@ pub record Noted (old : Counts) (touch : Touch) (new : Counts) : Type 0 where
   pub takes : (v : ℕ) → v < 256 → slice_index new.taken v ≡ slice_index old.taken v + taken_by v touch
 
 -- each count can rise by one
-pub record HasRoom (c : Counts) : Type 0 where
+pub record CanCount (c : Counts) : Type 0 where
   pub binds : (v : ℕ) → v < 256 → slice_index c.bound v + 1 < 2 ^ 64
   pub gives : (v : ℕ) → v < 256 → slice_index c.given v + 1 < 2 ^ 64
   pub takes : (v : ℕ) → v < 256 → slice_index c.taken v + 1 < 2 ^ 64
-
--- a place where a variable may stand
-abbrev pub may_use_some : List Statement → Option ℕ → Bool
-may_use_some earlier None = true
-may_use_some earlier (Some v) = may_use earlier v

@@ -1,0 +1,64 @@
+//! Running counts of what statements do to the variables of their block.
+ghost use Rattle.std.specs.Prelude.{◌≡◌, ℕ, ◌+◌, ◌<◌, ◌^◌, ◌∷◌, ◌++◌, [], List, slice_index};
+ghost use Rattle.cf_syntax.specs.declared.statement.Statement.{Statement};
+ghost use Rattle.cf_syntax.specs.Owned.{one_of};
+ghost use Rattle.cf_syntax.specs.Counting.{Counted, Noted, CanCount};
+
+use crate::statement::{Statement, Touch};
+use cf_ids::{VARIABLES, VarId};
+
+/// How often statements bind each variable of their block, and how many references they give to it and take from it.
+#[derive(Drop)]
+pub struct Counts {
+    pub bound: [usize; VARIABLES],
+    pub given: [usize; VARIABLES],
+    pub taken: [usize; VARIABLES],
+}
+
+impl Counts {
+    /// The counts of no statement.
+    #[tactic(auto, using(crate::proofs::CountLaws::counted_start))]
+    pub fn new() -> Counts
+        ensures { Counted result [] }
+    {
+        Counts {
+            bound: [0; VARIABLES],
+            given: [0; VARIABLES],
+            taken: [0; VARIABLES],
+        }
+    }
+
+    /// Counts one statement more.
+    #[tactic(auto, using(crate::proofs::CountLaws::counted_more))]
+    pub fn count(&mut self, statement: &Statement)
+        requires { CanCount self.old }
+        ensures { (earlier : List Statement) → Counted self.old earlier → Counted self.new (earlier ++ statement.now ∷ []) }
+    {
+        self.note(statement.touch());
+    }
+
+    /// Counts one touch more.
+    fn note(&mut self, touch: Touch)
+        requires { CanCount self.old }
+        ensures { Noted self.old touch self.new }
+    {
+        match touch {
+            Touch::Nothing => {}
+            Touch::Binds(variable) => {
+                add_one(&mut self.bound, variable);
+                add_one(&mut self.given, variable);
+            }
+            Touch::Plus(variable) => add_one(&mut self.given, variable),
+            Touch::Minus(variable) => add_one(&mut self.taken, variable),
+        }
+    }
+}
+
+/// One more for a variable.
+fn add_one(table: &mut [usize; VARIABLES], variable: VarId)
+    requires { (v : ℕ) → v < 256 → slice_index table.old v + 1 < 2 ^ 64 }
+    ensures { (v : ℕ) → v < 256 → slice_index table.new v ≡ slice_index table.old v + one_of v variable }
+{
+    let cell = &mut table[variable.0 as usize];
+    *cell += 1;
+}

@@ -1,4 +1,5 @@
-use Rattle.std.specs.Prelude.{ℕ, Bool, List, Option, position}
+use Rattle.std.specs.Prelude.{ℕ, Bool, List, [], ◌∷◌, ◌++◌, Option, is_some, position, if◌then◌else◌}
+use Rattle.std.specs.Map.{lookup, set_value}
 
 -- what a table is to its callers: the rows, each a key and a value, for how many more there is room
 -- before memory has to be taken, and the callbacks. That the rows stand in the order in which they were
@@ -11,3 +12,9 @@ pub record Table (K V C : Type 0) : Type 0 where
 -- the place of the first row whose key passes, if there is one
 abbrev pub place_of : {K V : Type 0} → (K → Bool) → List (K × V) → Option ℕ
 place_of test rows = position (λ row. test row.0) rows
+
+-- the rows after k is given the value v, where `test` says which keys are equal to k: an equal key that is there takes
+-- it, else a row is added (the reference's "set value"). That the key that is there stays, and that a row is added
+-- behind the last one, is this project's own
+abbrev pub pairs_with : {K V : Type 0} → (K → Bool) → List (K × V) → K → V → List (K × V)
+pairs_with test rows k v = if is_some (lookup test rows) then set_value test rows v else rows ++ (k, v) ∷ []

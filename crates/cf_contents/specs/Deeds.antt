@@ -14,7 +14,7 @@ use Rattle.cf_string.specs.declared.faults.StrFault.TheVariants.{Range, SplitsPa
 use Rattle.cf_string.specs.Faults.{cut_fault}
 use Rattle.cf_types.specs.Views.{LeafView}
 use Rattle.cf_types.specs.declared.cells.Cell.{Cell}
-use Rattle.cf_dictionary.specs.Dictionaries.{pairs_with}
+use Rattle.cf_basichash.specs.Tables.{pairs_with}
 use Rattle.cf_syntax.specs.declared.script.ClassLine.{ClassLine}
 use Rattle.cf_syntax.specs.declared.statement.Statement.{Statement}
 use Rattle.cf_syntax.specs.declared.statement.Statement.TheVariants as forms

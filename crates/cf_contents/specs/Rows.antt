@@ -52,16 +52,21 @@ a_key = record { class = 3; content = text_content false (codes "k") }
 abbrev pub deed_on : Statement → (first second third : Object) → Deed
 deed_on s a b c = deed_at (point ∷ []) (a ∷ b ∷ c ∷ []) s (Some 0 ∷ Some 1 ∷ Some 2 ∷ [])
 
--- what a statement answers on them, and what becomes of the first
+-- what a statement answers on them
 abbrev pub answer_on : Statement → (first second : Object) → Answer
 answer_on s a b = (deed_on s a b b).answer
 
+-- the same where its variables are empty
+abbrev pub answer_on_nothing : Statement → Answer
+answer_on_nothing s = (deed_at [] [] s (None ∷ None ∷ None ∷ [])).answer
+
+-- what becomes of the first of the three
 abbrev pub after : Statement → (first second : Object) → Content
 after s a b = content_after (resolved (Some 0 ∷ Some 1 ∷ Some 2 ∷ []) (deed_on s a b b).change) a.content
 
 -- what it takes in, and what it gives out
-abbrev pub entering : Statement → (first second : Object) → List ℕ
-entering s a b = coming_in (resolved (Some 0 ∷ Some 1 ∷ Some 2 ∷ []) (deed_on s a b b).change) a.content
+abbrev pub coming : Statement → (first second : Object) → List ℕ
+coming s a b = coming_in (resolved (Some 0 ∷ Some 1 ∷ Some 2 ∷ []) (deed_on s a b b).change) a.content
 
-abbrev pub leaving : Statement → (first second : Object) → List ℕ
-leaving s a b = going_out (resolved (Some 0 ∷ Some 1 ∷ Some 2 ∷ []) (deed_on s a b b).change) a.content
+abbrev pub going : Statement → (first second : Object) → List ℕ
+going s a b = going_out (resolved (Some 0 ∷ Some 1 ∷ Some 2 ∷ []) (deed_on s a b b).change) a.content

@@ -2,7 +2,8 @@ ghost use Rattle.std.specs.Prelude.{◌≡◌, ◌+◌, ◌≤◌, ◌<◌, ◌�
 ghost use Rattle.std.specs.List.{IsDistinct};
 ghost use Rattle.std.specs.Map.{keys_of, lookup, lookup_entry, remove_entry, set_value};
 ghost use Rattle.std.specs.Option.{option_copied, option_map, ok_or};
-ghost use Rattle.cf_dictionary.specs.Dictionaries.{pairs_with, set_answer};
+ghost use Rattle.cf_basichash.specs.Tables.{pairs_with};
+ghost use Rattle.cf_dictionary.specs.Dictionaries.{set_answer};
 
 use cf_basichash::Rows;
 use cf_callbacks::Callbacks;

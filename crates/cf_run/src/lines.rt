@@ -8,10 +8,10 @@ ghost use Rattle.cf_run.specs.Lines.{lent, gap, text_of, class_at, alive_words, 
 
 use crate::serial::Over;
 use crate::tally::Tally;
+use cf_body::class_name;
 use cf_ids::{Answer, ObjId, ThreadId};
 use cf_model::{Action, Ending, Entry};
 use cf_script::{ClassLine, Reason, Refusal};
-use cf_store::class_name;
 use cf_world::World;
 use std::alloc::{AllocError, Global};
 

@@ -5,12 +5,12 @@ use Rattle.std.proofs.lemmas.Option.{slice_get_read, slice_get_past, slice_get-m
 use Rattle.cf_contents.specs.Contents.{Object}
 use Rattle.cf_contents.specs.Keys.{numbered, with_number_of}
 use Rattle.cf_contents.specs.Deeds as deeds
-use Rattle.cf_store.specs.Bodies.{BodyView, object_in, held_of}
+use Rattle.cf_body.specs.Bodies.{BodyView, object_in, held_of}
 use Rattle.cf_contents.specs.Stores.{Held, objects_of, with_body, body_changed, body_dropped, bodies_changed, is_live_in, given_up_in, left_to, left_in}
-use Rattle.cf_store.specs.Changes.{CanBe, HasRoom, IsReadyAt, done_of}
-use Rattle.cf_store.specs.Applies.{body_at, IsReadyIn}
+use Rattle.cf_body.specs.Changes.{CanBe, HasRoom, done_of}
+use Rattle.cf_store.specs.Applies.{IsReadyAt, body_at, IsReadyIn}
 use Rattle.cf_store.specs.declared.deed.ReadyDeed.{ReadyDeed}
-use Rattle.cf_store.specs.declared.change.Change.{Change}
+use Rattle.cf_body.specs.declared.change.Change.{Change}
 
 -- the object of a body
 pub object_at : (bodies : List BodyView) (o : ℕ) → slice_get (objects_of (map held_of bodies)) o ≡ option_map object_in (slice_get bodies o)

@@ -2,7 +2,7 @@
 use Rattle.std.proofs.Common.{◌≡◌, ℕ, Option, Some, None, sym, ap, ◌∙◌}
 use Rattle.std.specs.Option.{option_map}
 use Rattle.cf_contents.specs.Deeds as deeds
-use Rattle.cf_store.specs.Bodies.{BodyView, object_in, held_of}
+use Rattle.cf_body.specs.Bodies.{BodyView, object_in, held_of}
 use Rattle.cf_contents.specs.Stores.{Held, live}
 use Rattle.cf_store.specs.Applies.{fresh_in, there_in, source_there, IsDeed}
 use Rattle.cf_store.specs.declared.store.Edited.{Edited}

@@ -1,18 +1,56 @@
 -- Deeds as the store keeps them, and what it tells of one that was done.
-use Rattle.std.specs.Prelude.{◌≡◌, ℕ, List, slice_get, Option, None, Some}
+use Rattle.std.specs.Prelude.{◌≡◌, ℕ, List, [], ◌∷◌, slice_get, Option, None, Some}
 use Rattle.std.specs.Option.{option_map}
 use Rattle.cf_contents.specs.Contents.{Object}
 use Rattle.cf_contents.specs.Keys.{Numbered}
 use Rattle.cf_contents.specs.Deeds as deeds
-use Rattle.cf_store.specs.Bodies.{BodyView, held_of}
-use Rattle.cf_store.specs.Changes.{change_of, done_of, IsNamed, CanBeAt, IsReadyAt}
+use Rattle.cf_body.specs.Bodies.{BodyView, held_of}
+use Rattle.cf_body.specs.Changes.{places, done_of, CanBe, HasRoom}
+use Rattle.cf_store.specs.Seen.{number_of}
 use Rattle.cf_contents.specs.Stores.{live, Ready}
-use Rattle.cf_store.specs.declared.change.Change.TheVariants.{Nothing}
+use Rattle.cf_body.specs.declared.change.Change.{Change}
+use Rattle.cf_body.specs.declared.change.Change.TheVariants.{Nothing, Text, Data, Insert, Replace, Remove, Fill, Clear, Put, Take}
 use Rattle.cf_store.specs.declared.deed.Source.{Source}
 use Rattle.cf_store.specs.declared.deed.Source.TheVariants.{Nowhere, Fresh, There}
 use Rattle.cf_store.specs.declared.deed.Deed.{Deed}
 use Rattle.cf_store.specs.declared.deed.ReadyDeed.{ReadyDeed}
 use Rattle.cf_store.specs.declared.store.Edited.{Edited}
+
+-- the change of a deed, in which what comes in has its number among the objects that are used
+abbrev pub change_of : Change → deeds.Change
+change_of Nothing = deeds.unchanged
+change_of (Text at len text) = deeds.in_text (record { at = at; out = len; enter = text.units })
+change_of (Data at len bytes) = deeds.in_data (record { at = at; out = len; enter = bytes.items })
+change_of (Insert at element) = places at 0 (Some 1 ∷ [])
+change_of (Replace at element) = places at 1 (Some 1 ∷ [])
+change_of (Remove at) = places at 1 []
+change_of (Fill at element) = places at 1 (Some 1 ∷ [])
+change_of (Clear at) = places at 1 (None ∷ [])
+change_of (Put key value) = deeds.put_pair key.leaf (Some 1) (Some 2)
+change_of (Take key) = deeds.take_pair key
+
+-- the objects that come in are those that the statement uses
+abbrev pub IsNamed : Change → (second third : Option Numbered) → Type 0
+IsNamed Nothing b c = Unit {0}
+IsNamed (Text at len text) b c = Unit {0}
+IsNamed (Data at len bytes) b c = Unit {0}
+IsNamed (Insert at element) b c = number_of b ≡ Some element
+IsNamed (Replace at element) b c = number_of b ≡ Some element
+IsNamed (Remove at) b c = Unit {0}
+IsNamed (Fill at element) b c = number_of b ≡ Some element
+IsNamed (Clear at) b c = Unit {0}
+IsNamed (Put key value) b c = (number_of b ≡ Some key.id) × (number_of c ≡ Some value)
+IsNamed (Take key) b c = Unit {0}
+
+-- the object, where it was made, can be changed so
+abbrev pub CanBeAt : Change → Option Numbered → Type 0
+CanBeAt change None = Unit {0}
+CanBeAt change (Some u) = CanBe change u.object.content
+
+-- a change can be done on the body of an object without memory
+abbrev pub IsReadyAt : Change → Option BodyView → Type 0
+IsReadyAt change None = Unit {0}
+IsReadyAt change (Some b) = CanBe change b.content × HasRoom change b
 
 abbrev pub source_of : Source → deeds.Source
 source_of Nowhere = deeds.nowhere

@@ -4,9 +4,9 @@ use Rattle.cf_types.specs.declared.cells.Cell.{Cell}
 use Rattle.cf_syntax.specs.declared.script.ClassLine.{ClassLine}
 use Rattle.cf_contents.specs.Keys.{Numbered}
 use Rattle.cf_contents.specs.Deeds as deeds
-use Rattle.cf_store.specs.Bodies.{number_of}
-use Rattle.cf_store.specs.Changes.{CanBeAt}
-use Rattle.cf_store.specs.declared.change.Change.TheVariants.{Put, Take}
+use Rattle.cf_store.specs.Applies.{CanBeAt}
+use Rattle.cf_store.specs.Seen.{number_of}
+use Rattle.cf_body.specs.declared.change.Change.TheVariants.{Put, Take}
 use Rattle.cf_store.specs.declared.pair_deeds.Entry.{Entry}
 
 -- a deed by what is found

@@ -3,16 +3,15 @@ ghost use Rattle.std.specs.Prelude.{◌≡◌, ◌<◌, map, length, Some, None,
 ghost use Rattle.std.specs.Option.{option_map};
 ghost use Rattle.cf_contents.specs.Contents.{present};
 ghost use Rattle.cf_contents.specs.Deeds.{object_of, taken_in, given_out};
-ghost use Rattle.cf_store.specs.Bodies.{held_of};
-ghost use Rattle.cf_store.specs.Changes.{done_of, CanBe, IsReadyAt};
-ghost use Rattle.cf_store.specs.Applies.{body_at, ready_by, source_of, fresh_in, there_in};
+ghost use Rattle.cf_body.specs.Bodies.{held_of};
+ghost use Rattle.cf_body.specs.Changes.{done_of, CanBe};
+ghost use Rattle.cf_store.specs.Applies.{IsReadyAt, body_at, ready_by, source_of, fresh_in, there_in};
 ghost use Rattle.cf_contents.specs.Stores.{live, objects_of, readied, bodies_changed};
 
-use crate::body::Body;
-use crate::change::{Change, Moved};
 use crate::deed::{ReadyDeed, Source};
 use crate::deeds::deed;
 use crate::seen::{Found, see};
+use cf_body::{Body, Change, Moved};
 use cf_ids::ObjId;
 use cf_syntax::{ClassLine, Statement};
 use std::alloc::{AllocError as NoMemory, Global};

@@ -1,18 +1,15 @@
 //! What statements do to texts, data and numbers.
-ghost use Rattle.std.specs.Prelude.{◌≡◌, ◌+◌, ◌≤◌, [], true, length, IfOk};
+ghost use Rattle.std.specs.Prelude.{◌≡◌, ◌+◌, ◌≤◌, [], Some, true, length, IfOk};
 ghost use Rattle.cf_ids.specs.declared.answer.Answer.TheVariants as answers;
 ghost use Rattle.cf_contents.specs.Descriptions.{description};
-ghost use Rattle.cf_contents.specs.Deeds.{answered, with_object, with_text, with_mutable_text, with_mutable_data, with_number, edited_text, edited_data, part_of, as_kind, deed_of};
+ghost use Rattle.cf_contents.specs.Deeds.{answered, skipped, unless_cut, with_object, with_text, with_mutable_text, with_mutable_data, with_number, edited_text, edited_data, part_of, as_kind, deed_of};
 ghost use Rattle.cf_store.specs.Applies.{Does, IsAlone};
 ghost use Rattle.cf_store.specs.Groups.{acts_on_content};
 
-use crate::body::Kind;
-use crate::change::Change;
 use crate::deed::Deed;
-use crate::description::describe;
 use crate::making::copy_bytes;
 use crate::seen::{Found, Seen, mutable_bytes_in, mutable_text_in, number_in, text_in};
-use crate::texts::{answer_to, cut_fault};
+use cf_body::{Change, Kind, describe};
 use cf_data::Bytes;
 use cf_ids::{Answer, Seq, TypeId};
 use cf_number::NumKind;
@@ -140,7 +137,7 @@ fn edit_text(used: &Found, at: usize, len: usize, text: Str) -> Deed
     let Some(old) = mutable_text_in(&used.first) else {
         return Deed::skipped();
     };
-    match cut_fault(old, at, len) {
+    match old.cut_fault(at, len) {
         None => Deed::changing(Answer::Ok, Change::Text { at, len, text }),
         Some(fault) => Deed::answered(answer_to(fault)),
     }
@@ -180,4 +177,15 @@ fn edit_bytes(used: &Found, at: usize, len: usize, bytes: Bytes) -> Deed
         return Deed::answered(Answer::Range);
     }
     Deed::changing(Answer::Ok, Change::Data { at, len, bytes })
+}
+
+/// What is answered where a text may not be cut.
+fn answer_to(fault: StrFault) -> Answer
+    ensures { result ≡ (unless_cut (Some fault) skipped).answer }
+{
+    match fault {
+        StrFault::Range => Answer::Range,
+        StrFault::SplitsPair => Answer::Split,
+        _ => Answer::Skip,
+    }
 }

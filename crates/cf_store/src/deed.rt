@@ -2,14 +2,13 @@
 ghost use Rattle.std.specs.Prelude.{◌≡◌, ◌<◌, None};
 ghost use Rattle.cf_contents.specs.Contents.{Object};
 ghost use Rattle.cf_contents.specs.Deeds.{taken};
-ghost use Rattle.cf_store.specs.Bodies.{content_of, members_in, member_limit};
+ghost use Rattle.cf_body.specs.Bodies.{content_of, members_in, member_limit};
 ghost use Rattle.cf_store.specs.Applies.{deed_by};
 ghost use Rattle.cf_store.specs.declared.deed.Source.TheVariants.{Nowhere, Fresh};
-ghost use Rattle.cf_store.specs.declared.change.Change.TheVariants.{Nothing};
+ghost use Rattle.cf_body.specs.declared.change.Change.TheVariants.{Nothing};
 ghost use Rattle.cf_ids.specs.declared.answer.Answer.TheVariants.{Skip, Ok};
 
-use crate::body::{Kind, Made};
-use crate::change::Change;
+use cf_body::{Change, Kind, Made};
 use cf_ids::{Answer, ObjId, TypeId};
 
 /// Where the object comes from that a statement binds.
@@ -64,7 +63,7 @@ impl Deed {
     {
         Deed {
             answer: Answer::Skip,
-            source: Source::Fresh(Made { class, kind }),
+            source: Source::Fresh(Made::new(class, kind)),
             change: Change::Nothing,
         }
     }

@@ -1,23 +1,18 @@
 //! What statements do that use no object, and those that only count references: most of them make an object.
 ghost use Rattle.std.specs.Prelude.{◌≡◌, ◌<◌, None, [], length, replicate, IfOk};
-ghost use Rattle.std.specs.Option.{option_copied};
 ghost use Rattle.cf_contents.specs.Contents.{text_content, data_content, number_content, array_content, dictionary_content, string_class, data_class, number_class, array_class, dictionary_class, instance_of};
 ghost use Rattle.cf_contents.specs.Keys.{line_of};
 ghost use Rattle.cf_contents.specs.Deeds.{made, fresh_if, deed_of};
 ghost use Rattle.cf_store.specs.Applies.{IsAlone};
 
-use crate::body::{Instance, Kind};
 use crate::deed::Deed;
-use crate::pairs::Pairs;
 use cf_array::Array;
+use cf_body::{Instance, Kind, Pairs, line_of};
 use cf_data::Bytes;
 use cf_ids::{Answer, ObjId, TypeId};
 use cf_number::Num;
 use cf_syntax::{ClassLine, DataLiteral, Statement, TextLiteral};
 use std::alloc::{AllocError as NoMemory, Global};
-
-/// The number of a script's first class.
-pub(crate) const FIRST_CLASS: u16 = 14;
 
 /// The type of data.
 const DATA: TypeId = TypeId(4);
@@ -130,11 +125,4 @@ fn empty_fields(alloc: Global, count: u8) -> Result<Vec<Option<ObjId>>, NoMemory
     ensures few { IfOk result (λ fields. length fields.items < 256) }
 {
     vec![in alloc; None; usize::from(count)]
-}
-
-/// The line of a class.
-pub(crate) fn line_of(classes: &[ClassLine], class: TypeId) -> Option<&ClassLine>
-    ensures { option_copied result ≡ line_of classes.now class }
-{
-    classes.get(usize::from(class.0.saturating_sub(FIRST_CLASS)))
 }

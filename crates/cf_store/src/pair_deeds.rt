@@ -5,11 +5,9 @@ ghost use Rattle.cf_store.specs.Applies.{Does};
 ghost use Rattle.cf_store.specs.Finds.{IsEntry, IsFound};
 ghost use Rattle.cf_store.specs.Groups.{acts_on_pairs};
 
-use crate::body::Kind;
-use crate::change::Change;
 use crate::deed::Deed;
-use crate::keys::key_of;
 use crate::seen::{Found, number_of};
+use cf_body::{Change, Kind, key_of};
 use cf_ids::{Answer, ObjId};
 use cf_syntax::{ClassLine, Statement};
 use cf_types::Cell;
@@ -57,10 +55,10 @@ fn find(alloc: Global, classes: &[ClassLine], used: &Found) -> Result<Option<Ent
         return Ok(None);
     };
     let body = dictionary.body;
-    let Kind::Dictionary(pairs) = &body.kind else {
+    let Kind::Dictionary(pairs) = body.kind() else {
         return Ok(None);
     };
-    let key = key_of(alloc, classes, key)?;
+    let key = key_of(alloc, classes, key.number, key.body)?;
     let value = pairs.get(&key);
     Ok(Some(Entry { key, value }))
 }

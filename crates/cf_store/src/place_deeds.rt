@@ -4,9 +4,9 @@ ghost use Rattle.cf_contents.specs.Deeds.{with_object, with_elements, with_field
 ghost use Rattle.cf_store.specs.Applies.{Does};
 ghost use Rattle.cf_store.specs.Groups.{acts_on_places};
 
-use crate::change::Change;
 use crate::deed::Deed;
 use crate::seen::{Found, elements_in, fields_in, number_of};
+use cf_body::Change;
 use cf_ids::Answer;
 use cf_syntax::Statement;
 

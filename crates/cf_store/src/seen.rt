@@ -2,11 +2,12 @@
 ghost use Rattle.std.specs.Prelude.{◌≡◌, map, None};
 ghost use Rattle.std.specs.Option.{option_map};
 ghost use Rattle.cf_contents.specs.Keys.{numbered};
-ghost use Rattle.cf_store.specs.Bodies.{held_of, read_in, number_of, units_in, mutable_units_in, mutable_bytes_in, number_in, fields_in, elements_in};
+ghost use Rattle.cf_body.specs.Bodies.{held_of};
+ghost use Rattle.cf_store.specs.Seen.{read_in, number_of, units_in, mutable_units_in, mutable_bytes_in, number_in, fields_in, elements_in};
 ghost use Rattle.cf_contents.specs.Stores.{objects_of};
 
-use crate::body::{Body, Kind};
 use cf_array::Array;
+use cf_body::{Body, Kind};
 use cf_data::Bytes;
 use cf_ids::ObjId;
 use cf_number::Num;
@@ -25,7 +26,7 @@ impl<'a> Model for Seen<'a> {
 
     ghost Value = { Numbered };
 
-    ghost use Rattle.cf_store.specs.Bodies.{object_in};
+    ghost use Rattle.cf_body.specs.Bodies.{object_in};
 
     ghost view = { λ s. record { number = s.number; object = object_in s.body.now } };
 }
@@ -71,7 +72,7 @@ pub(crate) fn text_in<'a>(seen: &Option<Seen<'a>>) -> Option<&'a Str>
         return None;
     };
     let body = seen.body;
-    match &body.kind {
+    match body.kind() {
         Kind::Text { text, .. } => Some(text),
         _ => None,
     }
@@ -85,7 +86,7 @@ pub(crate) fn mutable_text_in<'a>(seen: &Option<Seen<'a>>) -> Option<&'a Str>
         return None;
     };
     let body = seen.body;
-    match &body.kind {
+    match body.kind() {
         Kind::Text {
             mutable: true,
             text,
@@ -102,7 +103,7 @@ pub(crate) fn mutable_bytes_in<'a>(seen: &Option<Seen<'a>>) -> Option<&'a Bytes>
         return None;
     };
     let body = seen.body;
-    match &body.kind {
+    match body.kind() {
         Kind::Data {
             mutable: true,
             bytes,
@@ -119,7 +120,7 @@ pub(crate) fn number_in(seen: &Option<Seen>) -> Option<Num>
         return None;
     };
     let body = seen.body;
-    match &body.kind {
+    match body.kind() {
         Kind::Number(number) => Some(*number),
         _ => None,
     }
@@ -133,7 +134,7 @@ pub(crate) fn fields_in<'a>(seen: &Option<Seen<'a>>) -> Option<&'a [Option<ObjId
         return None;
     };
     let body = seen.body;
-    match &body.kind {
+    match body.kind() {
         Kind::Instance(instance) => Some(instance.fields.as_slice()),
         _ => None,
     }
@@ -147,7 +148,7 @@ pub(crate) fn elements_in<'a>(seen: &Option<Seen<'a>>) -> Option<&'a Array<ObjId
         return None;
     };
     let body = seen.body;
-    match &body.kind {
+    match body.kind() {
         Kind::Array { elements, .. } => Some(elements),
         _ => None,
     }

@@ -3,15 +3,14 @@ ghost use Rattle.std.specs.Prelude.{◌≡◌, ◌+◌, ◌-◌, ◌≤◌, ◌<
 ghost use Rattle.std.specs.Option.{option_map};
 ghost use Rattle.cf_contents.specs.Contents.{present};
 ghost use Rattle.cf_contents.specs.Deeds.{object_of, coming_in, going_out, taken_in, given_out};
-ghost use Rattle.cf_store.specs.Bodies.{held_of};
-ghost use Rattle.cf_store.specs.Changes.{done_of, IsReadyAt};
-ghost use Rattle.cf_store.specs.Applies.{IsDeed, body_at, ready_by};
+ghost use Rattle.cf_body.specs.Bodies.{held_of};
+ghost use Rattle.cf_body.specs.Changes.{done_of};
+ghost use Rattle.cf_store.specs.Applies.{IsReadyAt, IsDeed, body_at, ready_by};
 ghost use Rattle.cf_contents.specs.Stores.{Held, live, objects_of, readied, with_body, body_retired, body_dropped, bodies_changed, is_live_in, given_up_in, left_in};
 
 use crate::bodies::{bound, change_body, deed_among, make_room};
-use crate::body::Body;
-use crate::change::Moved;
 use crate::deed::{Deed, ReadyDeed, clear};
+use cf_body::{Body, Moved};
 use cf_ids::{Answer, ObjId, TypeId};
 use cf_syntax::{ClassLine, Statement};
 use std::alloc::{AllocError as NoMemory, Global};
@@ -46,7 +45,7 @@ impl Model for Store {
 
     ghost Value = { StoreView };
 
-    ghost use Rattle.cf_store.specs.Bodies.{held_of};
+    ghost use Rattle.cf_body.specs.Bodies.{held_of};
     ghost use Rattle.cf_store.specs.Applies.{ready_by, IsReadyIn};
 
     ghost view = { λ s. record {
@@ -81,7 +80,7 @@ impl Store {
         ensures { result ≡ option_map (λ (h : Held). h.object.class) (slice_get self.now.bodies o) }
     {
         let body = self.bodies.get(o.0 as usize)?;
-        Some(body.class)
+        Some(body.class())
     }
 
     /// Whether an object was made and is not finalised.
@@ -89,7 +88,7 @@ impl Store {
         ensures { result ≡ is_live_in self.now.bodies o }
     {
         match self.bodies.get(o.0 as usize) {
-            Some(body) => !body.is_dead,
+            Some(body) => !body.is_dead(),
             None => false,
         }
     }
@@ -99,7 +98,7 @@ impl Store {
         ensures { result ≡ given_up_in self.now.bodies o }
     {
         match self.bodies.get(o.0 as usize) {
-            Some(body) => body.given_up,
+            Some(body) => body.given_up(),
             None => 0,
         }
     }
@@ -112,7 +111,7 @@ impl Store {
         ensures given_up { k < given_up_in self.now.bodies o → result ≡ None }
     {
         let body = self.bodies.get(o.0 as usize)?;
-        if k < body.given_up as usize {
+        if k < body.given_up() as usize {
             return None;
         }
         body.slot(k)

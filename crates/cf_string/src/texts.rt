@@ -89,6 +89,14 @@ impl Str {
         char_at(&self.units, at)
     }
 
+    /// Why the `len` units from `at` on may not be cut out, if they may not: the range passes the length, or one of
+    /// its two ends falls inside a surrogate pair.
+    pub fn cut_fault(&self, at: usize, len: usize) -> Option<StrFault>
+        ensures { result ≡ cut_fault self.now.units at len }
+    {
+        cut_fault(&self.units, at, len)
+    }
+
     /// The `len` units from `at` on, as a text of their own.
     pub fn substring(&self, alloc: Global, at: usize, len: usize) -> Result<Str, StrFault>
         ensures fault { IsRefusedFor result (cut_fault self.now.units at len) }

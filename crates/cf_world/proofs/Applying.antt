@@ -13,7 +13,7 @@ use Rattle.cf_world.specs.Mirrors.{statement_action, first_work, action_by}
 use Rattle.cf_world.specs.Works.{works}
 use Rattle.cf_world.specs.Running.{IsAt, IsReadyFor, IsPlainNext}
 use Rattle.cf_world.specs.Worlds.{WorldView, state_of, acting, entered, entered_by, entry_of, ended_at, ended_in}
-use Rattle.cf_world.specs.Inside.{view_of, IsBegun, IsWorld, HasRoom, IsRoomy}
+use Rattle.cf_world.specs.Inside.{view_of, IsBegun, IsWorld, RoomFor, IsRoomy}
 use Rattle.cf_world.specs.declared.world.World.TheInside.{Inside}
 use Rattle.cf_world.proofs.Acting.{same_action, acting_is, IsActing, idle_work, idle_items, plain_next, entered_is, some_act, begun_is, begun_world}
 
@@ -28,7 +28,7 @@ module _ (w : Inside) (s : Script) (view : WorldView) (t : ℕ) (script : w.scri
   state_is = rw script refl
 
   roomy : view.room ≡ Some t → IsRoomy s w t
-  roomy room = subst (HasRoom s w) (ap (λ (v : WorldView). v.room) is ∙ room) begun.room
+  roomy room = subst (RoomFor s w) (ap (λ (v : WorldView). v.room) is ∙ room) begun.room
 
   pub spare_work : view.room ≡ Some t → vec_len w.frame.work + 2 ≤ vec_capacity w.frame.work
   spare_work room = (roomy room).work
@@ -75,7 +75,7 @@ module _ (w : Inside) (s : Script) (view : WorldView) (t : ℕ) (script : w.scri
     capacity = omega (arith, limit, capacity, begun.capacity);
     gained_room = omega (arith, gains, begun.gained_room);
     few = few;
-    room = subst (HasRoom s w') (sym room) tt;
+    room = subst (RoomFor s w') (sym room) tt;
   })
 
   -- ---- an action that takes no reference away

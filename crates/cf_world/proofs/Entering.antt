@@ -23,7 +23,7 @@ use Rattle.cf_model.specs.Journals.{setup, used_objects, demanded, drop_of, work
 use Rattle.cf_model.proofs.Growth.{state_from-append}
 use Rattle.cf_model.proofs.Soundness.{IsSound, sound}
 use Rattle.cf_model.proofs.Legality.{legal_demanded, effect-demanded, answer-demanded, demanded-statement, demanded-done, effect-done, answer-done, step-demanded}
-use Rattle.cf_world.specs.Mirrors.{Follows, used_in, trimmed_by, object_in, bodies_after, table_after, BindsWithin, gained_after, statement_action, slot_action, first_work, action_by}
+use Rattle.cf_world.specs.Mirrors.{Follows, used_in, trimmed_by, object_bound, bodies_after, table_after, BindsWithin, gained_after, statement_action, slot_action, first_work, action_by}
 use Rattle.cf_world.specs.Worlds.{entry_of}
 use Rattle.cf_world.proofs.Mirroring.{left-mirrors}
 use Rattle.cf_world.proofs.Stepping.{resolved_fits, touch_gains, touch_answers, follows_touch}
@@ -75,7 +75,7 @@ module _ (s : Script) (journal : List Entry) (bodies : List Held) (table : List 
   ready = readied s.classes bodies x (used_in table x)
 
   abbrev object : Option ℕ
-  object = object_in bodies (touch_of x) ready.deed.source ready.object
+  object = object_bound bodies (touch_of x) ready.deed.source ready.object
 
   abbrev entry : Entry
   entry = record { thread = 0; action = statement_action table number (Some x); answer = answer_of (touch_of x) object ready.deed.answer }

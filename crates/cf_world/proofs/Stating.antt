@@ -11,14 +11,14 @@ use Rattle.cf_contents.specs.Contents.{present}
 use Rattle.cf_contents.specs.Deeds.{Source, nowhere, fresh, there, Change, first_of, object_of, taken_in, given_out}
 use Rattle.cf_contents.specs.Stores.{Held, Ready, live, objects_of, body_changed, bodies_changed}
 use Rattle.cf_contents.proofs.BodyLaws.{length-with_body}
-use Rattle.cf_store.specs.Bodies.{BodyView, held_of}
+use Rattle.cf_body.specs.Bodies.{BodyView, held_of}
 use Rattle.cf_store.specs.Applies.{fresh_in, there_in, IsDeed}
 use Rattle.cf_store.specs.declared.store.Edited.{Edited}
 use Rattle.cf_model.specs.declared.action.Action.{Action}
 use Rattle.cf_model.specs.Actions.{action_of}
 use Rattle.cf_model.specs.State.{Work, release_of}
 use Rattle.cf_model.specs.Steps.{made_from, made_by, answer_of}
-use Rattle.cf_world.specs.Mirrors.{used_in, trimmed_by, found_in, object_in, bodies_after, table_after, gained_after, statement_action}
+use Rattle.cf_world.specs.Mirrors.{used_in, trimmed_by, found_in, object_bound, bodies_after, table_after, gained_after, statement_action}
 use Rattle.cf_world.specs.Works.{bound_to, touched_by, body_by, IsStated}
 use Rattle.cf_world.proofs.Mirroring.{live-changed}
 
@@ -28,7 +28,7 @@ bound_is bodies nowhere = refl
 bound_is bodies (fresh ob) = refl
 bound_is bodies (there o) = refl
 
-pub touched_is : (touch : Touch) (bodies : List Held) (source : Source) (used : Option ℕ) → touched_by touch bodies (option_map live (fresh_in source)) (there_in source) used ≡ object_in bodies touch source used
+pub touched_is : (touch : Touch) (bodies : List Held) (source : Source) (used : Option ℕ) → touched_by touch bodies (option_map live (fresh_in source)) (there_in source) used ≡ object_bound bodies touch source used
 touched_is Nothing bodies source used = refl
 touched_is (Binds v) bodies source used = bound_is bodies source
 touched_is (Plus v) bodies source used = refl
@@ -55,7 +55,7 @@ found-changed o change bodies nowhere = refl
 found-changed o change bodies (fresh ob) = ap (λ (n : ℕ). Some n) (length-changed o change bodies)
 found-changed o change bodies (there p) = ap (λ (b : Bool). cond b (Some p) None) (live-changed o change bodies p)
 
-pub object-changed : (o : Option ℕ) (change : Change) (bodies : List Held) (touch : Touch) (source : Source) (used : Option ℕ) → object_in (bodies_changed o change bodies) touch source used ≡ object_in bodies touch source used
+pub object-changed : (o : Option ℕ) (change : Change) (bodies : List Held) (touch : Touch) (source : Source) (used : Option ℕ) → object_bound (bodies_changed o change bodies) touch source used ≡ object_bound bodies touch source used
 object-changed o change bodies Nothing source used = refl
 object-changed o change bodies (Binds v) source used = found-changed o change bodies source
 object-changed o change bodies (Plus v) source used = refl
@@ -76,7 +76,7 @@ pub record Told (x : Statement) (bodies bodies' bodies'' : List Held) (table tab
 
 module _ (x : Statement) (r : Ready) (bodies bodies' bodies'' : List Held) (table table' : List (Option ℕ)) (number : ℕ) (used : List (Option ℕ)) (touch : Touch) (e : Edited) (object : Option ℕ) (answer : Answer) (action : Action) (gained : List ℕ) (owed work : List Work) (told : Told x bodies bodies' bodies'' table table' number used touch e object answer action gained owed work) (on_first : r.object ≡ first_of (used_in table x)) (deed : IsDeed r.deed e) (took : present e.took ≡ taken_in (object_of (objects_of bodies) r.object) r.deed.change) (gave : present e.gave ≡ given_out (object_of (objects_of bodies) r.object) r.deed.change) (changes : bodies' ≡ bodies_changed r.object r.deed.change bodies) where
   abbrev right : Option ℕ
-  right = object_in bodies (touch_of x) r.deed.source r.object
+  right = object_bound bodies (touch_of x) r.deed.source r.object
 
   first_same : first_of used ≡ r.object
   first_same = ap first_of told.used_is ∙ sym on_first
@@ -89,7 +89,7 @@ module _ (x : Statement) (r : Ready) (bodies bodies' bodies'' : List Held) (tabl
       ∙ ap (λ (o : Option ℕ). touched_by (touch_of x) bodies' (option_map live (fresh_in r.deed.source)) o (first_of used)) deed.there
       ∙ ap (λ (o : Option ℕ). touched_by (touch_of x) bodies' (option_map live (fresh_in r.deed.source)) (there_in r.deed.source) o) first_same
       ∙ touched_is (touch_of x) bodies' r.deed.source r.object
-      ∙ ap (λ (bs : List Held). object_in bs (touch_of x) r.deed.source r.object) changes
+      ∙ ap (λ (bs : List Held). object_bound bs (touch_of x) r.deed.source r.object) changes
       ∙ object-changed r.object r.deed.change bodies (touch_of x) r.deed.source r.object
 
   bodies_same : bodies'' ≡ bodies_after bodies (touch_of x) r

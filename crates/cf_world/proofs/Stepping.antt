@@ -12,7 +12,7 @@ use Rattle.cf_contents.proofs.FormLaws.{ChangesFor}
 use Rattle.cf_model.specs.State.{State, Binding, Work, release_of, slots_of, look, trimmed}
 use Rattle.cf_model.specs.Steps.{Step, found, made_from, made_by, answer_of, bindings_by, operations_of, gained_by, cut_by, finals_of, edges_after, reference_step, change_step, touch_step, state_after, step_answer}
 use Rattle.cf_model.proofs.Slots.{adds_to, moves_from}
-use Rattle.cf_world.specs.Mirrors.{Mirrors, MirrorsState, Follows, held_at, trimmed_by, found_in, object_in, table_after, BindsWithin, gained_after}
+use Rattle.cf_world.specs.Mirrors.{Mirrors, MirrorsState, Follows, held_at, trimmed_by, found_in, object_bound, table_after, BindsWithin, gained_after}
 use Rattle.cf_world.proofs.Mirroring.{trimmed-mirrors, mirrors_changed, mirrors_made}
 use Rattle.cf_world.proofs.Tables.{table-after, size-after}
 
@@ -104,14 +104,14 @@ minus_gains t v None = refl
 minus_gains t v (Some o) = refl
 
 pub touch_gains : (t : ℕ) (touch : Touch) (answer : Answer) (source : Source) (used : Option ℕ) (change : Change) (st : State) (bodies : List Held) → MirrorsState st bodies
-    → gained_by (touch_step t touch answer source used change st).operations ≡ gained_after touch (object_in bodies touch source used) (taken_in (object_of (objects_of bodies) used) change)
+    → gained_by (touch_step t touch answer source used change st).operations ≡ gained_after touch (object_bound bodies touch source used) (taken_in (object_of (objects_of bodies) used) change)
 touch_gains t Nothing answer source used change st bodies h = change_gains t answer used change st ∙ ap (λ (os : List Object). taken_in (object_of os used) change) (sym h.objects_are)
 touch_gains t (Binds v) answer source used change st bodies h = rw (found_same st bodies source h) (bound_gains t v (found st source) [])
 touch_gains t (Plus v) answer source used change st bodies h = plus_gains t v used []
 touch_gains t (Minus v) answer source used change st bodies h = minus_gains t v used
 
 pub touch_answers : (t : ℕ) (touch : Touch) (answer : Answer) (source : Source) (used : Option ℕ) (change : Change) (st : State) (bodies : List Held) → MirrorsState st bodies → cut_by touch used ≡ None
-    → step_answer (touch_step t touch answer source used change st) st ≡ answer_of touch (object_in bodies touch source used) answer
+    → step_answer (touch_step t touch answer source used change st) st ≡ answer_of touch (object_bound bodies touch source used) answer
 touch_answers t Nothing answer source used change st bodies h uncut = refl
 touch_answers t (Binds v) answer source used change st bodies h uncut = rw (found_same st bodies source h) (bound_answers (found st source))
   where
@@ -141,7 +141,7 @@ touch_cuts t (Plus v) answer source used change st = refl
 touch_cuts t (Minus v) answer source used change st = refl
 
 -- what a touch binds, by the parts
-touch_binds : (t : ℕ) (touch : Touch) (answer : Answer) (source : Source) (used : Option ℕ) (change : Change) (st : State) (bodies : List Held) → MirrorsState st bodies → (touch_step t touch answer source used change st).bindings ≡ bindings_by touch (object_in bodies touch source used)
+touch_binds : (t : ℕ) (touch : Touch) (answer : Answer) (source : Source) (used : Option ℕ) (change : Change) (st : State) (bodies : List Held) → MirrorsState st bodies → (touch_step t touch answer source used change st).bindings ≡ bindings_by touch (object_bound bodies touch source used)
 touch_binds t Nothing answer source used change st bodies h = refl
 touch_binds t (Binds v) answer source used change st bodies h = rw (found_same st bodies source h) refl
 touch_binds t (Plus v) answer source used change st bodies h = refl
@@ -181,7 +181,7 @@ module _ (t : ℕ) (touch : Touch) (answer : Answer) (source : Source) (used : O
   new_bodies = bodies_changed used change bodies ++ map live (made_by touch source)
 
   abbrev object : Option ℕ
-  object = object_in bodies touch source used
+  object = object_bound bodies touch source used
 
   abbrev new_work : List Work
   new_work = map release_of (given_out (object_of (objects_of bodies) used) change) ++ work

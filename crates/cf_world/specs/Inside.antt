@@ -38,9 +38,9 @@ pub record IsRoomy (s : Script) (w : Inside) (t : ℕ) : Type 0 where
   pub work : vec_len w.frame.work + 2 ≤ vec_capacity w.frame.work
   pub ready : w.frame.work.items ≡ [] → IsReadyFor s w.store.bodies w.frame.table (slice_get (setup s) w.frame.number) w.store.ready w.store.room
 
-abbrev pub HasRoom : Script → Inside → Option ℕ → Type 0
-HasRoom s w None = Unit {0}
-HasRoom s w (Some t) = IsRoomy s w t
+abbrev pub RoomFor : Script → Inside → Option ℕ → Type 0
+RoomFor s w None = Unit {0}
+RoomFor s w (Some t) = IsRoomy s w t
 
 -- a world whose script has begun
 pub record IsBegun (s : Script) (w : Inside) : Type 0 where
@@ -50,7 +50,7 @@ pub record IsBegun (s : Script) (w : Inside) : Type 0 where
   pub capacity : w.limit ≤ vec_capacity w.journal
   pub gained_room : 2 ≤ vec_capacity w.gained
   pub few : vec_len w.gained ≤ 2
-  pub room : HasRoom s w w.room
+  pub room : RoomFor s w w.room
 
 abbrev pub IsWorldBy : Option Script → Inside → Type 0
 IsWorldBy None w = IsEmpty w

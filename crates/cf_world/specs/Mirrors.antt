@@ -65,11 +65,11 @@ found_in bodies nowhere = None
 found_in bodies (fresh ob) = Some (length bodies)
 found_in bodies (there o) = if is_live_in bodies o then Some o else None
 
-abbrev pub object_in : List Held → Touch → Source → Option ℕ → Option ℕ
-object_in bodies Nothing source used = None
-object_in bodies (Binds v) source used = found_in bodies source
-object_in bodies (Plus v) source used = used
-object_in bodies (Minus v) source used = used
+abbrev pub object_bound : List Held → Touch → Source → Option ℕ → Option ℕ
+object_bound bodies Nothing source used = None
+object_bound bodies (Binds v) source used = found_in bodies source
+object_bound bodies (Plus v) source used = used
+object_bound bodies (Minus v) source used = used
 
 abbrev pub bodies_after : List Held → Touch → Ready → List Held
 bodies_after bodies touch r = bodies_changed r.object r.deed.change bodies ++ map live (made_by touch r.deed.source)

@@ -12,7 +12,7 @@ use Rattle.cf_model.specs.Steps.{answer_of}
 use Rattle.cf_model.specs.declared.action.Entry.{Entry}
 use Rattle.cf_world.specs.declared.work.Item.{Item}
 use Rattle.cf_world.specs.declared.work.Item.TheVariants.{Release, Slots}
-use Rattle.cf_world.specs.Mirrors.{trimmed_by, object_in, bodies_after, table_after, gained_after, statement_action}
+use Rattle.cf_world.specs.Mirrors.{trimmed_by, object_bound, bodies_after, table_after, gained_after, statement_action}
 
 abbrev pub work_item : Item → Work
 work_item (Release o) = release_of o
@@ -33,13 +33,13 @@ pub record IsStated (x : Statement) (r : Ready) (bodies : List Held) (table : Li
   pub entry_is : entry ≡ record {
     thread = 0;
     action = statement_action table number (Some x);
-    answer = answer_of (touch_of x) (object_in bodies (touch_of x) r.deed.source r.object) r.deed.answer;
+    answer = answer_of (touch_of x) (object_bound bodies (touch_of x) r.deed.source r.object) r.deed.answer;
   }
   pub bodies_are : bodies' ≡ bodies_after bodies (touch_of x) r
-  pub table_is : table' ≡ table_after (touch_of x) (object_in bodies (touch_of x) r.deed.source r.object) table
+  pub table_is : table' ≡ table_after (touch_of x) (object_bound bodies (touch_of x) r.deed.source r.object) table
   pub work_is : work' ≡ trimmed_by bodies' (map release_of (given_out (object_of (objects_of bodies) r.object) r.deed.change) ++ [])
   pub number_is : number' ≡ number + 1
-  pub gained_is : gained ≡ gained_after (touch_of x) (object_in bodies (touch_of x) r.deed.source r.object) (taken_in (object_of (objects_of bodies) r.object) r.deed.change)
+  pub gained_is : gained ≡ gained_after (touch_of x) (object_bound bodies (touch_of x) r.deed.source r.object) (taken_in (object_of (objects_of bodies) r.object) r.deed.change)
 
 -- the object that is bound, by the new body and the object that is there, as the store tells them
 abbrev pub bound_to : List Held → Option Held → Option ℕ → Option ℕ

@@ -5,16 +5,17 @@ ghost use Rattle.cf_syntax.specs.Forms.{touch_of, makes_object};
 ghost use Rattle.cf_contents.specs.Contents.{present};
 ghost use Rattle.cf_contents.specs.Deeds.{first_of};
 ghost use Rattle.cf_store.specs.Applies.{fresh_in};
-ghost use Rattle.cf_store.specs.Bodies.{held_of};
+ghost use Rattle.cf_body.specs.Bodies.{held_of};
 ghost use Rattle.cf_model.specs.Steps.{answer_of, cut_by};
 ghost use Rattle.cf_world.specs.Mirrors.{used_in, BindsWithin, gained_after};
 ghost use Rattle.cf_world.specs.Works.{works, bound_to, touched_by, body_by, IsStated};
 
 use crate::frame::{Frame, bind, used_objects};
 use crate::work::{owe, trim};
+use cf_body::Body;
 use cf_ids::{Answer, ObjId, ThreadId};
 use cf_model::{Action, Entry};
-use cf_store::{Body, Edited, Store};
+use cf_store::{Edited, Store};
 use cf_syntax::{Statement, Touch};
 
 /// The object that is bound: a new one, or one that is there, where it is live.

@@ -1,0 +1,4 @@
+pub mod Showing
+pub mod Pairing
+pub mod Placing
+pub mod Growing

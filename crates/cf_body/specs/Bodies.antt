@@ -1,0 +1,73 @@
+-- What bodies contain, and how their members are described.
+use Rattle.std.specs.Prelude.{ℕ, Bool, List, [], ◌++◌, codes, map, length, take, nat_lt, slice_get, unwrap_or}
+use Rattle.std.specs.Fmt.{decimal}
+use Rattle.std.specs.List.{join_with_byte}
+use Rattle.cf_ids.specs.Words.{number_word}
+use Rattle.cf_contents.specs.Contents.{Content, Object, text_content, data_content, number_content, instance_content, array_content, dictionary_content}
+use Rattle.cf_contents.specs.Descriptions.{more_if, member_word, pair_word}
+use Rattle.cf_contents.specs.Stores.{Held}
+use Rattle.cf_body.specs.declared.body.Kind.{Kind}
+use Rattle.cf_body.specs.declared.body.Kind.TheVariants.{Text, Data, Number, Instance, Array, Dictionary}
+
+-- what a body is to the store: its object, whether that is finalised, how many of its slots it has given up, and how
+-- many more units, bytes, elements or pairs come in without memory
+pub record BodyView : Type 0 where
+  pub class : ℕ
+  pub content : Content
+  pub is_dead : Bool
+  pub given_up : ℕ
+  pub room : ℕ
+
+abbrev pub object_in : BodyView → Object
+object_in b = record { class = b.class; content = b.content }
+
+abbrev pub held_of : BodyView → Held
+held_of b = record { object = object_in b; is_dead = b.is_dead; given_up = b.given_up }
+
+abbrev pub content_of : Kind → Content
+content_of (Text mutable text) = text_content mutable text.units
+content_of (Data mutable bytes) = data_content mutable bytes.items
+content_of (Number n) = number_content n
+content_of (Instance i) = instance_content i.key i.fields.items
+content_of (Array plain elements) = array_content plain elements.items
+content_of (Dictionary pairs) = dictionary_content pairs.plain pairs.items
+
+abbrev pub room_of : Kind → ℕ
+room_of (Text mutable text) = text.room
+room_of (Data mutable bytes) = bytes.room
+room_of (Number n) = 0
+room_of (Instance i) = 0
+room_of (Array plain elements) = elements.room
+room_of (Dictionary pairs) = pairs.room
+
+-- how many members there are: fields, elements or pairs. A body has fewer than this limit
+abbrev pub members_in : Content → ℕ
+members_in (text_content mutable units) = 0
+members_in (data_content mutable bytes) = 0
+members_in (number_content n) = 0
+members_in (instance_content key fields) = length fields
+members_in (array_content plain elements) = length elements
+members_in (dictionary_content plain pairs) = length pairs
+
+abbrev pub member_limit : ℕ
+member_limit = 2147483648
+
+-- the words of the members
+abbrev pub words_of : Content → List (List ℕ)
+words_of (text_content mutable units) = []
+words_of (data_content mutable bytes) = []
+words_of (number_content n) = []
+words_of (instance_content key fields) = map member_word fields
+words_of (array_content plain elements) = map number_word elements
+words_of (dictionary_content plain pairs) = map pair_word pairs
+
+-- the word at a place, and nothing where there is none
+abbrev pub word_at : List (List ℕ) → ℕ → List ℕ
+word_at words k = unwrap_or (slice_get words k) []
+
+-- the members in brackets, by their words, and how many there are before them
+abbrev pub listed : Content → List ℕ
+listed c = codes "[" ++ join_with_byte 32 (take 8 (words_of c)) ++ more_if (nat_lt 8 (members_in c)) ++ codes "]"
+
+abbrev pub counted_list : Content → List ℕ
+counted_list c = decimal (members_in c) ++ codes " " ++ listed c

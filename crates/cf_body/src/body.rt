@@ -1,0 +1,138 @@
+//! What an object is made of.
+ghost use Rattle.std.specs.Prelude.{◌≡◌, ◌<◌};
+ghost use Rattle.cf_body.specs.Bodies.{content_of, held_of, members_in, member_limit};
+ghost use Rattle.cf_contents.specs.Stores.{live};
+
+use crate::pairs::Pairs;
+use cf_array::Array;
+use cf_data::Bytes;
+use cf_ids::{ObjId, TypeId};
+use cf_number::Num;
+use cf_string::Str;
+use std::marker::Model;
+
+/// A body has fewer members than this: fields, elements or pairs.
+pub(crate) const MEMBER_LIMIT: usize = 2_147_483_648;
+
+/// The key and the fields of an instance of a script's class.
+#[derive(Drop)]
+pub struct Instance {
+    pub key: i64,
+    pub fields: Vec<Option<ObjId>>,
+}
+
+/// What an object contains.
+#[derive(Drop)]
+pub enum Kind {
+    /// The text of a string.
+    Text { mutable: bool, text: Str },
+    /// The bytes of data.
+    Data { mutable: bool, bytes: Bytes },
+    /// A number.
+    Number(Num),
+    /// An instance of a script's class.
+    Instance(Instance),
+    /// The elements of an array. A plain one retains nothing.
+    Array { plain: bool, elements: Array<ObjId> },
+    /// The pairs of a dictionary.
+    Dictionary(Pairs),
+}
+
+/// An object that is new. Contracts see its type, and what it contains.
+#[derive(Drop)]
+pub struct Made {
+    class: TypeId,
+    kind: Kind,
+}
+
+impl Model for Made {
+    ghost use Rattle.std.specs.Prelude.{◌<◌};
+    ghost use Rattle.cf_contents.specs.Contents.{Object};
+    ghost use Rattle.cf_body.specs.Bodies.{content_of, members_in, member_limit};
+
+    ghost Value = { Object };
+
+    ghost view = { λ m. record { class = m.class; content = content_of m.kind } };
+
+    ghost invariant = { λ m. members_in (content_of m.kind) < member_limit };
+}
+
+/// The body of an object. Contracts see the object, whether it is finalised, how many of its slots it has
+/// given up, and how many more units, bytes, elements or pairs come in without memory.
+#[derive(Drop)]
+pub struct Body {
+    pub(crate) class: TypeId,
+    pub(crate) kind: Kind,
+    pub(crate) is_dead: bool,
+    pub(crate) given_up: u32,
+}
+
+impl Model for Body {
+    ghost use Rattle.std.specs.Prelude.{◌<◌};
+    ghost use Rattle.cf_body.specs.Bodies.{BodyView, content_of, room_of, members_in, member_limit};
+
+    ghost Value = { BodyView };
+
+    ghost view = { λ b. record {
+      class = b.class;
+      content = content_of b.kind;
+      is_dead = b.is_dead;
+      given_up = b.given_up;
+      room = room_of b.kind;
+    } };
+
+    ghost invariant = { λ b. members_in (content_of b.kind) < member_limit };
+}
+
+impl Made {
+    /// A new object of a type.
+    pub fn new(class: TypeId, kind: Kind) -> Made
+        requires { members_in (content_of kind) < member_limit }
+        ensures { result ≡ record { class = class; content = content_of kind } }
+    {
+        Made { class, kind }
+    }
+}
+
+impl Body {
+    /// The body of a new object.
+    pub fn of(made: Made) -> Body
+        ensures { held_of result ≡ live made }
+    {
+        let Made { class, kind } = made;
+        Body {
+            class,
+            kind,
+            is_dead: false,
+            given_up: 0,
+        }
+    }
+
+    /// The type of the object.
+    pub fn class(&self) -> TypeId
+        ensures { result ≡ self.now.class }
+    {
+        self.class
+    }
+
+    /// What the object contains.
+    pub fn kind(&self) -> &Kind
+        ensures { content_of result.now ≡ self.now.content }
+    {
+        &self.kind
+    }
+
+    /// Whether the object is finalised.
+    pub fn is_dead(&self) -> bool
+        ensures { result ≡ self.now.is_dead }
+    {
+        self.is_dead
+    }
+
+    /// How many of its slots it has given up.
+    pub fn given_up(&self) -> u32
+        ensures { result ≡ self.now.given_up }
+    {
+        self.given_up
+    }
+}

@@ -1,0 +1,92 @@
+//! What becomes of a body, with the objects that come in.
+ghost use Rattle.std.specs.Prelude.{◌≡◌, [], ◌∷◌, None};
+ghost use Rattle.cf_contents.specs.Contents.{present, unless_plain};
+ghost use Rattle.cf_body.specs.Changes.{room_for, members_for};
+
+use cf_data::Bytes;
+use cf_ids::ObjId;
+use cf_string::Str;
+use cf_types::Cell;
+
+/// What becomes of the first object that a statement uses.
+#[derive(Drop)]
+pub enum Change {
+    Nothing,
+    /// A text in place of the `len` units from `at` on.
+    Text { at: usize, len: usize, text: Str },
+    /// Bytes in place of the `len` bytes from `at` on.
+    Data { at: usize, len: usize, bytes: Bytes },
+    /// An element before the one at a place, or behind the last one.
+    Insert { at: usize, element: ObjId },
+    /// An element in place of the one at a place, or behind the last one.
+    Replace { at: usize, element: ObjId },
+    /// The element at a place is taken out.
+    Remove { at: usize },
+    /// An object in a field.
+    Fill { at: usize, element: ObjId },
+    /// A field is emptied.
+    Clear { at: usize },
+    /// A pair is put in, its value alone where its key is there.
+    Put { key: Cell, value: ObjId },
+    /// A pair is taken out by its key.
+    Take { key: Cell },
+}
+
+impl Change {
+    /// For how many units, bytes, elements or pairs it needs room.
+    pub(crate) fn room(&self) -> usize
+        ensures { result ≡ room_for self.now }
+    {
+        match self {
+            Change::Text { text, .. } => text.length(),
+            Change::Data { bytes, .. } => bytes.length(),
+            Change::Insert { .. } | Change::Replace { .. } | Change::Put { .. } => 1,
+            _ => 0,
+        }
+    }
+
+    /// By how many members a body grows at most.
+    pub(crate) fn members(&self) -> usize
+        ensures { result ≡ members_for self.now }
+    {
+        match self {
+            Change::Insert { .. } | Change::Replace { .. } | Change::Put { .. } => 1,
+            _ => 0,
+        }
+    }
+}
+
+/// The objects that came into a body and went out of it, in order.
+#[derive(Drop)]
+pub struct Moved {
+    pub took: [Option<ObjId>; 2],
+    pub gave: [Option<ObjId>; 2],
+}
+
+impl Moved {
+    /// None.
+    pub fn nothing() -> Moved
+        ensures { result ≡ record { took = None ∷ None ∷ []; gave = None ∷ None ∷ [] } }
+    {
+        Moved {
+            took: [None, None],
+            gave: [None, None],
+        }
+    }
+
+    /// These, unless the collection is plain: such a one holds nothing.
+    pub(crate) fn unless_plain(
+        plain: bool,
+        took: [Option<ObjId>; 2],
+        gave: [Option<ObjId>; 2],
+    ) -> Moved
+        ensures took { present result.took ≡ unless_plain plain (present took) }
+        ensures gave { present result.gave ≡ unless_plain plain (present gave) }
+    {
+        if plain {
+            Moved::nothing()
+        } else {
+            Moved { took, gave }
+        }
+    }
+}

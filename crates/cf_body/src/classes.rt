@@ -1,0 +1,46 @@
+//! The types of objects: those that are built in, and the classes of a script.
+ghost use Rattle.std.specs.Prelude.{◌≡◌};
+ghost use Rattle.std.specs.Option.{option_copied};
+ghost use Rattle.cf_contents.specs.Descriptions.{class_name};
+ghost use Rattle.cf_contents.specs.Keys.{line_of, is_keyed};
+
+use cf_ids::TypeId;
+use cf_syntax::ClassLine;
+use cf_types::built_in_name;
+
+/// The number of a script's first class.
+const FIRST_CLASS: u16 = 14;
+
+/// The line of a class.
+pub fn line_of(classes: &[ClassLine], class: TypeId) -> Option<&ClassLine>
+    ensures { option_copied result ≡ line_of classes.now class }
+{
+    classes.get(usize::from(class.0.saturating_sub(FIRST_CLASS)))
+}
+
+/// The name of a type: built in, or a class of the script; empty where there is none of this number.
+pub fn class_name(classes: &[ClassLine], class: TypeId) -> &[u8]
+    ensures { result.now ≡ class_name classes.now class }
+{
+    if class.0 < FIRST_CLASS {
+        match built_in_name(class) {
+            Some(name) => name.as_bytes(),
+            None => &[],
+        }
+    } else {
+        match classes.get(usize::from(class.0 - FIRST_CLASS)) {
+            Some(line) => line.name.as_slice(),
+            None => &[],
+        }
+    }
+}
+
+/// Whether instances of a class are equal where their keys are.
+pub(crate) fn is_keyed(classes: &[ClassLine], class: TypeId) -> bool
+    ensures { result ≡ is_keyed (line_of classes.now class) }
+{
+    match line_of(classes, class) {
+        Some(line) => line.keyed,
+        None => false,
+    }
+}

@@ -1,0 +1,21 @@
+//! The body of one object: what it contains, how that is described and compared, how it is changed, and how a
+//! finalised one gives up its slots.
+#![tactic(auto)]
+
+mod body;
+mod change;
+mod classes;
+mod description;
+mod edits;
+mod keys;
+mod members;
+mod pairs;
+mod slots;
+
+pub use body::{Body, Instance, Kind, Made};
+pub use change::{Change, Moved};
+pub use classes::{class_name, line_of};
+pub use description::describe;
+pub use keys::key_of;
+pub use pairs::Pairs;
+pub use std::alloc::AllocError as NoMemory;

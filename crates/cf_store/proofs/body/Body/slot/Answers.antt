@@ -1,5 +1,0 @@
-use Rattle.cf_store.proofs.Placing.{few_slots}
-use Rattle.cf_store.proofs.body.Body.slot.Goals as goal
-
-pub returns-clause-few : goal.returns-clause-few
-returns-clause-few c = few_slots _ _ _ c.self.invariant c.slot_in.ensures

@@ -1,5 +1,0 @@
-use Rattle.cf_store.proofs.Showing.{Written}
-use Rattle.cf_store.proofs.description.push_characters.Given as goal
-
-abbrev pub invariant-loop : goal.invariant-loop
-invariant-loop l = Written l.text.units l.initial.out.items l.out.items l.at l.counter

@@ -1,5 +1,0 @@
-use Rattle.cf_store.proofs.Placing.{clear_done}
-use Rattle.cf_store.proofs.edits.clear_field.Goals as goal
-
-pub returns : goal.returns
-returns c = clear_done _ _ c.args.at _ _ c.requires (rw c.replace-old.ensures.value c.index_mut.ensures.value) c.replace-old.ensures.after

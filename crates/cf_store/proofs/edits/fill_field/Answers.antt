@@ -1,5 +1,0 @@
-use Rattle.cf_store.proofs.Placing.{fill_done}
-use Rattle.cf_store.proofs.edits.fill_field.Goals as goal
-
-pub returns : goal.returns
-returns c = fill_done _ _ c.args.at c.args.element _ _ c.requires (rw c.replace-old.ensures.value c.index_mut.ensures.value) c.replace-old.ensures.after

@@ -1,7 +1,0 @@
-use Rattle.cf_store.proofs.Placing.{remove_done}
-use Rattle.cf_store.proofs.edits.remove_element.Goals as goal
-
-pub returns : goal.returns
-returns c =
-    remove_done c.args.plain _ _ c.args.at _ _ (rw c.unwrap-old.ensures at c.remove.ensures.out) (rw c.unwrap-old.ensures at c.remove.ensures.items)
-    c.unless_plain.ensures.took c.unless_plain.ensures.gave

@@ -1,0 +1,39 @@
+-- What is seen of the objects that a statement uses.
+use Rattle.std.specs.Prelude.{ℕ, true, List, Option, Some, None}
+use Rattle.cf_number.specs.Numbers.{Number}
+use Rattle.cf_contents.specs.Contents.{Content, text_content, data_content, number_content, instance_content, array_content}
+use Rattle.cf_contents.specs.Keys.{Numbered}
+
+-- what an object is, where it was made and is of a kind: its text, a text or data that may be edited, a number, its
+-- fields and its elements
+abbrev pub units_in : Content → Option (List ℕ)
+units_in (text_content mutable units) = Some units
+units_in _ = None
+
+abbrev pub mutable_units_in : Content → Option (List ℕ)
+mutable_units_in (text_content true units) = Some units
+mutable_units_in _ = None
+
+abbrev pub mutable_bytes_in : Content → Option (List ℕ)
+mutable_bytes_in (data_content true bytes) = Some bytes
+mutable_bytes_in _ = None
+
+abbrev pub number_in : Content → Option Number
+number_in (number_content n) = Some n
+number_in _ = None
+
+abbrev pub fields_in : Content → Option (List (Option ℕ))
+fields_in (instance_content key fields) = Some fields
+fields_in _ = None
+
+abbrev pub elements_in : Content → Option (List ℕ)
+elements_in (array_content plain os) = Some os
+elements_in _ = None
+
+abbrev pub read_in : {A : Type 0} → (Content → Option A) → Option Numbered → Option A
+read_in read None = None
+read_in read (Some u) = read u.object.content
+
+abbrev pub number_of : Option Numbered → Option ℕ
+number_of None = None
+number_of (Some u) = Some u.number

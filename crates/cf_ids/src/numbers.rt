@@ -86,7 +86,7 @@ impl TypeId {
 }
 
 /// The number of a variable in its block, in the order of first use: 0 to 255.
-#[derive(Clone, Copy, Debug, PartialEq, Eq)]
+#[derive(Clone, Copy, Debug, Default, PartialEq, Eq)]
 pub struct VarId(pub u16);
 
 impl Model for VarId {

@@ -1,15 +1,32 @@
--- Class lines: their numbers, and the words that they come from.
-use Rattle.std.proofs.Common.{◌≡◌, ℕ, zero, suc, ◌+◌, ◌<◌, ◌≤◌, Bool, true, false, cond, List, [], ◌∷◌, length, get_or, Option, Some, None, Result, Ok, refl, arith, ltb}
+-- Class lines: their names and numbers, and the words that they come from.
+use Rattle.std.proofs.Common.{◌≡◌, ℕ, zero, suc, ◌+◌, ◌<◌, ◌≤◌, Bool, true, false, cond, not, List, [], ◌∷◌, ◌++◌, length, get_or, Option, Some, None, Result, Ok, refl, ap, sym, ◌∙◌, arith, ltb}
 use Rattle.std.specs.Prelude.{position, unwrap_or}
-use Rattle.std.specs.List.{position_or_len}
+use Rattle.std.specs.List.{list_any, position_or_len}
 use Rattle.std.specs.Str.{bytes_eq}
-use Rattle.std.proofs.lemmas.Bool.{leb-true, ltb-true}
+use Rattle.std.specs.Global.{Vec}
+use Rattle.std.proofs.lemmas.Bool.{leb-true}
+use Rattle.std.proofs.lemmas.List.{length-map, map_push}
 use Rattle.cf_syntax.specs.declared.script.ClassLine.{ClassLine}
 use Rattle.cf_syntax.specs.declared.form.Class.{Class}
 use Rattle.cf_syntax.specs.declared.form.Class.TheVariants.{Fixed}
 use Rattle.cf_syntax.specs.declared.refusal.Refusal.{Refusal}
 use Rattle.cf_syntax.specs.Numbers.{index_of}
-use Rattle.cf_syntax.specs.Table.{◌>>=◌, required, word_at, is_count, is_of, are_of, index_at, class_named, class_words}
+use Rattle.cf_syntax.specs.Table.{◌>>=◌, required, word_at, is_count, is_of, are_of, index_at, class_named, class_words, not_named}
+use Rattle.cf_script.specs.Views.{texts, names_of}
+use Rattle.cf_script.proofs.NameLaws.{position_name, any_name, position_texts, any_texts, inserted, names_new}
+
+-- class lines beside their names, which are owned
+same_count : (names : List (Vec ℕ)) (classes : List ClassLine) → texts names ≡ names_of classes → length names ≡ length classes
+same_count names classes e = sym (length-map names (λ (n : Vec ℕ). n.items)) ∙ ap length e ∙ length-map classes (λ (c : ClassLine). c.name)
+
+same_place : (names : List (Vec ℕ)) (classes : List ClassLine) (word : List ℕ) → texts names ≡ names_of classes → position (λ n. bytes_eq word n.items) names ≡ position (λ c. bytes_eq word c.name) classes
+same_place names classes word e =
+    let place : position_or_len (λ (n : Vec ℕ). bytes_eq word n.items) names ≡ position_or_len (λ (c : ClassLine). bytes_eq word c.name) classes = sym (position_texts word names) ∙ ap (position_or_len (bytes_eq word)) e ∙ position_name (λ (c : ClassLine). c.name) word classes in
+    rw (place, same_count names classes e) refl
+
+-- whether a class has a name
+pub same_any : (names : List (Vec ℕ)) (classes : List ClassLine) (word : List ℕ) → texts names ≡ names_of classes → list_any (λ n. bytes_eq word n.items) names ≡ list_any (λ c. bytes_eq word c.name) classes
+same_any names classes word e = sym (any_texts word names) ∙ ap (list_any (bytes_eq word)) e ∙ any_name (λ (c : ClassLine). c.name) word classes
 
 none_named : (t : Bool) (n m : ℕ) → cond t (Some n) None ≡ None → cond t (Some m) None ≡ None
 none_named true n m e = absurd cc
@@ -20,24 +37,26 @@ some_named true n i e = let same : n ≡ i = cc in rw same refl
 some_named false n i e = absurd cc
 
 -- a class by the place of its name
-pub not_found : (classes : List ClassLine) (name : List ℕ) → position (λ c. bytes_eq name c.name) classes ≡ None → class_named classes name ≡ None
-not_found classes name e =
-    let n = position_or_len (λ (c : ClassLine). bytes_eq name c.name) classes in
-    none_named (ltb n (length classes)) n (14 + n) e
+pub not_found : (names : List (Vec ℕ)) (classes : List ClassLine) (word : List ℕ) → texts names ≡ names_of classes → position (λ n. bytes_eq word n.items) names ≡ None → class_named classes word ≡ None
+not_found names classes word e none =
+    let n = position_or_len (λ (c : ClassLine). bytes_eq word c.name) classes in
+    none_named (ltb n (length classes)) n (14 + n) (sym (same_place names classes word e) ∙ none)
 
-pub found : (classes : List ClassLine) (name : List ℕ) (place : ℕ) → position (λ c. bytes_eq name c.name) classes ≡ Some place → class_named classes name ≡ Some (14 + place)
-found classes name place e =
-    let n = position_or_len (λ (c : ClassLine). bytes_eq name c.name) classes in
-    some_named (ltb n (length classes)) n place e
+pub found : (names : List (Vec ℕ)) (classes : List ClassLine) (word : List ℕ) (place : ℕ) → texts names ≡ names_of classes → position (λ n. bytes_eq word n.items) names ≡ Some place → class_named classes word ≡ Some (14 + place)
+found names classes word place e some =
+    let n = position_or_len (λ (c : ClassLine). bytes_eq word c.name) classes in
+    some_named (ltb n (length classes)) n place (sym (same_place names classes word e) ∙ some)
 
-below_all : (t : Bool) (n i all : ℕ) → ltb n all ≡ t → cond t (Some n) None ≡ Some i → i < all
-below_all true n i all h e = let same : n ≡ i = cc in rw (← same) (ltb-true n all h)
-below_all false n i all h e = absurd cc
+put_in : (t : Bool) (names more : List (List ℕ)) → not t ≡ true → cond t names more ≡ more
+put_in true names more e = absurd cc
+put_in false names more e = refl
 
-pub found_below : (classes : List ClassLine) (name : List ℕ) (place : ℕ) → position (λ c. bytes_eq name c.name) classes ≡ Some place → place < length classes
-found_below classes name place e =
-    let n = position_or_len (λ (c : ClassLine). bytes_eq name c.name) classes in
-    below_all (ltb n (length classes)) n place (length classes) refl e
+-- the names with that of a further class, which is free
+pub names_pushed : (names after : List (Vec ℕ)) (classes : List ClassLine) (class : ClassLine) (name : Vec ℕ) → texts names ≡ names_of classes → not_named classes class.name ≡ true → name.items ≡ class.name → after ≡ inserted name names → texts after ≡ names_of (classes ++ class ∷ [])
+names_pushed names after classes class name e free same is =
+    let none : not (list_any (bytes_eq class.name) (texts names)) ≡ true = ap not (ap (list_any (bytes_eq class.name)) e ∙ any_name (λ (c : ClassLine). c.name) class.name classes) ∙ free in
+    names_new class.name name names after same is ∙ put_in _ (texts names) (texts names ++ class.name ∷ []) none
+    ∙ ap (λ (ns : List (List ℕ)). ns ++ class.name ∷ []) e ∙ sym (map_push (λ (c : ClassLine). c.name) classes class)
 
 passed : (t : Bool) (r : Result (Unit {0}) Refusal) → (required t >>= (λ _. r)) ≡ Ok tt → (t ≡ true) × (r ≡ Ok tt)
 passed true r e = (refl, e)

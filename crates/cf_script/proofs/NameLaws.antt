@@ -1,6 +1,6 @@
 -- A name among names that are owned.
 use Rattle.std.proofs.Common.{◌≡◌, ℕ, ◌+◌, ◌<◌, ◌≤◌, Bool, true, false, cond, not, List, [], ◌∷◌, ◌++◌, length, Some, None, Ok, Err, refl, ap, sym, ◌∙◌, ltb}
-use Rattle.std.specs.Prelude.{◌||◌, nat_lt, if◌then◌else◌, position}
+use Rattle.std.specs.Prelude.{◌||◌, nat_lt, if◌then◌else◌, position, map}
 use Rattle.std.specs.List.{list_any, position_or_len}
 use Rattle.std.specs.Str.{bytes_eq}
 use Rattle.std.specs.Global.{Vec}
@@ -9,13 +9,21 @@ use Rattle.std.proofs.lemmas.List.{map_push}
 use Rattle.cf_syntax.specs.Table.{unread, with_name, With, with_variable}
 use Rattle.cf_script.specs.Views.{texts}
 
-position_texts : (word : List ℕ) (names : List (Vec ℕ)) → position_or_len (bytes_eq word) (texts names) ≡ position_or_len (λ n. bytes_eq word n.items) names
-position_texts word [] = refl
-position_texts word (n ∷ ns) = ap (λ (i : ℕ). cond (not (bytes_eq word n.items)) (1 + i) 0) (position_texts word ns)
+-- a word among the names of some things
+pub position_name : {A : Type 0} (name : A → List ℕ) (word : List ℕ) (xs : List A) → position_or_len (bytes_eq word) (map name xs) ≡ position_or_len (λ x. bytes_eq word (name x)) xs
+position_name name word [] = refl
+position_name name word (x ∷ xs) = ap (λ (i : ℕ). cond (not (bytes_eq word (name x))) (1 + i) 0) (position_name name word xs)
 
-any_texts : (word : List ℕ) (names : List (Vec ℕ)) → list_any (bytes_eq word) (texts names) ≡ list_any (λ n. bytes_eq word n.items) names
-any_texts word [] = refl
-any_texts word (n ∷ ns) = ap (λ (t : Bool). bytes_eq word n.items || t) (any_texts word ns)
+pub any_name : {A : Type 0} (name : A → List ℕ) (word : List ℕ) (xs : List A) → list_any (bytes_eq word) (map name xs) ≡ list_any (λ x. bytes_eq word (name x)) xs
+any_name name word [] = refl
+any_name name word (x ∷ xs) = ap (λ (t : Bool). bytes_eq word (name x) || t) (any_name name word xs)
+
+-- the same of names that are owned
+pub position_texts : (word : List ℕ) (names : List (Vec ℕ)) → position_or_len (bytes_eq word) (texts names) ≡ position_or_len (λ n. bytes_eq word n.items) names
+position_texts word names = position_name (λ (n : Vec ℕ). n.items) word names
+
+pub any_texts : (word : List ℕ) (names : List (Vec ℕ)) → list_any (bytes_eq word) (texts names) ≡ list_any (λ n. bytes_eq word n.items) names
+any_texts word names = any_name (λ (n : Vec ℕ). n.items) word names
 
 some_is : (t : Bool) (n i : ℕ) → cond t (Some n) None ≡ Some i → i ≡ n
 some_is true n i e = cc

@@ -67,7 +67,7 @@ fn classed(
     }
     let class = class_of(alloc, &classes, words)?;
     let mut classes = classes;
-    classes.push(class)?;
+    classes.push(alloc, class)?;
     Ok(Reader {
         count: line,
         classes,

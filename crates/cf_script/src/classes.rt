@@ -1,5 +1,5 @@
 //! The class lines of a script.
-ghost use Rattle.std.specs.Prelude.{◌≡◌, ◌<◌, ◌∷◌, ◌++◌, [], length, IfSome, OnOk, nat_lt, position};
+ghost use Rattle.std.specs.Prelude.{◌≡◌, ◌<◌, ◌∷◌, ◌++◌, [], length, IfOk, OnOk, nat_lt, true};
 ghost use Rattle.std.specs.List.{list_any};
 ghost use Rattle.std.specs.Str.{bytes_eq};
 ghost use Rattle.cf_syntax.specs.Table.{class_named, not_named, class_of};
@@ -12,6 +12,7 @@ use crate::table::are_of;
 use crate::words::{is, word_at};
 use cf_ids::{Seq, TYPES, TypeId};
 use cf_syntax::{Class, ClassLine};
+use indexmap::IndexSet;
 use std::alloc::{AllocError, Global};
 use std::marker::Model;
 
@@ -35,17 +36,20 @@ const CLASS_WORDS: [Class; 6] = [
 #[derive(Drop)]
 pub(crate) struct Classes {
     lines: Vec<ClassLine>,
+    /// Their names in the same order, so that a class is found by one look-up.
+    names: IndexSet<Vec<u8>>,
 }
 
 impl Model for Classes {
-    ghost use Rattle.std.specs.Prelude.{◌≤◌, List, length};
+    ghost use Rattle.std.specs.Prelude.{◌≡◌, ◌≤◌, List, length};
     ghost use Rattle.cf_syntax.specs.declared.script.ClassLine.{ClassLine};
+    ghost use Rattle.cf_script.specs.Views.{names_of, texts};
 
     ghost Value = { List ClassLine };
 
     ghost view = { λ c. c.lines.items };
 
-    ghost invariant = { λ c. length c.lines.items ≤ 1011 };
+    ghost invariant = { λ c. (length c.lines.items ≤ 1011) × (texts c.names.keys ≡ names_of c.lines.items) };
 }
 
 impl Classes {
@@ -55,24 +59,15 @@ impl Classes {
     {
         Classes {
             lines: Vec::new(alloc),
+            names: IndexSet::new(alloc),
         }
-    }
-
-    /// The place of the class of a name.
-    fn place_of(&self, name: &[u8]) -> Option<usize>
-        ensures place { result ≡ position (λ c. bytes_eq name.now c.name) self.now }
-        ensures within { IfSome result (λ place. place < 1011) }
-    {
-        self.lines
-            .iter()
-            .position(|class| is(name, class.name.as_slice()))
     }
 
     /// The type number of the class of a name.
     pub fn named(&self, name: &[u8]) -> Option<TypeId>
         ensures { result ≡ class_named self.now name.now }
     {
-        let place = self.place_of(name)?;
+        let place = self.names.get_index_of(name)?;
         Some(TypeId(FIRST + place as u16))
     }
 
@@ -80,9 +75,7 @@ impl Classes {
     fn has(&self, name: &[u8]) -> bool
         ensures { result ≡ list_any (λ c. bytes_eq name.now c.name) self.now }
     {
-        self.lines
-            .iter()
-            .any(|class| is(name, class.name.as_slice()))
+        self.names.contains(name)
     }
 
     /// Whether a class may have this name.
@@ -100,11 +93,16 @@ impl Classes {
     }
 
     /// A class more.
-    pub fn push(&mut self, class: ClassLine) -> Result<(), AllocError>
-        requires { length self.old < 1011 }
+    pub fn push(&mut self, alloc: Global, class: ClassLine) -> Result<(), AllocError>
+        requires room { length self.old < 1011 }
+        requires free { not_named self.old class.name ≡ true }
         ensures { OnOk result (self.new ≡ self.old ++ class ∷ []) }
     {
-        self.lines.push(class)?;
+        let name = Vec::from_slice(alloc, class.name.as_slice())?;
+        // With room for the line nothing fails behind the name, and both lists stay alike.
+        self.lines.reserve(1)?;
+        self.names.insert(name)?;
+        self.lines.push_reserved(class);
         Ok(())
     }
 
@@ -112,7 +110,7 @@ impl Classes {
     pub fn into_seq(self) -> Seq<ClassLine>
         ensures { result ≡ self }
     {
-        let Classes { lines } = self;
+        let Classes { lines, .. } = self;
         Seq::from_vec(lines)
     }
 }
@@ -126,6 +124,7 @@ pub(crate) fn class_of(
 ) -> Result<ClassLine, ScriptFault>
     ensures class { GivesAs (λ c. c) result (class_of classes.now (lent words.now)) }
     ensures room { OnOk result (length classes.now < 1011) }
+    ensures free { IfOk result (λ class. not_named classes.now class.name ≡ true) }
 {
     if words.len() != CLASS_WORDS.len() {
         return Err(ScriptFault::Refused(UNREAD));

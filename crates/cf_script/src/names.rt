@@ -12,13 +12,15 @@ use crate::words::word_at;
 use cf_ids::{Seq, VARIABLES, VarId};
 use cf_syntax::Class;
 use indexmap::IndexSet;
+use smallvec::SmallVec;
 use std::alloc::{AllocError, Global};
 
 /// The variables of a line so far, and the names with them.
 #[derive(Drop)]
 pub(crate) struct Numbered {
     pub names: IndexSet<Vec<u8>>,
-    pub variables: Vec<VarId>,
+    /// Their numbers. A form has at most three variables, so that a line takes no memory for them.
+    pub variables: SmallVec<VarId, 3>,
 }
 
 /// The place of a name, which goes behind the others where it is new.
@@ -76,7 +78,7 @@ pub(crate) fn number_variables(
 {
     let mut so_far = Numbered {
         names,
-        variables: Vec::new(alloc),
+        variables: SmallVec::new(alloc),
     };
     for (i, class) in classes.iter().enumerate() {
         so_far = with_word(alloc, so_far, *class, word_at(words, i))?;

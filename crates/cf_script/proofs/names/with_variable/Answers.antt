@@ -7,4 +7,4 @@ pub returns-then-place-ge-VARIABLES : goal.returns-then-place-ge-VARIABLES
 returns-then-place-ge-VARIABLES c = number_refused (numbered_of c.args.so_far) c.args.word.now c.in_ok-place.place c.in_ok-place.ensures.place (omega arith)
 
 pub returns : goal.returns
-returns c = number_given (numbered_of c.args.so_far) _ _ c.args.word.now c.in_ok-place.place c.in_ok-place.ensures.place c.in_ok-place.ensures.names c.in_ok-push.ensures.items (omega arith)
+returns c = number_given (numbered_of c.args.so_far) _ _ c.args.word.now c.in_ok-place.place c.in_ok-place.ensures.place c.in_ok-place.ensures.names c.in_ok-push.ensures.ok (omega arith)

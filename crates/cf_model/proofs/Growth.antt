@@ -6,7 +6,7 @@ use Rattle.cf_model.specs.declared.action.Entry.{Entry}
 use Rattle.cf_model.specs.State.{State}
 use Rattle.cf_model.specs.Steps.{effect}
 use Rattle.cf_model.specs.Journals.{state_from, IsLegalEntry, IsLegalFrom}
-use Rattle.cf_model.specs.Serial.{picked, IsSerialFrom}
+use Rattle.cf_model.specs.Serial.{picked, IsSerialFrom, pointer_after}
 use Rattle.cf_model.specs.Finals.{finals}
 use Rattle.cf_model.specs.Rendering.{entry_lines, lines_if, line_of, text_of_lines}
 
@@ -17,11 +17,6 @@ state_from-append s st (e ∷ es) fs = state_from-append s (effect s e.thread st
 pub legal_more : (s : Script) (st : State) (es : List Entry) (e : Entry) → IsLegalFrom s st es → IsLegalEntry s (state_from s st es) e → IsLegalFrom s st (es ++ e ∷ [])
 legal_more s st [] e h last = (last, tt)
 legal_more s st (f ∷ es) e h last = (h.0, legal_more s (effect s f.thread st f.action) es e h.1 last)
-
--- where the pointer stands after entries
-abbrev pub pointer_after : ℕ → List Entry → ℕ
-pointer_after p [] = p
-pointer_after p (e ∷ es) = pointer_after (e.thread + 1) es
 
 pub serial_more : (s : Script) (st : State) (p : ℕ) (es : List Entry) (e : Entry) → IsSerialFrom s st p es → picked s (state_from s st es) (pointer_after p es) ≡ Some e.thread → IsSerialFrom s st p (es ++ e ∷ [])
 serial_more s st p [] e h q = (q, tt)

@@ -28,6 +28,11 @@ abbrev pub IsSerialFrom : Script → State → ℕ → List Entry → Type 0
 IsSerialFrom s st pointer [] = Unit {0}
 IsSerialFrom s st pointer (e ∷ es) = (picked s st pointer ≡ Some e.thread) × IsSerialFrom s (effect s e.thread st e.action) (e.thread + 1) es
 
+-- where the pointer stands after entries
+abbrev pub pointer_after : ℕ → List Entry → ℕ
+pointer_after p [] = p
+pointer_after p (e ∷ es) = pointer_after (e.thread + 1) es
+
 -- a legal journal in the serial order
 pub record IsSerial (s : Script) (es : List Entry) : Type 0 where
   pub legal : IsLegal s es

@@ -31,7 +31,7 @@ use Rattle.cf_model.proofs.Proceeding.{cut_same, touch_cut, grows_one}
 use Rattle.cf_model.proofs.Soundness.{IsSound, sound}
 use Rattle.cf_world.specs.Worlds.{WorldView, state_of, state_in, next_by, act_in, acting, entry_of, entered, ended_at}
 use Rattle.cf_world.proofs.Acting.{acts_next, entered_is}
-use Rattle.cf_run.specs.Tally.{grown, lowered, finals_by, Counts, IsRun}
+use Rattle.cf_run.specs.Tally.{grown, lowered, finals_by, AreDegrees, IsRun}
 use Rattle.cf_run.proofs.Stops.{picked_setup}
 use Rattle.cf_run.proofs.Raising.{one_most, times-contains, times_le-length, index_lowered, index-past, index-grown}
 
@@ -182,7 +182,7 @@ module _ (w w' : WorldView) (references : List ℕ) (finals : ℕ) (run : IsRun 
   finalised_size = ap length finalised_is ∙ length-append (finals_of (cut_of a) after.edges) st.finalised ∙ ap (λ (n : ℕ). length (finals_of (cut_of a) after.edges) + n) (sym run.count)
 
   -- the run after the entry, by its numbers
-  run_after : (references' : List ℕ) (finals' : ℕ) → length w.journal < w.limit → length w'.gained ≤ 2 → Counts (length after.objects) after.edges references' → finals' ≡ length after.finalised → IsRun w' references' finals'
+  run_after : (references' : List ℕ) (finals' : ℕ) → length w.journal < w.limit → length w'.gained ≤ 2 → AreDegrees (length after.objects) after.edges references' → finals' ≡ length after.finalised → IsRun w' references' finals'
   run_after references' finals' below gains counts count = record {
     script = s;
     begun = script_is ∙ run.begun;

@@ -11,8 +11,7 @@ use Rattle.cf_model.specs.State.{State}
 use Rattle.cf_model.specs.Steps.{makes}
 use Rattle.cf_model.specs.Journals.{Next, After, worked}
 use Rattle.cf_model.specs.Endings.{IsFull}
-use Rattle.cf_model.specs.Serial.{picked}
-use Rattle.cf_model.proofs.Growth.{pointer_after}
+use Rattle.cf_model.specs.Serial.{picked, pointer_after}
 use Rattle.cf_world.specs.Worlds.{WorldView}
 use Rattle.cf_run.specs.declared.tally.Tally.{Tally}
 use Rattle.cf_run.specs.Tally.{IsOver}

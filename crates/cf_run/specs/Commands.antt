@@ -1,13 +1,11 @@
 -- The words of the command line. This project's own.
-use Rattle.std.specs.Prelude.{ℕ, Bool, not, ◌&&◌, List, Option, Some, None, length, codes, slice_index, slice_index_or, [], ◌==◌, if◌then◌else◌, IsSome}
+use Rattle.std.specs.Prelude.{ℕ, Bool, not, ◌&&◌, List, Option, Some, None, length, codes, slice_index, ◌==◌, if◌then◌else◌, IsSome}
 use Rattle.std.specs.Str.{bytes_eq}
+use Rattle.cf_syntax.specs.Table.{word_at}
 
 -- a word that names a file: it is not empty and does not begin with -
 abbrev pub is_file : List ℕ → Bool
 is_file word = not (length word == 0) && not (slice_index word 0 == 45)
-
-abbrev pub word_at : List (List ℕ) → ℕ → List ℕ
-word_at words i = slice_index_or words i []
 
 abbrev pub named : List ℕ → Option (List ℕ)
 named word = if is_file word then Some word else None

@@ -1,10 +1,8 @@
 -- The lines of a run, by its numbers.
-use Rattle.std.specs.Prelude.{ℕ, zero, suc, List, [], ◌∷◌, ◌++◌, codes, length, map, Option, Some, None, slice_get, slice_index_or, ◌==◌, ◌&&◌, if◌then◌else◌}
+use Rattle.std.specs.Prelude.{ℕ, zero, suc, List, [], ◌∷◌, ◌++◌, codes, length, Option, Some, None, slice_get, slice_index_or, ◌==◌, ◌&&◌, if◌then◌else◌}
 use Rattle.std.specs.Option.{option_map}
-use Rattle.std.specs.List.{flat_map}
 use Rattle.std.specs.Fmt.{decimal}
 use Rattle.std.specs.Global.{Vec}
-use denote.Ref.{Bor}
 use Rattle.cf_ids.specs.Words.{number_word}
 use Rattle.cf_contents.specs.Contents.{Object}
 use Rattle.cf_contents.specs.Descriptions.{class_name}
@@ -16,13 +14,6 @@ use Rattle.cf_model.specs.declared.ending.Ending.{Ending}
 use Rattle.cf_world.specs.Worlds.{WorldView, state_of}
 use Rattle.cf_run.specs.declared.tally.Tally.{Tally}
 use Rattle.cf_run.specs.Tally.{nothing}
-
--- words that are lent, and the text of lines that are owned
-abbrev pub lent : List (Bor (List ℕ)) → List (List ℕ)
-lent ws = map (λ w. w.now) ws
-
-abbrev pub text_of : List (Vec ℕ) → List ℕ
-text_of ls = flat_map (λ (l : Vec ℕ). l.items) ls
 
 -- what stands before the word with a number
 abbrev pub gap : ℕ → List ℕ

@@ -18,8 +18,7 @@ use Rattle.cf_model.specs.Steps.{makes}
 use Rattle.cf_model.specs.Journals.{Next, After, IsLegal}
 use Rattle.cf_model.specs.Endings.{Ends}
 use Rattle.cf_model.specs.Finals.{FinalsFit}
-use Rattle.cf_model.specs.Serial.{picked, IsSerial}
-use Rattle.cf_model.proofs.Growth.{pointer_after}
+use Rattle.cf_model.specs.Serial.{picked, IsSerial, pointer_after}
 use Rattle.cf_model.specs.Rendering.{rendering}
 use Rattle.cf_run.specs.Commands.{file_of, TakesWords}
 use Rattle.cf_run.specs.Tally.{default_limit}

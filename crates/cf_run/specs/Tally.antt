@@ -11,8 +11,7 @@ use Rattle.cf_model.specs.declared.ending.Ending.TheVariants as endings
 use Rattle.cf_model.specs.State.{start, degree}
 use Rattle.cf_model.specs.Journals.{After, IsLegal}
 use Rattle.cf_model.specs.Endings.{Ends}
-use Rattle.cf_model.specs.Serial.{IsSerialFrom}
-use Rattle.cf_model.proofs.Growth.{pointer_after}
+use Rattle.cf_model.specs.Serial.{IsSerialFrom, pointer_after}
 use Rattle.cf_world.specs.Worlds.{WorldView}
 use Rattle.cf_world.specs.declared.next.Next.{Next}
 use Rattle.cf_world.specs.declared.next.Next.TheVariants as next
@@ -50,7 +49,7 @@ ending_of next.Full = endings.Full
 ending_of _ = endings.Stalled
 
 -- the numbers are those of references: for each object that was made, how many lead to it
-pub record Counts (made : ℕ) (es : List Reference) (references : List ℕ) : Type 0 where
+pub record AreDegrees (made : ℕ) (es : List Reference) (references : List ℕ) : Type 0 where
   pub size : length references ≡ made
   pub at : (o : ℕ) → o < made → slice_index references o ≡ degree o es
 
@@ -64,7 +63,7 @@ pub record IsRun (w : WorldView) (references : List ℕ) (finals : ℕ) : Type 0
   pub within : length w.journal ≤ w.limit
   pub order : IsSerialFrom script start 0 w.journal
   pub pointer : pointer_after 0 w.journal ≤ 1
-  pub counts : Counts (length (After script w.journal).objects) (After script w.journal).edges references
+  pub counts : AreDegrees (length (After script w.journal).objects) (After script w.journal).edges references
   pub few : (o : ℕ) → degree o (After script w.journal).edges ≤ 2 * length w.journal
   pub count : finals ≡ length (After script w.journal).finalised
   pub few_finals : finals ≤ length w.journal

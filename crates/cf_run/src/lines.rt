@@ -1,12 +1,13 @@
 //! The lines that are written, each ended by a line feed.
-ghost use Rattle.std.specs.Prelude.{◌≡◌, ◌+◌, ◌<◌, ◌≤◌, ◌++◌, ◌∷◌, [], codes, length, slice_index_or, IfOk, OnOk};
+ghost use Rattle.std.specs.Prelude.{◌≡◌, ◌<◌, ◌++◌, ◌∷◌, [], codes, length, slice_index_or, IfOk, OnOk};
+ghost use Rattle.std.specs.Option.{option_to_list};
 ghost use Rattle.std.specs.String.{string_bytes};
 ghost use Rattle.cf_model.specs.Rendering.{joined, ending_word as word_of_ending, object_line, drop_words, line_of, lines_if, text_of_lines};
 ghost use Rattle.cf_world.specs.Worlds.{state_of};
 ghost use Rattle.cf_run.specs.Outcomes.{reason_word as word_of, refusal_text};
-ghost use Rattle.cf_run.specs.Lines.{lent, gap, text_of, class_at, alive_words, alive_if, alive_below, end_words, ends_of, text_in};
+ghost use Rattle.cf_script.specs.Views.{lent};
+ghost use Rattle.cf_run.specs.Lines.{gap, class_at, alive_words, alive_if, end_words, text_in};
 
-use crate::serial::Over;
 use crate::tally::Tally;
 use cf_body::class_name;
 use cf_ids::{Answer, ObjId, ThreadId};
@@ -148,12 +149,7 @@ pub fn entry_line(
 }
 
 // The line of an object that is left, by the name of its type and how many references lead to it.
-fn alive_line(
-    alloc: Global,
-    object: ObjId,
-    name: &[u8],
-    tally: Tally,
-) -> Result<Vec<u8>, AllocError>
+fn left_line(alloc: Global, object: ObjId, name: &[u8], tally: Tally) -> Result<Vec<u8>, AllocError>
     ensures { IfOk result (λ l. l.items ≡ joined (alive_words object name.now tally) ++ 10 ∷ []) }
 {
     let object = object.to_string(alloc)?;
@@ -171,45 +167,27 @@ fn alive_line(
     line(alloc, &words)
 }
 
-// Puts the line of an object behind the others, where references lead to it.
-fn push_alive(
+/// The line of an object, where references lead to it.
+pub fn alive_line(
     alloc: Global,
-    lines: &mut Vec<Vec<u8>>,
     classes: &[ClassLine],
     world: &World,
     object: ObjId,
     tally: Tally,
-) -> Result<(), AllocError>
-    ensures text { OnOk result (text_of lines.new.items ≡ text_of lines.old.items ++ text_of_lines (alive_if classes.now object (class_at (state_of world.now).objects object) tally)) }
-    ensures count { OnOk result (length lines.new.items ≡ length lines.old.items + length (alive_if classes.now object (class_at (state_of world.now).objects object) tally)) }
+) -> Result<Option<Vec<u8>>, AllocError>
+    ensures text { IfOk result (λ l. text_of_lines (alive_if classes.now object (class_at (state_of world.now).objects object) tally) ≡ text_in l) }
+    ensures count { IfOk result (λ l. length (alive_if classes.now object (class_at (state_of world.now).objects object) tally) ≡ length (option_to_list l)) }
 {
     if tally.owners == 0 && tally.slots == 0 {
-        return Ok(());
+        return Ok(None);
     }
-    if let Some(class) = world.class(object) {
-        let name = class_name(classes, class);
-        lines.push(alive_line(alloc, object, name, tally)?)?;
+    match world.class(object) {
+        Some(class) => {
+            let name = class_name(classes, class);
+            Ok(Some(left_line(alloc, object, name, tally)?))
+        }
+        None => Ok(None),
     }
-    Ok(())
-}
-
-// The lines of the objects that are left, by how many references lead to each.
-fn alive_lines(
-    alloc: Global,
-    classes: &[ClassLine],
-    world: &World,
-    tallies: &[Tally],
-) -> Result<Vec<Vec<u8>>, AllocError>
-    requires { length tallies.now ≤ 65536 }
-    ensures text { IfOk result (λ ls. text_of ls.items ≡ text_of_lines (alive_below classes.now (state_of world.now).objects tallies.now (length tallies.now))) }
-    ensures count { IfOk result (λ ls. length ls.items ≡ length (alive_below classes.now (state_of world.now).objects tallies.now (length tallies.now))) }
-{
-    let mut lines = Vec::new(alloc);
-    for (number, tally) in tallies.iter().enumerate() {
-        let object = ObjId(number as u32);
-        push_alive(alloc, &mut lines, classes, world, object, *tally)?;
-    }
-    Ok(lines)
 }
 
 // The word of an ending.
@@ -224,8 +202,8 @@ fn ending_word(ending: Ending) -> &'static [u8]
     }
 }
 
-// The last line: how many entries there are, and how many objects were made, finalised and left.
-fn end_line(
+/// The last line: how many entries there are, and how many objects were made, finalised and left.
+pub fn end_line(
     alloc: Global,
     ending: Ending,
     events: usize,
@@ -252,31 +230,6 @@ fn end_line(
         alive.as_bytes(),
     ];
     line(alloc, &words)
-}
-
-/// The lines behind those of the entries: one for each object that is left, and the last one.
-pub fn end_lines(
-    alloc: Global,
-    classes: &[ClassLine],
-    events: usize,
-    over: &Over,
-) -> Result<Vec<Vec<u8>>, AllocError>
-    requires { length over.now.tallies.items ≤ 65536 }
-    ensures { IfOk result (λ ls. text_of ls.items ≡ text_of_lines (ends_of classes.now over.now.ending events (state_of over.now.world).objects over.now.tallies.items over.now.finals)) }
-{
-    let tallies = over.tallies.as_slice();
-    let mut lines = alive_lines(alloc, classes, &over.world, tallies)?;
-    let alive = lines.len();
-    let line = end_line(
-        alloc,
-        over.ending,
-        events,
-        tallies.len(),
-        over.finals,
-        alive,
-    )?;
-    lines.push(line)?;
-    Ok(lines)
 }
 
 // The word of a reason.

@@ -1,12 +1,15 @@
 //! Lines go out, each by one `write_all`.
 ghost use Rattle.std.specs.Prelude.{◌≡◌, ◌≤◌, length, IfOk};
 ghost use Rattle.cf_model.specs.Rendering.{line_of, lines_if, entry_lines, text_of_lines};
-ghost use Rattle.cf_run.specs.Lines.{text_of, classes_in, run_text};
+ghost use Rattle.cf_world.specs.Worlds.{state_of};
+ghost use Rattle.cf_run.specs.Lines.{class_at, alive_if, alive_below, ends_of, classes_in, run_text};
 ghost use Rattle.cf_run.specs.declared.output.Unwritten.TheVariants.{NoMemory};
 ghost use Rattle.cf_run.specs.Written.{Writes, WritesAll};
 
-use crate::lines::{end_lines, entry_line};
+use crate::lines::{alive_line, end_line, entry_line};
 use crate::serial::Over;
+use crate::tally::Tally;
+use cf_ids::ObjId;
 use cf_io::{Sink, write_all};
 use cf_model::Entry;
 use cf_script::ClassLine;
@@ -71,14 +74,65 @@ fn write_entries<K: Sink>(
     Ok(())
 }
 
-// Writes lines, one after another.
-fn write_lines<K: Sink>(sink: &mut K, lines: &[Vec<u8>]) -> Result<(), Unwritten>
-    ensures { WritesAll result (text_of lines.now) (K.taken sink.old) (K.taken sink.new) (K.faults sink.old) (K.faults sink.new) }
+// Writes the line of an object, where references lead to it, and gives how many lines that are.
+fn write_alive<K: Sink>(
+    alloc: Global,
+    sink: &mut K,
+    classes: &[ClassLine],
+    world: &World,
+    object: ObjId,
+    tally: Tally,
+) -> Result<usize, Unwritten>
+    ensures text { Writes result (text_of_lines (alive_if classes.now object (class_at (state_of world.now).objects object) tally)) (K.taken sink.old) (K.taken sink.new) (K.faults sink.old) (K.faults sink.new) }
+    ensures count { IfOk result (λ n. n ≡ length (alive_if classes.now object (class_at (state_of world.now).objects object) tally)) }
+    ensures few { IfOk result (λ n. n ≤ 1) }
 {
-    for line in lines {
-        write_text(sink, line.as_slice())?;
+    match alive_line(alloc, classes, world, object, tally)? {
+        Some(line) => {
+            write_text(sink, line.as_slice())?;
+            Ok(1)
+        }
+        None => Ok(0),
     }
-    Ok(())
+}
+
+// Writes the lines of the objects that are left, by how many references lead to each, and gives how many lines these
+// are.
+fn write_left<K: Sink>(
+    alloc: Global,
+    sink: &mut K,
+    classes: &[ClassLine],
+    world: &World,
+    tallies: &[Tally],
+) -> Result<usize, Unwritten>
+    requires { length tallies.now ≤ 65536 }
+    ensures text { Writes result (text_of_lines (alive_below classes.now (state_of world.now).objects tallies.now (length tallies.now))) (K.taken sink.old) (K.taken sink.new) (K.faults sink.old) (K.faults sink.new) }
+    ensures count { IfOk result (λ n. n ≡ length (alive_below classes.now (state_of world.now).objects tallies.now (length tallies.now))) }
+{
+    let mut alive = 0;
+    for (number, tally) in tallies.iter().enumerate() {
+        let object = ObjId(number as u32);
+        alive += write_alive(alloc, sink, classes, world, object, *tally)?;
+    }
+    Ok(alive)
+}
+
+// Writes the lines behind those of the entries: one for each object that is left, and the last one.
+fn write_ends<K: Sink>(
+    alloc: Global,
+    sink: &mut K,
+    classes: &[ClassLine],
+    events: usize,
+    over: &Over,
+) -> Result<(), Unwritten>
+    requires { length over.now.tallies.items ≤ 65536 }
+    ensures { WritesAll result (text_of_lines (ends_of classes.now over.now.ending events (state_of over.now.world).objects over.now.tallies.items over.now.finals)) (K.taken sink.old) (K.taken sink.new) (K.faults sink.old) (K.faults sink.new) }
+{
+    let tallies = over.tallies.as_slice();
+    let alive = write_left(alloc, sink, classes, &over.world, tallies)?;
+    let made = tallies.len();
+    let line = end_line(alloc, over.ending, events, made, over.finals, alive)?;
+    write_text(sink, line.as_slice())
 }
 
 // The type names of a world's script.
@@ -99,6 +153,5 @@ pub fn write_run<K: Sink>(alloc: Global, sink: &mut K, over: &Over) -> Result<()
     let classes = classes_of(&over.world);
     let journal = over.world.journal();
     write_entries(alloc, sink, classes, journal)?;
-    let lines = end_lines(alloc, classes, journal.len(), over)?;
-    write_lines(sink, lines.as_slice())
+    write_ends(alloc, sink, classes, journal.len(), over)
 }

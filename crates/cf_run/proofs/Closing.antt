@@ -15,6 +15,7 @@ use Rattle.cf_model.specs.State.{State, Work, release_of, slots_of, left_of, tri
 use Rattle.cf_model.specs.Steps.{makes}
 use Rattle.cf_model.specs.Journals.{Next as next_action, worked, drop_of, After}
 use Rattle.cf_model.specs.Endings.{Ends}
+use Rattle.cf_model.specs.Finals.{cut_of}
 use Rattle.cf_model.proofs.Proceeding.{whole}
 use Rattle.cf_model.proofs.Sizes.{few_made}
 use Rattle.cf_model.proofs.Soundness.{sound}
@@ -22,7 +23,7 @@ use Rattle.cf_world.specs.declared.next.Next.{Next}
 use Rattle.cf_world.specs.declared.next.Next.TheVariants.{Act, Limit, Full}
 use Rattle.cf_world.specs.Worlds.{WorldView, state_of, state_in, next_in, next_by, next_of}
 use Rattle.cf_run.specs.declared.tally.Tally.{Tally}
-use Rattle.cf_run.specs.Tally.{default_limit, is_act, ending_of, nothing, Tallied, IsRun, IsOver}
+use Rattle.cf_run.specs.Tally.{default_limit, turn_by, turn_of, goes_on, ending_at, nothing, Tallied, IsRun, IsOver}
 use Rattle.cf_run.specs.Counted.{counted_at}
 use Rattle.cf_run.proofs.Stops.{next_when}
 
@@ -56,6 +57,10 @@ done_if : (s : Script) (st : State) (d : Bool) → trimmed st.objects st.dropped
 done_if s st true trim e = refl
 done_if s st false trim e = absurd (work_some s st st.frame.work trim e)
 
+act_goes : (cut : Option ℕ) → goes_on (turn_by cut) ≡ false → ⊥
+act_goes None stop = cc
+act_goes (Some o) stop = cc
+
 same_script : (s script : Script) → ◌≡◌ {A = Option Script} (Some s) (Some script) → s ≡ script
 same_script s script e = cc
 
@@ -70,7 +75,7 @@ module _ (w : WorldView) (references : List ℕ) (finals : ℕ) (run : IsRun w r
   state_is = ap (λ (o : Option Script). state_in o w.journal) run.begun
 
   abbrev ended : Next → Type 0
-  ended n = is_act n ≡ false → Ends s default_limit w.journal (ending_of n)
+  ended n = goes_on (turn_of n) ≡ false → Ends s default_limit w.journal (ending_at (turn_of n))
 
   at_full : (a : Action) → next_action s st 0 ≡ Some a → (l m f : Bool) → nat_le w.limit (length w.journal) ≡ l → makes s a ≡ m → nat_le 65536 (length (state_of w).objects) ≡ f → ended (cond l Limit (cond (m && f) Full (Act a)))
   at_full a e true m f l mm ff stop = (omega (arith, run.within, run.limit, reached), (next_when true st.frame.is_done (worked s st st.frame.work) a e).1)
@@ -85,15 +90,15 @@ module _ (w : WorldView) (references : List ℕ) (finals : ℕ) (run : IsRun w r
 
       all_made : 65536 ≤ length (state_of w).objects
       all_made = grind (arith, nat_tests)
-  at_full a e false true false l mm ff stop = absurd cc
-  at_full a e false false f l mm ff stop = absurd cc
+  at_full a e false true false l mm ff stop = absurd (act_goes (cut_of a) stop)
+  at_full a e false false f l mm ff stop = absurd (act_goes (cut_of a) stop)
 
   at_next : (next : Option Action) → next_action s st 0 ≡ next → ended (next_of s w next)
   at_next None e stop = whole s w.journal run.owned run.legal (done_if s st st.frame.is_done (sound s w.journal run.owned run.legal).worked.trim e)
   at_next (Some a) e stop = at_full a e (nat_le w.limit (length w.journal)) (makes s a) (nat_le 65536 (length (state_of w).objects)) refl refl refl stop
 
   -- the run has the ending that its thread's next says
-  pub ends : is_act (next_in w 0) ≡ false → Ends s default_limit w.journal (ending_of (next_in w 0))
+  pub ends : goes_on (turn_of (next_in w 0)) ≡ false → Ends s default_limit w.journal (ending_at (turn_of (next_in w 0)))
   ends =
       let here : ended (next_of s w (next_action s (state_of w) 0)) = subst (λ (x : State). ended (next_of s w (next_action s x 0))) (sym state_is) (at_next (next_action s st 0) refl) in
       subst (λ (o : Option Script). ended (next_by o w 0)) (sym run.begun) here
@@ -108,7 +113,7 @@ module _ (w : WorldView) (references : List ℕ) (finals : ℕ) (run : IsRun w r
     at = λ o h. at o h ∙ tally_same (counted_at o es) _ (same (owns o) ∙ count_by-owns o (state_of w).edges) (same (holds o) ∙ count_by-holds o (state_of w).edges);
   })
 
-  pub over : (script : Script) (ending : Ending) (es : List Edge) (tallies : List Tally) → w.script ≡ Some script → is_act (next_in w 0) ≡ false → ending ≡ ending_of (next_in w 0) → ((p : Edge → Bool) → count_by p es ≡ count_by p (edges_of (state_of w).edges)) → length tallies ≡ length (state_of w).objects → ((o : ℕ) → o < length (state_of w).objects → slice_index_or tallies o nothing ≡ counted_at o es) → IsOver script w ending tallies finals
+  pub over : (script : Script) (ending : Ending) (es : List Edge) (tallies : List Tally) → w.script ≡ Some script → goes_on (turn_of (next_in w 0)) ≡ false → ending ≡ ending_at (turn_of (next_in w 0)) → ((p : Edge → Bool) → count_by p es ≡ count_by p (edges_of (state_of w).edges)) → length tallies ≡ length (state_of w).objects → ((o : ℕ) → o < length (state_of w).objects → slice_index_or tallies o nothing ≡ counted_at o es) → IsOver script w ending tallies finals
   over script ending es tallies begun stop is same size at = subst (λ (x : Script). IsOver x w ending tallies finals) (same_script s script (sym run.begun ∙ begun)) (record {
     script = run.begun;
     owned = run.owned;

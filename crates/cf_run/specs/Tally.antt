@@ -1,6 +1,6 @@
 -- What a serial run keeps beside its world: one number for each object, of the references that lead to it. This project's
 -- own.
-use Rattle.std.specs.Prelude.{◌≡◌, ℕ, ◌+◌, ◌-◌, ◌*◌, ◌<◌, ◌≤◌, Bool, true, false, List, [], ◌∷◌, ◌++◌, length, nat_lt, Some, slice_set, slice_index, slice_index_or, if◌then◌else◌}
+use Rattle.std.specs.Prelude.{◌≡◌, ℕ, ◌+◌, ◌-◌, ◌*◌, ◌<◌, ◌≤◌, Bool, true, false, List, [], ◌∷◌, ◌++◌, length, nat_lt, Option, Some, None, slice_set, slice_index, slice_index_or, if◌then◌else◌}
 use Rattle.cf_ids.specs.declared.answer.Ended.{Ended}
 use Rattle.cf_ids.specs.declared.answer.Ended.TheVariants.{More, Last}
 use Rattle.cf_syntax.specs.declared.script.Script.{Script}
@@ -11,10 +11,13 @@ use Rattle.cf_model.specs.declared.ending.Ending.TheVariants as endings
 use Rattle.cf_model.specs.State.{start, degree}
 use Rattle.cf_model.specs.Journals.{After, IsLegal}
 use Rattle.cf_model.specs.Endings.{Ends}
+use Rattle.cf_model.specs.Finals.{cut_of}
 use Rattle.cf_model.specs.Serial.{IsSerialFrom, pointer_after}
 use Rattle.cf_world.specs.Worlds.{WorldView}
 use Rattle.cf_world.specs.declared.next.Next.{Next}
 use Rattle.cf_world.specs.declared.next.Next.TheVariants as next
+use Rattle.cf_run.specs.declared.serial.Turn.{Turn}
+use Rattle.cf_run.specs.declared.serial.Turn.TheVariants as turns
 use Rattle.cf_run.specs.declared.tally.Tally.{Tally}
 
 -- the most entries of a journal
@@ -37,16 +40,28 @@ abbrev pub finals_by : Ended → ℕ
 finals_by Last = 1
 finals_by More = 0
 
--- the thread may act, and how a run ends whose thread may not
-abbrev pub is_act : Next → Bool
-is_act (next.Act a) = true
-is_act _ = false
+-- what a run does next: by the object to which its thread's action takes a reference away, and by what the thread does
+abbrev pub turn_by : Option ℕ → Turn
+turn_by None = turns.Apply
+turn_by (Some o) = turns.Release o
 
-abbrev pub ending_of : Next → Ending
-ending_of next.Done = endings.Done
-ending_of next.Limit = endings.Limit
-ending_of next.Full = endings.Full
-ending_of _ = endings.Stalled
+abbrev pub turn_of : Next → Turn
+turn_of (next.Act a) = turn_by (cut_of a)
+turn_of next.Done = turns.Over endings.Done
+turn_of next.Limit = turns.Over endings.Limit
+turn_of next.Full = turns.Over endings.Full
+turn_of _ = turns.Over endings.Stalled
+
+-- it goes on, and how it ends where it does not
+abbrev pub goes_on : Turn → Bool
+goes_on (turns.Release o) = true
+goes_on turns.Apply = true
+goes_on (turns.Over ending) = false
+
+abbrev pub ending_at : Turn → Ending
+ending_at (turns.Release o) = endings.Stalled
+ending_at turns.Apply = endings.Stalled
+ending_at (turns.Over ending) = ending
 
 -- the numbers are those of references: for each object that was made, how many lead to it
 pub record AreDegrees (made : ℕ) (es : List Reference) (references : List ℕ) : Type 0 where

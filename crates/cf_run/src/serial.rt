@@ -4,7 +4,7 @@ ghost use Rattle.std.specs.Prelude.{◌≡◌, ◌==◌, if◌then◌else◌, �
 ghost use Rattle.cf_contents.specs.Contents.{times};
 ghost use Rattle.cf_model.specs.Finals.{cut_of};
 ghost use Rattle.cf_world.specs.Worlds.{next_in, acting, ended_at};
-ghost use Rattle.cf_run.specs.Tally.{grown, raised, lowered, finals_by, is_act, ending_of as ending_by, IsRun, IsOver};
+ghost use Rattle.cf_run.specs.Tally.{grown, raised, lowered, finals_by, turn_by, turn_of, goes_on, ending_at, IsRun, IsOver};
 
 use crate::tally::{Tally, tallied};
 use cf_ids::{DEFAULT_LIMIT, Ended, ObjId, ThreadId};
@@ -20,6 +20,17 @@ pub struct Run {
     pub world: World,
     pub references: Vec<usize>,
     pub finals: usize,
+}
+
+/// What a run does next.
+#[derive(Clone, Copy)]
+pub enum Turn {
+    /// Its thread's action takes a reference to this object away.
+    Release(ObjId),
+    /// Its thread's action takes none away.
+    Apply,
+    /// It is over.
+    Over(Ending),
 }
 
 /// A run that is over: its world, its ending, how many references lead to each object, by number, and how many objects
@@ -94,6 +105,35 @@ fn finals(ended: Ended) -> usize
     }
 }
 
+// What a run does next whose thread's action takes a reference to this object away, or none.
+fn turn_by(cut: Option<ObjId>) -> Turn
+    ensures { result ≡ turn_by cut }
+{
+    match cut {
+        Some(o) => Turn::Release(o),
+        None => Turn::Apply,
+    }
+}
+
+impl Turn {
+    // The run goes on.
+    fn goes_on(&self) -> bool
+        ensures { result ≡ goes_on self.now }
+    {
+        !matches!(self, Turn::Over(_))
+    }
+
+    // How the run ends, where it is over.
+    fn ending(&self) -> Ending
+        ensures { result ≡ ending_at self.now }
+    {
+        match self {
+            Turn::Over(ending) => *ending,
+            Turn::Release(_) | Turn::Apply => Ending::Stalled,
+        }
+    }
+}
+
 impl Run {
     // A run at its start.
     fn begin(alloc: Global, script: Checked) -> Result<Run, NoMemory>
@@ -109,25 +149,16 @@ impl Run {
         })
     }
 
-    // The thread may act.
-    fn can_go(&self) -> bool
-        ensures { result ≡ is_act (next_in self.now.world 0) }
+    // What the run does next.
+    fn turn(&self) -> Turn
+        ensures { result ≡ turn_of (next_in self.now.world 0) }
     {
         match &self.world.next(ThreadId::SETUP) {
-            Next::Act(_) => true,
-            _ => false,
-        }
-    }
-
-    // How the run ends, where the thread may not act.
-    fn ending(&self) -> Ending
-        ensures { result ≡ ending_by (next_in self.now.world 0) }
-    {
-        match &self.world.next(ThreadId::SETUP) {
-            Next::Done => Ending::Done,
-            Next::Limit => Ending::Limit,
-            Next::Full => Ending::Full,
-            _ => Ending::Stalled,
+            Next::Act(action) => turn_by(action.cuts()),
+            Next::Done => Turn::Over(Ending::Done),
+            Next::Limit => Turn::Over(Ending::Limit),
+            Next::Full => Turn::Over(Ending::Full),
+            _ => Turn::Over(Ending::Stalled),
         }
     }
 
@@ -162,24 +193,22 @@ impl Run {
     }
 
     // Does the next action. Want of memory leaves the run where no one may go on with it.
-    fn step(&mut self, alloc: Global) -> Result<(), NoMemory>
+    fn step(&mut self, alloc: Global, turn: Turn) -> Result<(), NoMemory>
         requires run { IsRun self.old.world self.old.references.items self.old.finals }
-        requires going { IsTrue (is_act (next_in self.old.world 0)) }
+        requires turn { turn ≡ turn_of (next_in self.old.world 0) }
+        requires going { IsTrue (goes_on turn) }
         ensures run { OnOk result (IsRun self.new.world self.new.references.items self.new.finals) }
         ensures script { OnOk result (self.new.world.script ≡ self.old.world.script) }
         ensures more { OnOk result (length self.new.world.journal ≡ length self.old.world.journal + 1) }
     {
         self.world.reserve(alloc, ThreadId::SETUP)?;
-        let next = self.world.next(ThreadId::SETUP);
-        let Next::Act(action) = &next else {
-            return Ok(());
-        };
-        match &action.cuts() {
-            Some(o) => {
-                self.release(*o);
+        match turn {
+            Turn::Release(o) => {
+                self.release(o);
                 Ok(())
             }
-            None => self.apply(),
+            Turn::Apply => self.apply(),
+            Turn::Over(_) => Ok(()),
         }
     }
 }
@@ -189,10 +218,12 @@ pub fn run_script(alloc: Global, script: Checked) -> Result<Over, NoMemory>
     ensures { IfOk result (λ over. IsOver script over.world over.ending over.tallies.items over.finals) }
 {
     let mut run = Run::begin(alloc, script)?;
-    while run.can_go() {
-        run.step(alloc)?;
+    let mut turn = run.turn();
+    while turn.goes_on() {
+        run.step(alloc, turn)?;
+        turn = run.turn();
     }
-    let ending = run.ending();
+    let ending = turn.ending();
     let edges = run.world.edges(alloc)?;
     let tallies = tallied(alloc, run.world.made(), &edges)?;
     Ok(Over {

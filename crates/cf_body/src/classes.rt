@@ -2,7 +2,7 @@
 ghost use Rattle.std.specs.Prelude.{◌≡◌};
 ghost use Rattle.std.specs.Option.{option_copied};
 ghost use Rattle.cf_contents.specs.Descriptions.{class_name};
-ghost use Rattle.cf_contents.specs.Keys.{line_of, is_keyed};
+ghost use Rattle.cf_contents.specs.Keys.{class_line, is_keyed};
 
 use cf_ids::TypeId;
 use cf_syntax::ClassLine;
@@ -12,8 +12,8 @@ use cf_types::built_in_name;
 const FIRST_CLASS: u16 = 14;
 
 /// The line of a class.
-pub fn line_of(classes: &[ClassLine], class: TypeId) -> Option<&ClassLine>
-    ensures { option_copied result ≡ line_of classes.now class }
+pub fn class_line(classes: &[ClassLine], class: TypeId) -> Option<&ClassLine>
+    ensures { option_copied result ≡ class_line classes.now class }
 {
     classes.get(usize::from(class.0.saturating_sub(FIRST_CLASS)))
 }
@@ -37,9 +37,9 @@ pub fn class_name(classes: &[ClassLine], class: TypeId) -> &[u8]
 
 /// Whether instances of a class are equal where their keys are.
 pub(crate) fn is_keyed(classes: &[ClassLine], class: TypeId) -> bool
-    ensures { result ≡ is_keyed (line_of classes.now class) }
+    ensures { result ≡ is_keyed (class_line classes.now class) }
 {
-    match line_of(classes, class) {
+    match class_line(classes, class) {
         Some(line) => line.keyed,
         None => false,
     }

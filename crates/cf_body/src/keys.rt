@@ -1,6 +1,6 @@
 //! Keys of dictionaries.
 ghost use Rattle.std.specs.Prelude.{◌≡◌, IfOk};
-ghost use Rattle.cf_contents.specs.Keys.{Numbered, cell_of, form_of};
+ghost use Rattle.cf_contents.specs.Keys.{Numbered, cell_of, compared_by};
 ghost use Rattle.cf_body.specs.Bodies.{content_of, object_in};
 ghost use Rattle.cf_types.specs.Forms as forms;
 
@@ -22,7 +22,7 @@ pub fn key_of(
         IfOk result (λ key. key ≡ cell_of classes.now object) }
 {
     let class = body.class;
-    let form = form_of(alloc, is_keyed(classes, class), id, &body.kind)?;
+    let form = compared_by(alloc, is_keyed(classes, class), id, &body.kind)?;
     Ok(Cell {
         id,
         leaf: Leaf { class, form },
@@ -30,8 +30,8 @@ pub fn key_of(
 }
 
 /// What an object is compared by.
-fn form_of(alloc: Global, keyed: bool, id: ObjId, kind: &Kind) -> Result<Form, NoMemory>
-    ensures { IfOk result (λ form. forms.form_of form ≡ form_of keyed id (content_of kind.now)) }
+fn compared_by(alloc: Global, keyed: bool, id: ObjId, kind: &Kind) -> Result<Form, NoMemory>
+    ensures { IfOk result (λ form. forms.form_view form ≡ compared_by keyed id (content_of kind.now)) }
 {
     match kind {
         Kind::Text {

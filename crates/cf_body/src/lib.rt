@@ -14,7 +14,7 @@ mod slots;
 
 pub use body::{Body, Instance, Kind, Made};
 pub use change::{Change, Moved};
-pub use classes::{class_name, line_of};
+pub use classes::{class_line, class_name};
 pub use description::describe;
 pub use keys::key_of;
 pub use pairs::Pairs;

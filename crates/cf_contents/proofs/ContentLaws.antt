@@ -5,7 +5,7 @@ use Rattle.std.specs.Prelude.{slice_get}
 use Rattle.std.specs.Option.{option_map}
 use Rattle.cf_contents.specs.Contents.{Content, text_content, data_content, instance_content, array_content, dictionary_content, Object}
 use Rattle.cf_contents.specs.Deeds.{Change, unchanged, in_text, in_data, in_places, put_pair, take_pair, Splice, text_after, data_after, places_after, content_after, with_change, changed_by}
-use Rattle.cf_contents.specs.Keys.{form_of}
+use Rattle.cf_contents.specs.Keys.{compared_by}
 
 pub length-with_change : (o : ℕ) (change : Change) (objects : List Object) → length (with_change o change objects) ≡ length objects
 length-with_change o change [] = refl
@@ -37,20 +37,20 @@ changed_by-unchanged None objects = refl
 changed_by-unchanged (Some o) objects = with_change-unchanged o objects
 
 -- what an object is compared by stays
-form-text : (keyed : Bool) (o : ℕ) (e : Splice ℕ) (c : Content) → form_of keyed o (text_after e c) ≡ form_of keyed o c
+form-text : (keyed : Bool) (o : ℕ) (e : Splice ℕ) (c : Content) → compared_by keyed o (text_after e c) ≡ compared_by keyed o c
 form-text keyed o e (text_content true units) = refl
 form-text keyed o e _ = refl
 
-form-data : (keyed : Bool) (o : ℕ) (e : Splice ℕ) (c : Content) → form_of keyed o (data_after e c) ≡ form_of keyed o c
+form-data : (keyed : Bool) (o : ℕ) (e : Splice ℕ) (c : Content) → compared_by keyed o (data_after e c) ≡ compared_by keyed o c
 form-data keyed o e (data_content true bytes) = refl
 form-data keyed o e _ = refl
 
-form-places : (keyed : Bool) (o : ℕ) (e : Splice (Option ℕ)) (c : Content) → form_of keyed o (places_after e c) ≡ form_of keyed o c
+form-places : (keyed : Bool) (o : ℕ) (e : Splice (Option ℕ)) (c : Content) → compared_by keyed o (places_after e c) ≡ compared_by keyed o c
 form-places keyed o e (instance_content key fields) = refl
 form-places keyed o e (array_content plain os) = refl
 form-places keyed o e _ = refl
 
-pub form-after : (keyed : Bool) (o : ℕ) (change : Change) (c : Content) → form_of keyed o (content_after change c) ≡ form_of keyed o c
+pub form-after : (keyed : Bool) (o : ℕ) (change : Change) (c : Content) → compared_by keyed o (content_after change c) ≡ compared_by keyed o c
 form-after keyed o unchanged c = refl
 form-after keyed o (in_text e) c = form-text keyed o e c
 form-after keyed o (in_data e) c = form-data keyed o e c

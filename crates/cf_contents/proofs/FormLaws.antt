@@ -18,8 +18,8 @@ use Rattle.cf_syntax.specs.declared.statement.Touch.{Touch}
 use Rattle.cf_syntax.specs.declared.statement.Touch.TheVariants.{Nothing, Binds, Plus, Minus}
 use Rattle.cf_syntax.specs.Forms.{touch_of, makes_object}
 use Rattle.cf_contents.specs.Contents.{Content, text_content, data_content, number_content, instance_content, array_content, dictionary_content, Object, slots_in, instance_of}
-use Rattle.cf_contents.specs.Keys.{Numbered, line_of}
-use Rattle.cf_contents.specs.Deeds.{Source, nowhere, fresh, there, Change, unchanged, Deed, answered, made, changing, taken, with_object, with_key, text_in, mutable_text_in, mutable_data_in, number_in, fields_in, elements_in, pairs_in, with_text, with_mutable_text, with_mutable_data, with_number, with_fields, with_elements, with_pair, unless_cut, within, edited_text, edited_data, edited_places, as_kind, fresh_if, add_pair, set_pair, replace_pair, remove_pair, deed_of}
+use Rattle.cf_contents.specs.Keys.{Numbered, class_line}
+use Rattle.cf_contents.specs.Deeds.{Source, nowhere, fresh, there, Change, unchanged, Deed, answered, made, changing, binding, with_object, with_key, text_in, mutable_text_in, mutable_data_in, number_in, fields_in, elements_in, pairs_in, with_text, with_mutable_text, with_mutable_data, with_number, with_fields, with_elements, with_pair, unless_cut, within, edited_text, edited_data, edited_places, as_kind, fresh_if, add_pair, set_pair, replace_pair, remove_pair, deed_of}
 use Rattle.cf_contents.proofs.SlotLaws.{present-empty, MakesEmpty}
 
 abbrev pub ChangesFor : Touch → Change → Type 0
@@ -66,7 +66,7 @@ makes touch class content h = record { makes = h; only = tt; changes = no_change
 changes : (a : Answer) (change : Change) → NamesNone a → Fits Nothing false (changing a change)
 changes a change names = record { makes = tt; only = tt; changes = tt; names = names }
 
-takes : (touch : Touch) (o : Option ℕ) → Fits touch false (taken o)
+takes : (touch : Touch) (o : Option ℕ) → Fits touch false (binding o)
 takes touch None = answers touch false _ tt
 takes touch (Some o) = record { makes = tt; only = tt; changes = no_change touch; names = tt }
 
@@ -185,7 +185,7 @@ form_fits classes (forms.MakeArray v false) a b c = makes (Binds v) _ _ refl
 form_fits classes (forms.MakeDict v true) a b c = makes (Binds v) _ _ refl
 form_fits classes (forms.MakeDict v false) a b c = makes (Binds v) _ _ refl
 form_fits classes (forms.New v None key) a b c = answers (Binds v) true _ tt
-form_fits classes (forms.New v (Some class) key) a b c = instance_fits (Binds v) class key (line_of classes class)
+form_fits classes (forms.New v (Some class) key) a b c = instance_fits (Binds v) class key (class_line classes class)
 form_fits classes (forms.Retain v) a b c = answers (Plus v) false _ tt
 form_fits classes (forms.Release v) a b c = answers (Minus v) false _ tt
 form_fits classes (forms.Show v) a b c = by_object Nothing false a _ (λ o. answers Nothing false _ tt)

@@ -19,7 +19,7 @@ use Rattle.cf_syntax.specs.declared.script.ClassLine.{ClassLine}
 use Rattle.cf_syntax.specs.declared.statement.Statement.{Statement}
 use Rattle.cf_syntax.specs.declared.statement.Statement.TheVariants as forms
 use Rattle.cf_contents.specs.Contents.{Content, text_content, data_content, number_content, instance_content, array_content, dictionary_content, Object, present, flat, unless_plain, string_class, data_class, number_class, array_class, dictionary_class, instance_of}
-use Rattle.cf_contents.specs.Keys.{Numbered, numbered, line_of, cell_of, equal_to}
+use Rattle.cf_contents.specs.Keys.{Numbered, numbered, class_line, cell_of, equal_to}
 use Rattle.cf_contents.specs.Descriptions.{description}
 
 -- where the object comes from that a statement binds: there is none, and the variable is empty; it is new; or it is
@@ -64,10 +64,10 @@ made class content = record { answer = answers.Skip; source = fresh (record { cl
 abbrev pub changing : Answer → Change → Deed
 changing a change = record { answer = a; source = nowhere; change = change }
 
--- an object is taken where one is found, and stays where it is
-abbrev pub taken : Option ℕ → Deed
-taken None = answered answers.Nil
-taken (Some o) = record { answer = answers.Nil; source = there o; change = unchanged }
+-- an object is bound where one is found, and stays where it is
+abbrev pub binding : Option ℕ → Deed
+binding None = answered answers.Nil
+binding (Some o) = record { answer = answers.Nil; source = there o; change = unchanged }
 
 -- by an object, where there is one of the kind; else the statement is skipped
 abbrev pub with_object : Option Numbered → (Object → Deed) → Deed
@@ -198,7 +198,7 @@ deed_of classes (forms.MakeNumber v n) a b c = made number_class (number_content
 deed_of classes (forms.MakeArray v plain) a b c = made array_class (array_content plain [])
 deed_of classes (forms.MakeDict v plain) a b c = made dictionary_class (dictionary_content plain [])
 deed_of classes (forms.New v None key) a b c = skipped
-deed_of classes (forms.New v (Some class) key) a b c = fresh_if (instance_of class key (line_of classes class))
+deed_of classes (forms.New v (Some class) key) a b c = fresh_if (instance_of class key (class_line classes class))
 deed_of classes (forms.Retain v) a b c = answered answers.Ok
 deed_of classes (forms.Release v) a b c = answered answers.Ok
 deed_of classes (forms.Show v) a b c = with_object a (λ o. answered (answers.Shown (description classes o)))
@@ -215,15 +215,15 @@ deed_of classes (forms.ArrAppend v x) a b c = with_elements a (λ os. with_objec
 deed_of classes (forms.ArrInsert v at x) a b c = with_elements a (λ os. with_object b (λ o. within (nat_le at (length os)) (edited_places at 0 (Some 1 ∷ []))))
 deed_of classes (forms.ArrSet v at x) a b c = with_elements a (λ os. with_object b (λ o. within (nat_le at (length os)) (edited_places at 1 (Some 1 ∷ []))))
 deed_of classes (forms.ArrRemove v at) a b c = with_elements a (λ os. within (nat_lt at (length os)) (edited_places at 1 []))
-deed_of classes (forms.ArrTake v array at) a b c = with_elements a (λ os. taken (slice_get os at))
+deed_of classes (forms.ArrTake v array at) a b c = with_elements a (λ os. binding (slice_get os at))
 deed_of classes (forms.DictAdd v k x) a b c = with_pair classes a b (λ key old. with_object c (λ o. add_pair key old))
 deed_of classes (forms.DictSet v k x) a b c = with_pair classes a b (λ key old. with_object c (λ o. set_pair key old))
 deed_of classes (forms.DictReplace v k x) a b c = with_pair classes a b (λ key old. with_object c (λ o. replace_pair key old))
 deed_of classes (forms.DictRemove v k) a b c = with_pair classes a b remove_pair
-deed_of classes (forms.DictTake v dictionary k) a b c = with_pair classes a b (λ key old. taken old)
+deed_of classes (forms.DictTake v dictionary k) a b c = with_pair classes a b (λ key old. binding old)
 deed_of classes (forms.FieldSet v at x) a b c = with_fields a (λ fields. with_object b (λ o. within (nat_lt at (length fields)) (edited_places at 1 (Some 1 ∷ []))))
 deed_of classes (forms.FieldClear v at) a b c = with_fields a (λ fields. within (nat_lt at (length fields)) (edited_places at 1 (None ∷ [])))
-deed_of classes (forms.FieldTake v instance at) a b c = with_fields a (λ fields. taken (in_field (slice_get fields at)))
+deed_of classes (forms.FieldTake v instance at) a b c = with_fields a (λ fields. binding (in_field (slice_get fields at)))
 
 -- one of the objects that are used, by its number among them
 abbrev pub used_at : List (Option ℕ) → ℕ → Option ℕ

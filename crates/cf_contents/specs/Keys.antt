@@ -24,29 +24,29 @@ numbered objects None = None
 numbered objects (Some o) = with_number_of o (slice_get objects o)
 
 -- the line of a class, by the number of its type
-abbrev pub line_of : List ClassLine → ℕ → Option ClassLine
-line_of classes class = slice_get classes (class - first_class)
+abbrev pub class_line : List ClassLine → ℕ → Option ClassLine
+class_line classes class = slice_get classes (class - first_class)
 
 abbrev pub is_keyed : Option ClassLine → Bool
 is_keyed None = false
 is_keyed (Some line) = line.keyed
 
 -- what an object is compared by
-abbrev pub form_of : Bool → ℕ → Content → FormView
-form_of keyed o (text_content true units) = same_form o
-form_of keyed o (text_content false units) = text_form units
-form_of keyed o (data_content true bytes) = same_form o
-form_of keyed o (data_content false bytes) = data_form bytes
-form_of keyed o (number_content n) = whole_form n.value
-form_of keyed o (instance_content key fields) = if keyed then whole_form key else same_form o
-form_of keyed o (array_content plain os) = same_form o
-form_of keyed o (dictionary_content plain pairs) = same_form o
+abbrev pub compared_by : Bool → ℕ → Content → FormView
+compared_by keyed o (text_content true units) = same_form o
+compared_by keyed o (text_content false units) = text_form units
+compared_by keyed o (data_content true bytes) = same_form o
+compared_by keyed o (data_content false bytes) = data_form bytes
+compared_by keyed o (number_content n) = whole_form n.value
+compared_by keyed o (instance_content key fields) = if keyed then whole_form key else same_form o
+compared_by keyed o (array_content plain os) = same_form o
+compared_by keyed o (dictionary_content plain pairs) = same_form o
 
 -- an object as an element of a collection
 abbrev pub cell_of : List ClassLine → Numbered → Cell
 cell_of classes u = record {
   id = u.number;
-  leaf = record { class = u.object.class; form = form_of (is_keyed (line_of classes u.object.class)) u.number u.object.content };
+  leaf = record { class = u.object.class; form = compared_by (is_keyed (class_line classes u.object.class)) u.number u.object.content };
 }
 
 -- equality of elements: a plain collection compares identities

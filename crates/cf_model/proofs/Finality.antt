@@ -20,9 +20,9 @@ use Rattle.cf_contents.proofs.FormLaws.{NamesNone, form_fits}
 use Rattle.cf_model.specs.declared.action.Action.{Action}
 use Rattle.cf_model.specs.declared.action.Entry.{Entry}
 use Rattle.cf_model.specs.State.{State, start, times, degree}
-use Rattle.cf_model.specs.Steps.{reference, found, answer_of, class_of, reference_step, owed_reference, slot_reference, finals_of, cut_answer, touch_step, step_answer, state_after, answer_to, effect, statement_in}
+use Rattle.cf_model.specs.Steps.{reference, found, answer_of, type_of, reference_step, owed_reference, slot_reference, finals_of, cut_answer, touch_step, step_answer, state_after, answer_to, effect, statement_in}
 use Rattle.cf_model.specs.Journals.{MayUseAll, IsLegalEntry, IsLegalFrom, IsLegal, state_from, After, used_of, named_of, next_of}
-use Rattle.cf_model.specs.Finals.{final_if, final_of, one_at, finals, bound_by, uses_of, uses, FinalsFit}
+use Rattle.cf_model.specs.Finals.{final_if, final_of, one_at, finals, bound_in, uses_of, uses, FinalsFit}
 use Rattle.cf_model.proofs.Balance.{IsBalanced}
 use Rattle.cf_model.proofs.Holding.{some_is}
 use Rattle.cf_model.proofs.Keeping.{IsFound, found_is}
@@ -112,7 +112,7 @@ cut_live : (st : State) (o : Option ℕ) (objects : List Object) (left : List Re
 cut_live st None objects left other h = h
 cut_live st (Some o) objects left other h = if_live (degree o left == 0)
   where
-    if_live : (b : Bool) → BindsLive st (cond b (answers.Final (class_of objects o)) answers.More)
+    if_live : (b : Bool) → BindsLive st (cond b (answers.Final (type_of objects o)) answers.More)
     if_live true = tt
     if_live false = tt
 
@@ -144,7 +144,7 @@ action_live s t st a b (of_owed o rest w e) =
 action_live s t st a b (of_slot c o rest os w l e) =
     subst (λ (x : Action). BindsLive st (answer_to s t st x)) (sym e) (cut_live st (Some o) st.objects (without (slot_reference c o) st.edges) answers.Ok tt)
 
-bound_none : (st : State) (o : ℕ) (a : Answer) → 0 < times o st.finalised → BindsLive st a → uses o (bound_by a) ≡ 0
+bound_none : (st : State) (o : ℕ) (a : Answer) → 0 < times o st.finalised → BindsLive st a → uses o (bound_in a) ≡ 0
 bound_none st o (answers.Object p) some h = omega (arith, other (p == o) refl)
   where
     other : (b : Bool) → (p == o) ≡ b → counted (p == o) ≡ 0
@@ -160,7 +160,7 @@ uses-append o (x ∷ xs) ys = omega (arith, uses-append o xs ys)
 entry_uses : (s : Script) (st : State) (e : Entry) (o : ℕ) → IsBalanced st → 0 < times o st.finalised → IsLegalEntry s st e → uses o (uses_of e) ≡ 0
 entry_uses s st e o b some h =
     let binds = subst (BindsLive st) (sym h.answer) (action_live s e.thread st e.action b (legal_is_demanded s st e h.next).demand) in
-    omega (arith, uses-append o (bound_by e.answer) (used_of e.action), bound_none st o e.answer some binds, uses_none st e.thread (named_of e.action) o (used_of e.action) some h.uses)
+    omega (arith, uses-append o (bound_in e.answer) (used_of e.action), bound_none st o e.answer some binds, uses_none st e.thread (named_of e.action) o (used_of e.action) some h.uses)
 
 -- a legal journal in two parts: the first is legal, and so is the entry behind it
 legal_front : (s : Script) (st : State) (es : List Entry) (e : Entry) (fs : List Entry) → IsLegalFrom s st (es ++ e ∷ fs) → IsLegalFrom s st es × IsLegalEntry s (state_from s st es) e

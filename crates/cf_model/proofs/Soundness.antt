@@ -24,7 +24,7 @@ use Rattle.cf_model.specs.declared.action.Action.{Action}
 use Rattle.cf_model.specs.declared.action.Entry.{Entry}
 use Rattle.cf_model.specs.State.{State, Binding, start, look}
 use Rattle.cf_model.specs.Actions.{action_of}
-use Rattle.cf_model.specs.Steps.{Step, reference, owed_reference, slot_reference, found, operations_of, bindings_by, change_operations, touch_step, statement_step, done_step, owed_step, drop_step, statement_of, statement_in, step_for, state_after, effect}
+use Rattle.cf_model.specs.Steps.{Step, reference, owed_reference, slot_reference, found, operations_of, bindings_by, change_operations, touch_step, statement_step, done_step, owed_step, drop_step, statement_at, statement_in, step_for, state_after, effect}
 use Rattle.cf_model.specs.Journals.{statements_in, setup, object_at, used_objects, used_of, named_of, next_of, MayUseAll, state_from, After, IsLegalEntry, IsLegalFrom, IsLegal}
 use Rattle.cf_model.proofs.Demands.{Demand, of_frame, of_owed, of_slot, legal_is_demanded}
 use Rattle.cf_model.proofs.FrameSteps.{frame_step, site_in, step_for-demanded, used_of-action_of}
@@ -92,7 +92,7 @@ pub owned_blocks : (bs : List Block) → blocks_fit bs ≡ true → are_fit [] (
 owned_blocks [] h = refl
 owned_blocks (b ∷ bs) h = (and_parts (are_fit [] b.statements) (blocks_fit bs) h).0
 
-pub setup_statement : (bs : List Block) (n : ℕ) → statement_of (slice_get bs 0) n ≡ slice_get (statements_in (slice_get bs 0)) n
+pub setup_statement : (bs : List Block) (n : ℕ) → statement_at (slice_get bs 0) n ≡ slice_get (statements_in (slice_get bs 0)) n
 setup_statement [] n = refl
 setup_statement (b ∷ bs) n = refl
 

@@ -37,13 +37,13 @@ finals o [] = 0
 finals o (e ∷ es) = one_at o (final_of e.action e.answer) + finals o es
 
 -- the object that an entry binds, which its answer names
-abbrev pub bound_by : Answer → List (Option ℕ)
-bound_by (answers.Object o) = Some o ∷ []
-bound_by _ = []
+abbrev pub bound_in : Answer → List (Option ℕ)
+bound_in (answers.Object o) = Some o ∷ []
+bound_in _ = []
 
 -- the objects that an entry uses: it acts on them, or adds a reference to them
 abbrev pub uses_of : Entry → List (Option ℕ)
-uses_of e = bound_by e.answer ++ used_of e.action
+uses_of e = bound_in e.answer ++ used_of e.action
 
 -- how often an object stands among those that are used
 abbrev pub uses : ℕ → List (Option ℕ) → ℕ

@@ -22,12 +22,12 @@ use Rattle.cf_model.specs.State.{Binding, Work, release_of, slots_of, State, tri
 use Rattle.cf_model.specs.Actions.{Site, site_of}
 
 -- the statement at a place of a block
-abbrev pub statement_of : Option Block → ℕ → Option Statement
-statement_of None n = None
-statement_of (Some block) n = slice_get block.statements n
+abbrev pub statement_at : Option Block → ℕ → Option Statement
+statement_at None n = None
+statement_at (Some block) n = slice_get block.statements n
 
 abbrev pub statement_in : Script → ℕ → ℕ → Option Statement
-statement_in s b n = statement_of (slice_get s.blocks b) n
+statement_in s b n = statement_at (slice_get s.blocks b) n
 
 -- the references that a variable of a thread holds, that a thread owes the release of, and that a body's slots hold
 abbrev pub held_by : Holder → ℕ → Reference
@@ -62,17 +62,17 @@ finals_of None es = []
 finals_of (Some o) es = if degree o es == 0 then o ∷ [] else []
 
 -- the type of an object, or 0 where it was not made
-abbrev pub class_in : Option Object → ℕ
-class_in None = 0
-class_in (Some ob) = ob.class
+abbrev pub type_in : Option Object → ℕ
+type_in None = 0
+type_in (Some ob) = ob.class
 
-abbrev pub class_of : List Object → ℕ → ℕ
-class_of obs o = class_in (slice_get obs o)
+abbrev pub type_of : List Object → ℕ → ℕ
+type_of obs o = type_in (slice_get obs o)
 
 -- a cut answers whether it was the last
 abbrev pub cut_answer : Option ℕ → List Object → List Reference → Answer → Answer
 cut_answer None objects es other = other
-cut_answer (Some o) objects es other = if degree o es == 0 then answers.Final (class_of objects o) else answers.More
+cut_answer (Some o) objects es other = if degree o es == 0 then answers.Final (type_of objects o) else answers.More
 
 -- the references, the whole state and the answer that a step leaves
 abbrev pub edges_after : Step → List Reference → List Reference

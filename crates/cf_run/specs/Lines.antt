@@ -21,9 +21,9 @@ gap zero = []
 gap (suc i) = 32 ∷ []
 
 -- the text of a line that may be none
-abbrev pub text_in : Option (Vec ℕ) → List ℕ
-text_in None = []
-text_in (Some l) = l.items
+abbrev pub line_text : Option (Vec ℕ) → List ℕ
+line_text None = []
+line_text (Some l) = l.items
 
 -- the type of an object, where it was made
 abbrev pub class_at : List Object → ℕ → Option ℕ

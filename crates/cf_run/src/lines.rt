@@ -6,7 +6,7 @@ ghost use Rattle.cf_model.specs.Rendering.{joined, ending_word as word_of_ending
 ghost use Rattle.cf_world.specs.Worlds.{state_of};
 ghost use Rattle.cf_run.specs.Outcomes.{reason_word as word_of, refusal_text};
 ghost use Rattle.cf_script.specs.Views.{lent};
-ghost use Rattle.cf_run.specs.Lines.{gap, class_at, alive_words, alive_if, end_words, text_in};
+ghost use Rattle.cf_run.specs.Lines.{gap, class_at, alive_words, alive_if, end_words, line_text};
 
 use crate::tally::Tally;
 use cf_body::class_name;
@@ -109,7 +109,7 @@ pub fn entry_line(
     classes: &[ClassLine],
     entry: &Entry,
 ) -> Result<Option<Vec<u8>>, AllocError>
-    ensures { IfOk result (λ l. text_of_lines (lines_if (line_of classes.now entry.now.thread entry.now.action entry.now.answer)) ≡ text_in l) }
+    ensures { IfOk result (λ l. text_of_lines (lines_if (line_of classes.now entry.now.thread entry.now.action entry.now.answer)) ≡ line_text l) }
 {
     match (&entry.action, &entry.answer) {
         (Action::Release { used, .. }, Answer::Final(class)) => {
@@ -175,7 +175,7 @@ pub fn alive_line(
     object: ObjId,
     tally: Tally,
 ) -> Result<Option<Vec<u8>>, AllocError>
-    ensures text { IfOk result (λ l. text_of_lines (alive_if classes.now object (class_at (state_of world.now).objects object) tally) ≡ text_in l) }
+    ensures text { IfOk result (λ l. text_of_lines (alive_if classes.now object (class_at (state_of world.now).objects object) tally) ≡ line_text l) }
     ensures count { IfOk result (λ l. length (alive_if classes.now object (class_at (state_of world.now).objects object) tally) ≡ length (option_to_list l)) }
 {
     if tally.owners == 0 && tally.slots == 0 {

@@ -4,7 +4,7 @@ use Rattle.cf_syntax.specs.declared.form.Form.{Form}
 use Rattle.cf_syntax.specs.declared.refusal.Refusal.{Refusal}
 use Rattle.cf_syntax.specs.declared.script.ClassLine.{ClassLine}
 use Rattle.cf_syntax.specs.declared.statement.Statement.{Statement}
-use Rattle.cf_syntax.specs.Table.{◌>>=◌, With, classes_of, numbered, statement_by}
+use Rattle.cf_syntax.specs.Table.{◌>>=◌, With, classes_of, variables_of, statement_by}
 use Rattle.cf_script.specs.declared.statements.Stated.{Stated}
 use Rattle.cf_script.specs.Views.{texts}
 
@@ -14,6 +14,6 @@ stated_of s = record { names = texts s.names.keys; value = s.statement }
 -- the statement of a form whose words are each of their class
 abbrev pub numbered_statement : List ClassLine → Form → List (List ℕ) → List (List ℕ) → Result (With Statement) Refusal
 numbered_statement classes form names ws = do
-  vs ← numbered (classes_of form) names ws
+  vs ← variables_of (classes_of form) names ws
   s ← statement_by classes form (slice_index vs.value 0) (slice_index vs.value 1) (slice_index vs.value 2) ws
   Ok (record { names = vs.names; value = s })

@@ -2,7 +2,7 @@
 ghost use Rattle.std.specs.Prelude.{◌≡◌, IfOk, OnOk, length};
 ghost use Rattle.std.specs.List.{position_or_len};
 ghost use Rattle.std.specs.Str.{bytes_eq};
-ghost use Rattle.cf_syntax.specs.Table.{with_name, with_variable, with_word, numbered};
+ghost use Rattle.cf_syntax.specs.Table.{with_name, with_variable, with_word, variables_of};
 ghost use Rattle.cf_script.specs.Gives.{GivesAs};
 ghost use Rattle.cf_script.specs.Views.{lent, texts};
 ghost use Rattle.cf_script.specs.NamesViews.{numbered_of};
@@ -74,7 +74,7 @@ pub(crate) fn number_variables(
     words: &[&[u8]],
 ) -> Result<Numbered, ScriptFault>
     requires { length words.now ≡ length classes.now }
-    ensures { GivesAs numbered_of result (numbered classes.now (texts names.keys) (lent words.now)) }
+    ensures { GivesAs numbered_of result (variables_of classes.now (texts names.keys) (lent words.now)) }
 {
     let mut so_far = Numbered {
         names,

@@ -1,7 +1,7 @@
 //! What a statement does, as data.
 ghost use Rattle.std.specs.Prelude.{◌≡◌, ◌<◌, None};
 ghost use Rattle.cf_contents.specs.Contents.{Object};
-ghost use Rattle.cf_contents.specs.Deeds.{taken};
+ghost use Rattle.cf_contents.specs.Deeds.{binding};
 ghost use Rattle.cf_body.specs.Bodies.{content_of, members_in, member_limit};
 ghost use Rattle.cf_store.specs.Applies.{deed_by};
 ghost use Rattle.cf_store.specs.declared.deed.Source.TheVariants.{Nowhere, Fresh};
@@ -80,8 +80,8 @@ impl Deed {
     }
 
     /// It binds an object that is there, if there is one.
-    pub(crate) fn taken(object: Option<ObjId>) -> Deed
-        ensures is { deed_by result ≡ taken object }
+    pub(crate) fn binding(object: Option<ObjId>) -> Deed
+        ensures is { deed_by result ≡ binding object }
         ensures change { result.change ≡ Nothing }
     {
         match object {

@@ -1,13 +1,13 @@
 //! What statements do that use no object, and those that only count references: most of them make an object.
 ghost use Rattle.std.specs.Prelude.{◌≡◌, ◌<◌, None, [], length, replicate, IfOk};
 ghost use Rattle.cf_contents.specs.Contents.{text_content, data_content, number_content, array_content, dictionary_content, string_class, data_class, number_class, array_class, dictionary_class, instance_of};
-ghost use Rattle.cf_contents.specs.Keys.{line_of};
+ghost use Rattle.cf_contents.specs.Keys.{class_line};
 ghost use Rattle.cf_contents.specs.Deeds.{made, fresh_if, deed_of};
 ghost use Rattle.cf_store.specs.Applies.{IsAlone};
 
 use crate::deed::Deed;
 use cf_array::Array;
-use cf_body::{Instance, Kind, Pairs, line_of};
+use cf_body::{Instance, Kind, Pairs, class_line};
 use cf_data::Bytes;
 use cf_ids::{Answer, ObjId, TypeId};
 use cf_number::Num;
@@ -109,10 +109,10 @@ fn make_instance(
     class: TypeId,
     key: i64,
 ) -> Result<Deed, NoMemory>
-    ensures { let deed = fresh_if (instance_of class key (line_of classes.now class)) in
+    ensures { let deed = fresh_if (instance_of class key (class_line classes.now class)) in
         IfOk result (λ d. IsAlone deed d) }
 {
-    let Some(line) = line_of(classes, class) else {
+    let Some(line) = class_line(classes, class) else {
         return Ok(Deed::skipped());
     };
     let fields = empty_fields(alloc, line.fields)?;

@@ -39,7 +39,7 @@ pub(crate) fn pair_deed(
         Statement::DictSet { .. } => set_pair(used, entry),
         Statement::DictReplace { .. } => replace_pair(used, entry),
         Statement::DictRemove { .. } => remove_pair(used, entry),
-        Statement::DictTake { .. } => Deed::taken(entry.value),
+        Statement::DictTake { .. } => Deed::binding(entry.value),
         _ => unreachable!(),
     })
 }

@@ -1,6 +1,6 @@
 //! What statements do to arrays and to fields.
 ghost use Rattle.std.specs.Prelude.{◌≡◌, [], ◌∷◌, Some, None, true, length, slice_get, nat_lt, nat_le};
-ghost use Rattle.cf_contents.specs.Deeds.{with_object, with_elements, with_fields, within, edited_places, taken, in_field, deed_of};
+ghost use Rattle.cf_contents.specs.Deeds.{with_object, with_elements, with_fields, within, edited_places, binding, in_field, deed_of};
 ghost use Rattle.cf_store.specs.Applies.{Does};
 ghost use Rattle.cf_store.specs.Groups.{acts_on_places};
 
@@ -100,13 +100,13 @@ fn remove_element(used: &Found, at: u32) -> Deed
 
 /// Binds the element at a place, where there is one.
 fn take_element(used: &Found, at: u32) -> Deed
-    ensures { let deed = with_elements used.now.first (λ os. taken (slice_get os at)) in
+    ensures { let deed = with_elements used.now.first (λ os. binding (slice_get os at)) in
         Does deed used.now.first used.now.second used.now.third result }
 {
     let Some(elements) = elements_in(&used.first) else {
         return Deed::skipped();
     };
-    Deed::taken(elements.get(at as usize).copied())
+    Deed::binding(elements.get(at as usize).copied())
 }
 
 /// Puts an object in a field.
@@ -146,14 +146,14 @@ fn clear_field(used: &Found, at: u32) -> Deed
 
 /// Binds the object in a field, where there is one.
 fn take_field(used: &Found, at: u32) -> Deed
-    ensures { let deed = with_fields used.now.first (λ fields. taken (in_field (slice_get fields at))) in
+    ensures { let deed = with_fields used.now.first (λ fields. binding (in_field (slice_get fields at))) in
         Does deed used.now.first used.now.second used.now.third result }
 {
     let Some(fields) = fields_in(&used.first) else {
         return Deed::skipped();
     };
     match fields.get(at as usize) {
-        Some(field) => Deed::taken(*field),
-        None => Deed::taken(None),
+        Some(field) => Deed::binding(*field),
+        None => Deed::binding(None),
     }
 }

@@ -237,8 +237,8 @@ with_words so_far (c ∷ cs) (w ∷ ws) = do
   with_words more cs ws
 
 -- the numbers of a line's variables, in the order of its words
-abbrev pub numbered : List Class → List (List ℕ) → List (List ℕ) → Result (With (List ℕ)) Refusal
-numbered classes names ws = with_words (record { names = names; value = [] }) classes ws
+abbrev pub variables_of : List Class → List (List ℕ) → List (List ℕ) → Result (With (List ℕ)) Refusal
+variables_of classes names ws = with_words (record { names = names; value = [] }) classes ws
 
 -- the type number of a class, by its name: 14 for the first class line
 abbrev pub class_named : List ClassLine → List ℕ → Option ℕ
@@ -260,26 +260,26 @@ abbrev pub literal_of : List ℕ → Result (List ℕ) Refusal
 literal_of text = if is_utf8 text then Ok (units_of (chars text)) else Err unread
 
 -- a statement of the text, or of the bytes, of the last word
-abbrev pub with_text : List (List ℕ) → (List ℕ → Statement) → Result Statement Refusal
-with_text ws statement = do
+abbrev pub of_text : List (List ℕ) → (List ℕ → Statement) → Result Statement Refusal
+of_text ws statement = do
   text ← literal_of (text_of (last_word ws))
   Ok (statement text)
 
-abbrev pub with_data : List (List ℕ) → (List ℕ → Statement) → Result Statement Refusal
-with_data ws statement = Ok (statement (unwrap_or (bytes_of (last_word ws)) []))
+abbrev pub of_data : List (List ℕ) → (List ℕ → Statement) → Result Statement Refusal
+of_data ws statement = Ok (statement (unwrap_or (bytes_of (last_word ws)) []))
 
 -- the statement of a form, by the numbers of its variables, v, w and x, and its words
 abbrev pub text_statement : TextForm → ℕ → List (List ℕ) → Result Statement Refusal
-text_statement texts.MakeString v ws = with_text ws (λ t. MakeString v t)
-text_statement texts.MakeMstring v ws = with_text ws (λ t. MakeMstring v t)
-text_statement texts.StrInsert v ws = with_text ws (λ t. StrInsert v (index_at ws 2) t)
-text_statement texts.StrReplace v ws = with_text ws (λ t. StrReplace v (index_at ws 2) (index_at ws 3) t)
+text_statement texts.MakeString v ws = of_text ws (λ t. MakeString v t)
+text_statement texts.MakeMstring v ws = of_text ws (λ t. MakeMstring v t)
+text_statement texts.StrInsert v ws = of_text ws (λ t. StrInsert v (index_at ws 2) t)
+text_statement texts.StrReplace v ws = of_text ws (λ t. StrReplace v (index_at ws 2) (index_at ws 3) t)
 
 abbrev pub data_statement : DataForm → ℕ → List (List ℕ) → Result Statement Refusal
-data_statement datas.MakeData v ws = with_data ws (λ b. MakeData v b)
-data_statement datas.MakeMdata v ws = with_data ws (λ b. MakeMdata v b)
-data_statement datas.DataAppend v ws = with_data ws (λ b. DataAppend v b)
-data_statement datas.DataReplace v ws = with_data ws (λ b. DataReplace v (index_at ws 2) (index_at ws 3) b)
+data_statement datas.MakeData v ws = of_data ws (λ b. MakeData v b)
+data_statement datas.MakeMdata v ws = of_data ws (λ b. MakeMdata v b)
+data_statement datas.DataAppend v ws = of_data ws (λ b. DataAppend v b)
+data_statement datas.DataReplace v ws = of_data ws (λ b. DataReplace v (index_at ws 2) (index_at ws 3) b)
 
 abbrev pub number_statement : ℕ → NumKind → ℤ → Result Statement Refusal
 number_statement v kind value = do
@@ -337,7 +337,7 @@ statement_of classes names ws = do
   form ← form_of ws
   _ ← required (length ws == length (classes_of form))
   _ ← are_of (classes_of form) ws
-  vs ← numbered (classes_of form) names ws
+  vs ← variables_of (classes_of form) names ws
   s ← statement_by classes form (slice_index vs.value 0) (slice_index vs.value 1) (slice_index vs.value 2) ws
   Ok (record { names = vs.names; value = s })
 

@@ -16,7 +16,7 @@ use Rattle.cf_types.specs.declared.callbacks.CellCallbacks.{CellCallbacks}
 use Rattle.cf_types.specs.declared.callbacks.CellCallbacks.TheVariants.{Typed, Plain}
 use Rattle.cf_types.specs.Cells.{cells_equal, cell_hash, cell_order}
 use Rattle.cf_types.specs.Hash.{hash_of, leaf_bytes}
-use Rattle.cf_types.specs.Leaves.{forms_equal, leaves_equal, kind_of, listed_of, number_of, form_order, leaf_order}
+use Rattle.cf_types.specs.Leaves.{forms_equal, leaves_equal, kind_rank, listed_of, number_of, form_order, leaf_order}
 use Rattle.cf_types.specs.Views.{FormView, text_form, data_form, whole_form, same_form, LeafView}
 
 -- forms are equal exactly where they are the same
@@ -52,7 +52,7 @@ leaves_equal-Decides a b =
 
 -- the order of forms and of leaves is total
 pub form_order_total : IsTotalOrder form_order
-form_order_total = then_total (on_total kind_of nat_cmp_total) (then_total (on_texts listed_of) (on_total number_of int_cmp_total))
+form_order_total = then_total (on_total kind_rank nat_cmp_total) (then_total (on_texts listed_of) (on_total number_of int_cmp_total))
 
 pub leaf_order_total : IsTotalOrder leaf_order
 leaf_order_total =

@@ -19,11 +19,11 @@ abbrev pub leaves_equal : LeafView → LeafView → Bool
 leaves_equal a b = (a.class == b.class) && forms_equal a.form b.form
 
 -- texts stand before data, these before whole numbers, and these before identities
-abbrev pub kind_of : FormView → ℕ
-kind_of (text_form units) = 0
-kind_of (data_form bytes) = 1
-kind_of (whole_form value) = 2
-kind_of (same_form id) = 3
+abbrev pub kind_rank : FormView → ℕ
+kind_rank (text_form units) = 0
+kind_rank (data_form bytes) = 1
+kind_rank (whole_form value) = 2
+kind_rank (same_form id) = 3
 
 -- the units of a text and the bytes of data
 abbrev pub listed_of : FormView → List ℕ
@@ -42,7 +42,7 @@ number_of (same_form id) = pos id
 -- the order of forms: by kind, then by units or bytes, the first that differs deciding, then by value or
 -- object number
 abbrev pub form_order : FormView → FormView → Ordering
-form_order = then_cmp (on kind_of nat_cmp) (then_cmp (on listed_of (slice_cmp nat_cmp)) (on number_of int_cmp))
+form_order = then_cmp (on kind_rank nat_cmp) (then_cmp (on listed_of (slice_cmp nat_cmp)) (on number_of int_cmp))
 
 -- the order of leaves: by class, then by form
 abbrev pub leaf_order : LeafView → LeafView → Ordering

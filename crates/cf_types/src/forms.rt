@@ -21,13 +21,13 @@ pub enum Form {
 }
 
 impl Form {
-    ghost use Rattle.cf_types.specs.Forms.{form_of};
+    ghost use Rattle.cf_types.specs.Forms.{form_view};
     ghost use Rattle.cf_types.specs.Hash.{form_bytes, hash_step};
-    ghost use Rattle.cf_types.specs.Leaves.{form_order, forms_equal, kind_of};
+    ghost use Rattle.cf_types.specs.Leaves.{form_order, forms_equal, kind_rank};
 
     /// A form with the same contents.
     pub(crate) fn copy(&self, alloc: Global) -> Result<Form, NoMemory>
-        ensures { IfOk result (λ copied. form_of copied ≡ form_of self.now) }
+        ensures { IfOk result (λ copied. form_view copied ≡ form_view self.now) }
     {
         match self {
             Form::Text(text) => Ok(Form::Text(text.copy(alloc)?)),
@@ -39,7 +39,7 @@ impl Form {
 
     /// Whether the two forms are equal.
     pub(crate) fn equals(&self, other: &Form) -> bool
-        ensures { result ≡ forms_equal (form_of self.now) (form_of other.now) }
+        ensures { result ≡ forms_equal (form_view self.now) (form_view other.now) }
     {
         match (self, other) {
             (Form::Text(text), Form::Text(other)) => text.compare(other).is_eq(),
@@ -52,7 +52,7 @@ impl Form {
 
     /// The hash that takes the form's bytes.
     pub(crate) fn hash(&self, start: u64) -> u64
-        ensures { result ≡ fold hash_step start (form_bytes (form_of self.now)) }
+        ensures { result ≡ fold hash_step start (form_bytes (form_view self.now)) }
     {
         match self {
             Form::Text(text) => hash_text(start, text),
@@ -64,7 +64,7 @@ impl Form {
 
     /// How this form stands to the other.
     pub(crate) fn order(&self, other: &Form) -> Ordering
-        ensures { result ≡ form_order (form_of self.now) (form_of other.now) }
+        ensures { result ≡ form_order (form_view self.now) (form_view other.now) }
     {
         match (self, other) {
             (Form::Text(text), Form::Text(other)) => text.compare(other),
@@ -77,7 +77,7 @@ impl Form {
 
     /// Where the form's kind stands among the four, from 0.
     fn kind(&self) -> u8
-        ensures { result ≡ kind_of (form_of self.now) }
+        ensures { result ≡ kind_rank (form_view self.now) }
     {
         match self {
             Form::Text(_) => 0,

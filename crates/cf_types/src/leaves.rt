@@ -21,9 +21,9 @@ impl Model for Leaf {
 
     ghost Value = { LeafView };
 
-    ghost use Rattle.cf_types.specs.Forms.{form_of};
+    ghost use Rattle.cf_types.specs.Forms.{form_view};
 
-    ghost view = { λ leaf. record { class = leaf.class; form = form_of leaf.form } };
+    ghost view = { λ leaf. record { class = leaf.class; form = form_view leaf.form } };
 }
 
 impl Leaf {

@@ -9,7 +9,7 @@ use Rattle.cf_ids.specs.declared.answer.Ended.TheVariants.{More, Last}
 use Rattle.cf_contents.specs.Contents.{Object}
 use Rattle.cf_contents.specs.Stores.{Held}
 use Rattle.cf_model.specs.State.{State, Work, slots_of, look, degree}
-use Rattle.cf_model.specs.Steps.{Step, finals_of, edges_after, cut_answer, class_of, class_in, state_after, step_answer}
+use Rattle.cf_model.specs.Steps.{Step, finals_of, edges_after, cut_answer, type_of, type_in, state_after, step_answer}
 use Rattle.cf_world.specs.Mirrors.{Mirrors, MirrorsState, Follows, held_at, trimmed_by, retired_if, waits_if, answer_if}
 use Rattle.cf_world.specs.Worlds.{ended_at}
 use Rattle.cf_world.proofs.Mirroring.{mirrors_retired}
@@ -62,15 +62,15 @@ module _ (step : Step) (st : State) (o : ℕ) (bodies : List Held) (table : List
       rw cuts (ap (λ (w : List Work). w ++ work) (sym (waits_are o n (degree o st.edges) less)) ∙ ap (λ (w : List Work). map slots_of (finals_of (Some o) (edges_after step st.edges)) ++ w) is) in
       follows_step step st new_bodies table (waits_if ended o ++ work) after size held waits
 
-pub cut_answers : (step : Step) (st : State) (o : ℕ) → step.cuts ≡ Some o → degree o (edges_after step st.edges) + 1 ≡ degree o st.edges → step_answer step st ≡ answer_if (ended_at (degree o st.edges)) (class_of st.objects o)
+pub cut_answers : (step : Step) (st : State) (o : ℕ) → step.cuts ≡ Some o → degree o (edges_after step st.edges) + 1 ≡ degree o st.edges → step_answer step st ≡ answer_if (ended_at (degree o st.edges)) (type_of st.objects o)
 cut_answers step st o cuts less =
     ap (λ (c : Option ℕ). cut_answer c st.objects (edges_after step st.edges) step.answer) cuts
-    ∙ answer_is o (degree o (edges_after step st.edges)) (degree o st.edges) less (class_of st.objects o)
+    ∙ answer_is o (degree o (edges_after step st.edges)) (degree o st.edges) less (type_of st.objects o)
 
 -- the type of an object is that of its body
-pub class_is : (objects : List Object) (o : ℕ) (c : Option ℕ) → option_map (λ (ob : Object). ob.class) (slice_get objects o) ≡ c → (n : ℕ) → c ≡ Some n → class_of objects o ≡ n
+pub class_is : (objects : List Object) (o : ℕ) (c : Option ℕ) → option_map (λ (ob : Object). ob.class) (slice_get objects o) ≡ c → (n : ℕ) → c ≡ Some n → type_of objects o ≡ n
 class_is objects o c e n f = class_at (slice_get objects o) (e ∙ f)
   where
-    class_at : (ob : Option Object) → option_map (λ (b : Object). b.class) ob ≡ Some n → class_in ob ≡ n
+    class_at : (ob : Option Object) → option_map (λ (b : Object). b.class) ob ≡ Some n → type_in ob ≡ n
     class_at None h = absurd cc
     class_at (Some b) h = cc

@@ -20,7 +20,7 @@ use Rattle.cf_model.specs.declared.action.Action.{Action}
 use Rattle.cf_model.specs.declared.action.Action.TheVariants as actions
 use Rattle.cf_model.specs.declared.action.Entry.{Entry}
 use Rattle.cf_model.specs.State.{State, Work, release_of, slots_of, start, is_live, degree}
-use Rattle.cf_model.specs.Steps.{cut_by, class_of, statement_in, answer_to, gained, makes}
+use Rattle.cf_model.specs.Steps.{cut_by, type_of, statement_in, answer_to, gained, makes}
 use Rattle.cf_model.specs.Journals.{setup, next_of, After, IsLegalEntry}
 use Rattle.cf_model.specs.Finals.{cut_of}
 use Rattle.cf_model.proofs.Growth.{legal_more}
@@ -94,7 +94,7 @@ pub record IsReleased (s : Script) (journal : List Entry) (bodies : List Held) (
   pub can : CanTake bodies (first_work work)
   pub made : o < length (bodies_taken (first_work work) bodies)
   pub live : is_live_in (bodies_taken (first_work work) bodies) o ≡ true
-  pub answer : answer_to s 0 (After s journal) a ≡ answer_if (ended_at (degree o (After s journal).edges)) (class_of (objects_of (bodies_taken (first_work work) bodies)) o)
+  pub answer : answer_to s 0 (After s journal) a ≡ answer_if (ended_at (degree o (After s journal).edges)) (type_of (objects_of (bodies_taken (first_work work) bodies)) o)
   pub gains : gained s 0 (After s journal) a ≡ []
   pub at : let ended = ended_at (degree o (After s journal).edges) in let left = retired_if ended o (bodies_taken (first_work work) bodies) in
       IsAt s (journal ++ entry_of s 0 (After s journal) a ∷ []) left table (trimmed_by left (waits_if ended o ++ work_taken work)) (number_taken (first_work work) number) false
@@ -106,8 +106,8 @@ live_in state bodies o h live = h.live o ∙ live
 made_in : (state : State) (bodies : List Held) (o : ℕ) → MirrorsState state bodies → o < length state.objects → o < length bodies
 made_in state bodies o h made = omega (arith, made, length-objects bodies, ap length h.objects_are)
 
-class_in_bodies : (state : State) (bodies : List Held) (o : ℕ) → MirrorsState state bodies → class_of state.objects o ≡ class_of (objects_of bodies) o
-class_in_bodies state bodies o h = ap (λ (os : List Object). class_of os o) (sym h.objects_are)
+class_in_bodies : (state : State) (bodies : List Held) (o : ℕ) → MirrorsState state bodies → type_of state.objects o ≡ type_of (objects_of bodies) o
+class_in_bodies state bodies o h = ap (λ (os : List Object). type_of os o) (sym h.objects_are)
 
 action_same : (a b : Action) → ◌≡◌ {A = Option Action} (Some a) (Some b) → a ≡ b
 action_same a b e = cc
@@ -194,7 +194,7 @@ module _ (s : Script) (journal : List Entry) (bodies : List Held) (table : List 
         made = omega (arith, length-with_body body_dropped b bodies, made_in now bodies o at.follows.mirrors (drop_made s journal bodies table number at.owned at.legal b o os rest at.follows left));
         live = live-body body_dropped (λ h. refl) b o bodies ∙ live_in now bodies o at.follows.mirrors legal.uses.0.live;
         answer = drop_answer s journal bodies table number at.owned at.legal b o os rest at.follows left
-            ∙ ap (answer_if (ended_at (degree o now.edges))) (class_in_bodies now bodies o at.follows.mirrors ∙ ap (λ (obs : List Object). class_of obs o) (sym kept));
+            ∙ ap (answer_if (ended_at (degree o now.edges))) (class_in_bodies now bodies o at.follows.mirrors ∙ ap (λ (obs : List Object). type_of obs o) (sym kept));
         gains = refl;
         at = record {
           owned = at.owned;
@@ -237,10 +237,10 @@ released_by s journal bodies table work number o is_done act a at going is cuts 
 
 -- what the code of a release has done
 module _ (s : Script) (journal : List Entry) (bodies : List Held) (table : List (Option ℕ)) (work : List Work) (number o : ℕ) (a : Action) (rel : IsReleased s journal bodies table work number o a) (ended : Ended) (is : ended ≡ ended_at (degree o (After s journal).edges)) (taken left : List Held) (behind after : List Work) (number' : ℕ) (answer : Answer) (journal' : List Entry) where
-  pub release_entered : taken ≡ bodies_taken (first_work work) bodies → answer ≡ answer_if ended (class_of (objects_of taken) o) → journal' ≡ journal ++ record { thread = 0; action = a; answer = answer } ∷ [] → journal' ≡ journal ++ entry_of s 0 (After s journal) a ∷ []
+  pub release_entered : taken ≡ bodies_taken (first_work work) bodies → answer ≡ answer_if ended (type_of (objects_of taken) o) → journal' ≡ journal ++ record { thread = 0; action = a; answer = answer } ∷ [] → journal' ≡ journal ++ entry_of s 0 (After s journal) a ∷ []
   release_entered taken_is answer_is grown =
       let same : answer ≡ answer_to s 0 (After s journal) a =
-      answer_is ∙ ap (λ (bs : List Held). answer_if ended (class_of (objects_of bs) o)) taken_is ∙ ap (λ (e : Ended). answer_if e (class_of (objects_of (bodies_taken (first_work work) bodies)) o)) is ∙ sym rel.answer in
+      answer_is ∙ ap (λ (bs : List Held). answer_if ended (type_of (objects_of bs) o)) taken_is ∙ ap (λ (e : Ended). answer_if e (type_of (objects_of (bodies_taken (first_work work) bodies)) o)) is ∙ sym rel.answer in
       grown ∙ ap (λ (b : Answer). journal ++ record { thread = 0; action = a; answer = b } ∷ []) same
 
   pub release_at : taken ≡ bodies_taken (first_work work) bodies → left ≡ retired_if ended o taken → behind ≡ work_taken work → after ≡ trimmed_by (retired_if ended o taken) (waits_if ended o ++ behind) → number' ≡ number_taken (first_work work) number → journal' ≡ journal ++ entry_of s 0 (After s journal) a ∷ [] → IsAt s journal' left table after number' false

@@ -19,7 +19,7 @@ use Rattle.cf_model.specs.declared.action.Entry.{Entry}
 use Rattle.cf_model.specs.State.{State, Work, release_of, slots_of, left_of, degree}
 use Rattle.cf_contents.specs.Deeds.{first_of, deed_at, resolved}
 use Rattle.cf_model.specs.State.{look, is_live}
-use Rattle.cf_model.specs.Steps.{Step, gained_by, rest_of, reference_step, touch_step, class_of, owed_step, drop_step, edges_after, step_answer, step_for, answer_to, gained, makes}
+use Rattle.cf_model.specs.Steps.{Step, gained_by, rest_of, reference_step, touch_step, type_of, owed_step, drop_step, edges_after, step_answer, step_for, answer_to, gained, makes}
 use Rattle.cf_model.specs.Journals.{setup, used_objects, used_of, named_of, next_of, demanded, After, IsLegal, IsLegalEntry, MayUse, MayUseAll}
 use Rattle.cf_model.proofs.Holding.{some_is}
 use Rattle.cf_model.proofs.FrameSteps.{site_in, used_of-action_of}
@@ -51,7 +51,7 @@ module _ (s : Script) (journal : List Entry) (a : Action) (o : ℕ) (step : Step
       omega (arith, by_step, ap (one_at o) cuts, one, ap (times o) gains)
 
   -- the answer by what is left
-  pub release_answer : answer_to s 0 st a ≡ answer_if ended (class_of st.objects o)
+  pub release_answer : answer_to s 0 st a ≡ answer_if ended (type_of st.objects o)
   release_answer = ap (λ (t : Step). step_answer t st) is ∙ cut_answers step st o cuts less
 
   -- the parts behind it
@@ -83,7 +83,7 @@ module _ (s : Script) (journal : List Entry) (bodies : List Held) (table : List 
   owed_legal o rest h = legal_owed s now (entry_of s 0 now (actions.Owed o)) o rest here (sym h.stands.done_is) (sym h.stands.work_is) refl refl refl
 
   -- an owed release
-  pub owed_answer : (o : ℕ) (rest : List Work) → Follows now bodies table (release_of o ∷ rest) number false → answer_to s 0 now (actions.Owed o) ≡ answer_if (ended_at (degree o now.edges)) (class_of now.objects o)
+  pub owed_answer : (o : ℕ) (rest : List Work) → Follows now bodies table (release_of o ∷ rest) number false → answer_to s 0 now (actions.Owed o) ≡ answer_if (ended_at (degree o now.edges)) (type_of now.objects o)
   owed_answer o rest h = release_answer s journal (actions.Owed o) o (owed_step 0 o now) own legal (owed_legal o rest h) refl refl refl
 
   pub owed_made : (o : ℕ) (rest : List Work) → Follows now bodies table (release_of o ∷ rest) number false → o < length now.objects
@@ -106,7 +106,7 @@ module _ (s : Script) (journal : List Entry) (bodies : List Held) (table : List 
   drop_legal b o os rest h e =
       legal_drop s now (entry_of s 0 now (drop_action b o)) b o rest os here (sym h.stands.done_is) (sym h.stands.work_is) (first_left b o os (slots_of b ∷ rest) h e) refl (ap (λ (k : ℕ). actions.DropSlot b k o) (h.mirrors.given_up b)) refl
 
-  pub drop_answer : (b o : ℕ) (os : List ℕ) (rest : List Work) → Follows now bodies table (slots_of b ∷ rest) number false → left_in bodies b ≡ o ∷ os → answer_to s 0 now (drop_action b o) ≡ answer_if (ended_at (degree o now.edges)) (class_of now.objects o)
+  pub drop_answer : (b o : ℕ) (os : List ℕ) (rest : List Work) → Follows now bodies table (slots_of b ∷ rest) number false → left_in bodies b ≡ o ∷ os → answer_to s 0 now (drop_action b o) ≡ answer_if (ended_at (degree o now.edges)) (type_of now.objects o)
   drop_answer b o os rest h e = release_answer s journal (drop_action b o) o (drop_step b o now) own legal (drop_legal b o os rest h e) refl refl refl
 
   pub drop_made : (b o : ℕ) (os : List ℕ) (rest : List Work) → Follows now bodies table (slots_of b ∷ rest) number false → left_in bodies b ≡ o ∷ os → o < length now.objects
@@ -149,7 +149,7 @@ module _ (s : Script) (journal : List Entry) (bodies : List Held) (table : List 
     pub release_legal : IsLegalEntry s now (entry_of s 0 now action)
     release_legal = legal_demanded s now (entry_of s 0 now action) own here (sym h.stands.done_is) (sym h.stands.work_is) refl action_is refl (λ m. absurd (no_making m))
 
-    pub release_is : answer_to s 0 now action ≡ answer_if (ended_at (degree o now.edges)) (class_of now.objects o)
+    pub release_is : answer_to s 0 now action ≡ answer_if (ended_at (degree o now.edges)) (type_of now.objects o)
     release_is = release_answer s journal action o cut_step own legal release_legal step_is refl refl
 
     uses_is : used_of action ≡ used_objects now.frame.bindings x

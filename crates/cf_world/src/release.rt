@@ -1,7 +1,7 @@
 //! The entry that takes a reference away, and what it does to the parts of a world.
 ghost use Rattle.std.specs.Prelude.{◌≡◌, ◌+◌, ◌<◌, ◌≤◌, ◌^◌, ◌++◌, true, false, length, slice_get, vec_len, vec_capacity};
 ghost use Rattle.cf_contents.specs.Stores.{objects_of, is_live_in};
-ghost use Rattle.cf_model.specs.Steps.{class_of};
+ghost use Rattle.cf_model.specs.Steps.{type_of};
 ghost use Rattle.cf_world.specs.Mirrors.{first_work, trimmed_by, retired_if, waits_if, answer_if};
 ghost use Rattle.cf_world.specs.Works.{works};
 ghost use Rattle.cf_world.specs.Running.{CanTake, bodies_taken, work_taken, number_taken};
@@ -38,7 +38,7 @@ pub(crate) fn take_item(store: &mut Store, frame: &mut Frame)
 /// The answer of an entry that takes a reference to an object away.
 fn final_answer(store: &Store, object: ObjId, ended: Ended) -> Answer
     requires { object < length store.now.bodies }
-    ensures { result ≡ answer_if ended (class_of (objects_of store.now.bodies) object) }
+    ensures { result ≡ answer_if ended (type_of (objects_of store.now.bodies) object) }
 {
     match (ended, store.class(object)) {
         (Ended::Last, Some(class)) => Answer::Final(class),
@@ -51,7 +51,7 @@ pub(crate) fn settle(store: &mut Store, frame: &mut Frame, object: ObjId, ended:
     requires made { object < length store.old.bodies }
     requires live { is_live_in store.old.bodies object ≡ true }
     requires room { vec_len frame.old.work < vec_capacity frame.old.work }
-    ensures answer { result ≡ answer_if ended (class_of (objects_of store.old.bodies) object) }
+    ensures answer { result ≡ answer_if ended (type_of (objects_of store.old.bodies) object) }
     ensures bodies { store.new.bodies ≡ retired_if ended object store.old.bodies }
     ensures work { works frame.new.work.items
         ≡ trimmed_by (retired_if ended object store.old.bodies) (waits_if ended object ++ works frame.old.work.items) }

@@ -42,8 +42,3 @@ pub record IsFirstPlace (units other : List ℕ) (start i : ℕ) : Type 0 where
 -- `other` stands at no place from `start` on
 abbrev pub StandsNowhereFrom : List ℕ → List ℕ → ℕ → Type 0
 StandsNowhereFrom units other start = (k : ℕ) → start ≤ k → ¬ (StandsAt units other k)
-
--- room and units together do not get less: what is taken out makes room, and what is put in uses no more
--- than its length
-abbrev pub KeepsCapacity : StrView → StrView → Type 0
-KeepsCapacity old new = old.room + length old.units ≤ new.room + length new.units

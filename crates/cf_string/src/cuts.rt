@@ -1,3 +1,4 @@
+//! Where a text may be cut.
 ghost use Rattle.std.specs.Prelude.{◌≡◌};
 ghost use Rattle.std.specs.Char.Utf16.{is_high_surrogate, is_low_surrogate};
 ghost use Rattle.cf_string.specs.Units.{splits_pair};

@@ -1,5 +1,5 @@
 //! Texts as lists of UTF-16 code units, after the CFString reference: a place or a length counts units, and
-//! every text is valid, so no call leaves half a surrogate pair behind.
+//! every text is valid, so no call leaves half a surrogate pair.
 #![tactic(auto)]
 
 mod cuts;

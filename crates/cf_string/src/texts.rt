@@ -1,20 +1,22 @@
+//! Texts, and the calls on them.
 ghost use Rattle.std.specs.Prelude.{◌≡◌, ◌+◌, ◌<◌, ◌≤◌, ◌↔◌, [], ◌∷◌, ◌++◌, length, take, drop, slice_get, IsOk, IsTrue, IfOk, OnOk, OnErr, IfSome, IfNone, ◌-◌};
 ghost use Rattle.std.specs.Char.Utf16.{utf16_lossy_chars};
 ghost use Rattle.std.specs.Ordering.{nat_cmp};
 ghost use Rattle.std.specs.Cmp.Lexicographic.{slice_cmp};
 ghost use Rattle.std.specs.Str.{IsUtf8, chars};
 ghost use Rattle.cf_string.specs.Faults.{bytes_fault, cut_fault, done_unless, IsRefusedFor};
-ghost use Rattle.cf_string.specs.Units.{IsFirstPlace, IsText, KeepsCapacity, StandsAt, StandsNowhereFrom, replaced, units_of};
+ghost use Rattle.cf_string.specs.Units.{IsFirstPlace, IsText, StandsAt, StandsNowhereFrom, replaced, units_of};
 
 use crate::cuts::cut_fault;
 use crate::decoding::char_at;
-use crate::edits::{cut_out, put_in};
+use crate::edits::{cut_out, push_all, put_in};
 use crate::faults::StrFault;
 use std::alloc::{AllocError as NoMemory, Global};
 use std::cmp::Ordering;
 use std::marker::Model;
 
-/// A text: a list of UTF-16 code units in which every surrogate stands in a pair.
+/// A text: a list of UTF-16 code units in which every surrogate stands in a pair. Its room is how many more units it
+/// can take in before memory has to be taken.
 #[derive(Drop)]
 pub struct Str {
     units: Vec<u16>,
@@ -32,16 +34,17 @@ impl Model for Str {
 }
 
 impl Str {
-    /// The empty text. Takes no memory.
+    /// The empty text. Its room is 0, and it takes no memory.
     pub fn new(alloc: Global) -> Str
-        ensures { result.units ≡ [] }
+        ensures { result ≡ record { units = []; room = 0 } }
     {
         Str {
             units: Vec::new(alloc),
         }
     }
 
-    /// Makes room for at least `more` further units.
+    /// Makes room for at least `more` further units. `NoMemory` comes only where the room was less, and then the text
+    /// and its room are as before.
     pub fn reserve(&mut self, more: usize) -> Result<(), NoMemory>
         ensures units { self.new.units ≡ self.old.units }
         ensures room { OnOk result (more ≤ self.new.room) }
@@ -52,7 +55,8 @@ impl Str {
         self.units.reserve(more)
     }
 
-    /// The text that the bytes spell in UTF-8.
+    /// The text that the bytes spell in UTF-8; how much room it has is left open. `NotUtf8` comes exactly if the bytes
+    /// are not UTF-8, and `NoMemory` only for want of memory.
     pub fn from_utf8(alloc: Global, bytes: &[u8]) -> Result<Str, StrFault>
         ensures fault { IsRefusedFor result (bytes_fault bytes.now) }
         ensures units { IfOk result (λ s. s.units ≡ units_of (chars bytes.now)) }
@@ -89,15 +93,16 @@ impl Str {
         char_at(&self.units, at)
     }
 
-    /// Why the `len` units from `at` on may not be cut out, if they may not: the range passes the length, or one of
-    /// its two ends falls inside a surrogate pair.
+    /// Why the `len` units from `at` on may not be cut out, if they may not: `Range` where they pass the length, else
+    /// `SplitsPair` where one of the two ends falls inside a surrogate pair.
     pub fn cut_fault(&self, at: usize, len: usize) -> Option<StrFault>
         ensures { result ≡ cut_fault self.now.units at len }
     {
         cut_fault(&self.units, at, len)
     }
 
-    /// The `len` units from `at` on, as a text of their own.
+    /// The `len` units from `at` on, as a text of their own; how much room it has is left open. `Range` and
+    /// `SplitsPair` come exactly where `cut_fault` gives them, and `NoMemory` only for want of memory.
     pub fn substring(&self, alloc: Global, at: usize, len: usize) -> Result<Str, StrFault>
         ensures fault { IsRefusedFor result (cut_fault self.now.units at len) }
         ensures units { IfOk result (λ s. s.units ≡ take len (drop at self.now.units)) }
@@ -109,21 +114,24 @@ impl Str {
         Ok(Str { units })
     }
 
-    /// Puts the other text at the end of this one.
+    /// Puts the other text at the end of this one, in the room that is there: the room becomes less by the other's
+    /// length, and no memory is taken.
     pub fn append(&mut self, other: &Str)
         requires { length other.now.units ≤ self.old.room }
         ensures units { self.new.units ≡ self.old.units ++ other.now.units }
-        ensures room { KeepsCapacity self.old self.new }
+        ensures room { self.new.room + length other.now.units ≡ self.old.room }
     {
-        self.units.extend_from_slice(&other.units).unwrap();
+        push_all(&mut self.units, &other.units);
     }
 
-    /// Puts the other text in at the place `at`. A refusal changes nothing.
+    /// Puts the other text in at the place `at`, in the room that is there: the room becomes less by the other's
+    /// length, and no memory is taken. `Range` comes exactly if `at` passes the length, and `SplitsPair` exactly if it
+    /// falls inside a surrogate pair. A refusal changes nothing.
     pub fn insert(&mut self, at: usize, other: &Str) -> Result<(), StrFault>
         requires { length other.now.units ≤ self.old.room }
         ensures fault { result ≡ done_unless (cut_fault self.old.units at 0) }
         ensures units { OnOk result (self.new.units ≡ replaced self.old.units at 0 other.now.units) }
-        ensures room { KeepsCapacity self.old self.new }
+        ensures room { OnOk result (self.new.room + length other.now.units ≡ self.old.room) }
         ensures refused { OnErr result (self.new ≡ self.old) }
     {
         if let Some(fault) = cut_fault(&self.units, at, 0) {
@@ -133,11 +141,12 @@ impl Str {
         Ok(())
     }
 
-    /// Takes out the `len` units from `at` on. A refusal changes nothing.
+    /// Takes out the `len` units from `at` on, and gives their places back: the room becomes more by `len`. `Range`
+    /// and `SplitsPair` come exactly where `cut_fault` gives them. A refusal changes nothing.
     pub fn delete(&mut self, at: usize, len: usize) -> Result<(), StrFault>
         ensures fault { result ≡ done_unless (cut_fault self.old.units at len) }
         ensures units { OnOk result (self.new.units ≡ replaced self.old.units at len []) }
-        ensures room { KeepsCapacity self.old self.new }
+        ensures room { OnOk result (self.new.room ≡ self.old.room + len) }
         ensures refused { OnErr result (self.new ≡ self.old) }
     {
         if let Some(fault) = cut_fault(&self.units, at, len) {
@@ -147,12 +156,14 @@ impl Str {
         Ok(())
     }
 
-    /// Puts the other text in place of the `len` units from `at` on. A refusal changes nothing.
+    /// Puts the other text in place of the `len` units from `at` on, in the room that is there: the room becomes more
+    /// by `len` and less by the other's length, and no memory is taken. `Range` and `SplitsPair` come exactly where
+    /// `cut_fault` gives them. A refusal changes nothing.
     pub fn replace(&mut self, at: usize, len: usize, other: &Str) -> Result<(), StrFault>
         requires { length other.now.units ≤ self.old.room }
         ensures fault { result ≡ done_unless (cut_fault self.old.units at len) }
         ensures units { OnOk result (self.new.units ≡ replaced self.old.units at len other.now.units) }
-        ensures room { KeepsCapacity self.old self.new }
+        ensures room { OnOk result (self.new.room + length other.now.units ≡ self.old.room + len) }
         ensures refused { OnErr result (self.new ≡ self.old) }
     {
         if let Some(fault) = cut_fault(&self.units, at, len) {
@@ -194,7 +205,7 @@ impl Str {
         self.units.as_slice().cmp(&other.units.as_slice())
     }
 
-    /// A text with the same units.
+    /// A text with the same units; how much room it has is left open. `NoMemory` comes for want of memory alone.
     pub fn copy(&self, alloc: Global) -> Result<Str, NoMemory>
         ensures { IfOk result (λ s. s.units ≡ self.now.units) }
     {
@@ -202,7 +213,7 @@ impl Str {
         Ok(Str { units })
     }
 
-    /// The text in UTF-8. `from_utf8` makes these bytes the same text again.
+    /// The text in UTF-8. `from_utf8` makes these bytes the same text again. `NoMemory` comes for want of memory alone.
     pub fn utf8(&self, alloc: Global) -> Result<Vec<u8>, NoMemory>
         ensures utf8 { IfOk result (λ bytes. IsUtf8 bytes.items) }
         ensures units { IfOk result (λ bytes. units_of (chars bytes.items) ≡ self.now.units) }

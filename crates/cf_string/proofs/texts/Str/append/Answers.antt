@@ -4,5 +4,5 @@ use Rattle.cf_string.proofs.texts.Str.append.Goals as goal
 
 pub invariant_of-self : goal.invariant_of-self
 invariant_of-self c =
-    let joined : c.extend_from_slice.new.self.items ≡ c.self.inside.units.items ++ c.other.inside.units.items = search rules in
+    let joined : c.push_all.new.units.items ≡ c.self.inside.units.items ++ c.other.inside.units.items = search rules in
     rw joined (IsText-append _ _ c.self.invariant c.other.invariant)

@@ -4,7 +4,7 @@ use Rattle.std.specs.Option.{is_none}
 use Rattle.std.specs.List.{IsDistinct, AllByRecursion}
 use Rattle.std.proofs.lemmas.Bool.{cases_eq, cases_Bool, eq-eqb, ne_eqb, false≢true, false_from_ne_true, or_right, or_parts}
 use Rattle.cf_links.specs.Lists.{is_in, node_after, node_before, put_before, put_after, without}
-use Rattle.cf_links.specs.Chain.{Web, next_from, prev_from, AreJoined, GoesOn, Puts, Takes, walk}
+use Rattle.cf_links.specs.Chain.{Web, next_from, prev_from, AreJoined, GoesOn, Puts, Removes, walk}
 
 -- the nodes that the links lead to are the list's
 pub walk_is : (w : Web) (l : ℕ) (from : Option ℕ) (ns : List ℕ) (steps : ℕ) → length ns ≤ steps → GoesOn w l from ns → walk steps w.next (next_from w l from) ≡ ns
@@ -136,13 +136,13 @@ put_where_front n [] = refl
 put_where_front n (m ∷ ms) = ap (λ ks. n ∷ m ∷ ks) (put_where_front_rest n m ms)
 
 -- without n, from the node before it on where `from` is n
-pub take_goes : (old new : Web) (l n : ℕ) (p q : Option ℕ) → Takes old new l n p q → AreJoined old l p (Some n) → AreJoined old l (Some n) q → (from : Option ℕ) (ns : List ℕ) → GoesOn old l from ns → (from ≢ Some n → GoesOn new l from (without n ns)) × (from ≡ Some n → GoesOn new l p (without n ns))
-take_goes old new l n p q takes before after from [] goes = (
-  λ apart. kept_joined old new l from None goes (takes.nexts from (λ e. let clash : None ≡ Some n = sym goes.onwards ∙ ap (next_from old l) e ∙ before.onwards in absurd (cc)) apart) (takes.prevs None (λ e. apart (sym goes.backwards ∙ ap (prev_from old l) e ∙ after.backwards)) (λ e. absurd (cc))),
-  λ same. rw (sym goes.onwards ∙ ap (next_from old l) same ∙ after.onwards) takes.closed,
+pub remove_goes : (old new : Web) (l n : ℕ) (p q : Option ℕ) → Removes old new l n p q → AreJoined old l p (Some n) → AreJoined old l (Some n) q → (from : Option ℕ) (ns : List ℕ) → GoesOn old l from ns → (from ≢ Some n → GoesOn new l from (without n ns)) × (from ≡ Some n → GoesOn new l p (without n ns))
+remove_goes old new l n p q removes before after from [] goes = (
+  λ apart. kept_joined old new l from None goes (removes.nexts from (λ e. let clash : None ≡ Some n = sym goes.onwards ∙ ap (next_from old l) e ∙ before.onwards in absurd (cc)) apart) (removes.prevs None (λ e. apart (sym goes.backwards ∙ ap (prev_from old l) e ∙ after.backwards)) (λ e. absurd (cc))),
+  λ same. rw (sym goes.onwards ∙ ap (next_from old l) same ∙ after.onwards) removes.closed,
 )
-take_goes old new l n p q takes before after from (m ∷ ms) goes =
-    let rest = take_goes old new l n p q takes before after (Some m) ms goes.2 in
+remove_goes old new l n p q removes before after from (m ∷ ms) goes =
+    let rest = remove_goes old new l n p q removes before after (Some m) ms goes.2 in
     elim (cases_eq n m) [
       | inl same ↦
           let gone = rest.1 (ap Some (sym same)) in
@@ -150,10 +150,10 @@ take_goes old new l n p q takes before after from (m ∷ ms) goes =
           rw (eq-eqb n m same) (λ apart. rw was gone, λ _. gone)
       | inr differs ↦
           let apart_m = different n m (λ e. differs (sym e)) in
-          let mark = takes.marks m (λ e. differs (sym e)) ∙ goes.1 in
+          let mark = removes.marks m (λ e. differs (sym e)) ∙ goes.1 in
           rw (ne_eqb n m differs) (
-            λ apart. (kept_joined old new l from (Some m) goes.0 (takes.nexts from (λ e. apart_m (sym goes.0.onwards ∙ ap (next_from old l) e ∙ before.onwards)) apart) (takes.prevs (Some m) (λ e. apart (sym goes.0.backwards ∙ ap (prev_from old l) e ∙ after.backwards)) apart_m), mark, rest.0 apart_m),
-            λ same. (rw (sym goes.0.onwards ∙ ap (next_from old l) same ∙ after.onwards) takes.closed, mark, rest.0 apart_m),
+            λ apart. (kept_joined old new l from (Some m) goes.0 (removes.nexts from (λ e. apart_m (sym goes.0.onwards ∙ ap (next_from old l) e ∙ before.onwards)) apart) (removes.prevs (Some m) (λ e. apart (sym goes.0.backwards ∙ ap (prev_from old l) e ∙ after.backwards)) apart_m), mark, rest.0 apart_m),
+            λ same. (rw (sym goes.0.onwards ∙ ap (next_from old l) same ∙ after.onwards) removes.closed, mark, rest.0 apart_m),
           )
     ]
 

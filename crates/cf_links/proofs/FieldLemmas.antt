@@ -13,7 +13,7 @@ use Rattle.slab.specs.Slab.{Slab, Updates, get, with_value}
 use Rattle.cf_links.specs.declared.joins.Entry.{Entry}
 use Rattle.cf_links.specs.declared.joins.Ends.{Ends}
 use Rattle.cf_links.specs.Lists.{Lists, nodes_of, next_of, prev_of, list_of, put_before, put_after, without, IsValid}
-use Rattle.cf_links.specs.Chain.{Leads, turned, next_from, GoesOn, AreLists, Puts, Takes, walk}
+use Rattle.cf_links.specs.Chain.{Leads, turned, next_from, GoesOn, AreLists, Puts, Removes, walk}
 use Rattle.cf_links.proofs.Chains.{distinct, list_in, walk_is}
 use Rattle.cf_links.proofs.Webs.{list_of_mark, next_of_link, prev_of_link, first_link, one_place, marked_at, next_of_marked, prev_of_marked, first_is_marked, last_is_marked, push_back_is, push_front_is, insert_before_is, insert_after_is, unlink_is, same_web, make_list_is}
 use Rattle.cf_links.specs.Fields.{web_of, lists_of, values_of, SameNodes, IsThere, IsSound, view_of}
@@ -275,11 +275,11 @@ module _ {T : Type 0} where
         (insert_after_is w (web_of new new_ends) (lists_of nodes ends.items) l at n kept.sound (has_mark nodes ends.items at l kept.sound linked) (no_mark nodes ends.items n kept.sound loose) (rw (next_of_link w (lists_of nodes ends.items) at kept.sound) at puts))
         (length-map (lists_of nodes ends.items) _)
 
-    pub unlink_seen : (nodes : Slab (Entry T)) (ends : Vec Ends Z) (new : Slab (Entry T)) (new_ends : List Ends) (l n : ℕ) → Kept nodes ends new new_ends → list_of (lists_of nodes ends.items) n ≡ Some l → Takes (web_of nodes ends.items) (web_of new new_ends) l n (prev_of (lists_of nodes ends.items) n) (next_of (lists_of nodes ends.items) n) → Edited nodes ends new new_ends (map (without n) (lists_of nodes ends.items))
-    unlink_seen nodes ends new new_ends l n kept linked takes =
+    pub unlink_seen : (nodes : Slab (Entry T)) (ends : Vec Ends Z) (new : Slab (Entry T)) (new_ends : List Ends) (l n : ℕ) → Kept nodes ends new new_ends → list_of (lists_of nodes ends.items) n ≡ Some l → Removes (web_of nodes ends.items) (web_of new new_ends) l n (prev_of (lists_of nodes ends.items) n) (next_of (lists_of nodes ends.items) n) → Edited nodes ends new new_ends (map (without n) (lists_of nodes ends.items))
+    unlink_seen nodes ends new new_ends l n kept linked removes =
         let w = web_of nodes ends.items in
         edited nodes ends new new_ends _ kept
-        (unlink_is w (web_of new new_ends) (lists_of nodes ends.items) l n kept.sound (has_mark nodes ends.items n l kept.sound linked) (rw (prev_of_link w (lists_of nodes ends.items) n kept.sound, next_of_link w (lists_of nodes ends.items) n kept.sound) at takes))
+        (unlink_is w (web_of new new_ends) (lists_of nodes ends.items) l n kept.sound (has_mark nodes ends.items n l kept.sound linked) (rw (prev_of_link w (lists_of nodes ends.items) n kept.sound, next_of_link w (lists_of nodes ends.items) n kept.sound) at removes))
         (length-map (lists_of nodes ends.items) _)
 
   -- ---- lists and nodes that are made, and nodes that go

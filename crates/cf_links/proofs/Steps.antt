@@ -1,6 +1,6 @@
 -- Lemmas on the single steps that change links.
 use Rattle.std.proofs.Common.{◌≡◌, ◌≢◌, ℕ, Option, Some, None, refl, sym, ◌∙◌}
-use Rattle.cf_links.specs.Chain.{Web, next_from, prev_from, Leads, turned, Joins, Marks, Clears, Puts, Takes}
+use Rattle.cf_links.specs.Chain.{Web, next_from, prev_from, Leads, turned, Joins, Marks, Clears, Puts, Removes}
 
 -- the links backwards lead elsewhere, and those onwards stay
 turned_nexts : (mid new : Web) (l : ℕ) (from to : Option ℕ) → Leads (turned mid) (turned new) l from to → (k : ℕ) (x : Option ℕ) → next_from new k x ≡ next_from mid k x
@@ -48,8 +48,8 @@ puts_from old a b new l n from to first second marks before after =
       lasts = λ k apart. marks.prevs k None ∙ second.lasts k apart ∙ first.lasts k apart;
     }
 
-pub takes_from : (old mid new : Web) (l n : ℕ) (from to : Option ℕ) → Joins old mid l from to → Clears mid new n → from ≢ Some n → to ≢ Some n → Takes old new l n from to
-takes_from old mid new l n from to joins clears before after =
+pub removes_from : (old mid new : Web) (l n : ℕ) (from to : Option ℕ) → Joins old mid l from to → Clears mid new n → from ≢ Some n → to ≢ Some n → Removes old new l n from to
+removes_from old mid new l n from to joins clears before after =
     record {
       closed = record {
         onwards = clears.nexts l from before ∙ joins.joined.onwards;

@@ -8,9 +8,9 @@ use Rattle.std.proofs.lemmas.Option.{slice_get_within, get_or_from_slice_get}
 use Rattle.std.proofs.lemmas.Map.Keys.{apart_from_distinct, any_passes_from_place}
 use Rattle.std.proofs.lemmas.List.Folds.{list_any-append}
 use Rattle.cf_links.specs.Lists.{is_in, put_before, put_after, without, nodes_of, list_of, next_of, prev_of}
-use Rattle.cf_links.specs.Chain.{Web, prev_from, GoesOn, AreLists, Puts, Takes}
+use Rattle.cf_links.specs.Chain.{Web, prev_from, GoesOn, AreLists, Puts, Removes}
 use Rattle.cf_links.proofs.Edits.{nodes_of-map, made_from_in, put_before_none, put_after_none, without_none, is_in-put_before, is_in-put_after, is_in-without, list_of_is, list_of_none, prev_of_other}
-use Rattle.cf_links.proofs.Chains.{distinct, list_in, node_after_is, node_before_is, put_where, FindsGap, is_some_of, different, put_goes, put_where_before, put_where_after_list, put_where_back, put_where_front, take_goes, other_goes, prev_marked, next_marked, first_marked, last_marked, joined_before, joined_first, joined_after, joined_last, finds_by_from, finds_by_to}
+use Rattle.cf_links.proofs.Chains.{distinct, list_in, node_after_is, node_before_is, put_where, FindsGap, is_some_of, different, put_goes, put_where_before, put_where_after_list, put_where_back, put_where_front, remove_goes, other_goes, prev_marked, next_marked, first_marked, last_marked, joined_before, joined_first, joined_after, joined_last, finds_by_from, finds_by_to}
 
 -- what an optional number is
 cases_Option : (o : Option ℕ) → (o ≡ None) ⊎ ((n : ℕ) × (o ≡ Some n))
@@ -162,7 +162,7 @@ miss_none : (o : Option ℕ) → is_none o ≡ false → o ≢ None
 miss_none None miss same = false≢true (sym miss)
 miss_none (Some m) miss same = absurd (cc)
 
--- ---- the four edits that put a node in, and the one that takes it out
+-- ---- the four edits that put a node in, and the one that removes it
 pub push_back_is : (old new : Web) (lists : List (List ℕ)) (l n : ℕ) → AreLists old lists → l < length lists → old.list n ≡ None → Puts old new l n (old.last l) None → AreLists new (set lists l (nodes_of lists l ++ n ∷ []))
 push_back_is old new lists l n are made outside puts =
     let goes = are.going l made in
@@ -247,8 +247,8 @@ insert_after_is old new lists l at n are mark outside puts =
       there = rw (nodes l) (is_in-put_after at n (nodes_of lists l) among);
     }
 
-pub unlink_is : (old new : Web) (lists : List (List ℕ)) (l n : ℕ) → AreLists old lists → old.list n ≡ Some l → Takes old new l n (old.prev n) (old.next n) → AreLists new (map (without n) lists)
-unlink_is old new lists l n are mark takes =
+pub unlink_is : (old new : Web) (lists : List (List ℕ)) (l n : ℕ) → AreLists old lists → old.list n ≡ Some l → Removes old new l n (old.prev n) (old.next n) → AreLists new (map (without n) lists)
+unlink_is old new lists l n are mark removes =
     let among = are.listed n l mark in
     let goes = going_in old lists n l are among in
     let nodes = nodes_of-map (without n) refl lists in
@@ -256,30 +256,30 @@ unlink_is old new lists l n are mark takes =
     let after = joined_after old l None (nodes_of lists l) n goes among in
     let far : (m : ℕ) → m ≢ n → old.list m ≢ Some l → (new.next m ≡ old.next m) × (new.prev m ≡ old.prev m) × (new.list m ≡ old.list m) =
     λ m differs other. (
-      takes.nexts (Some m) (unlike old m l (old.prev n) other (λ b found. prev_marked old l None (nodes_of lists l) n b (λ e. absurd (cc)) goes among found)) (different n m differs),
-      takes.prevs (Some m) (unlike old m l (old.next n) other (λ b found. next_marked old l None (nodes_of lists l) n b goes among found)) (different n m differs),
-      takes.marks m differs,
+      removes.nexts (Some m) (unlike old m l (old.prev n) other (λ b found. prev_marked old l None (nodes_of lists l) n b (λ e. absurd (cc)) goes among found)) (different n m differs),
+      removes.prevs (Some m) (unlike old m l (old.next n) other (λ b found. next_marked old l None (nodes_of lists l) n b goes among found)) (different n m differs),
+      removes.marks m differs,
     )
     in
     record {
       going = λ k made.
           elim (cases_eq k l) [
-            | inl same ↦ rw (same, nodes l) ((take_goes old new l n (old.prev n) (old.next n) takes before after None (nodes_of lists l) goes).0 (λ e. absurd (cc)))
+            | inl same ↦ rw (same, nodes l) ((remove_goes old new l n (old.prev n) (old.next n) removes before after None (nodes_of lists l) goes).0 (λ e. absurd (cc)))
             | inr apart ↦
                 rw (nodes k, without_none n (nodes_of lists k) (out_of old lists n k are (other_mark old n k l mark apart))) (
                 other_goes old new k
                 (λ m here. far m (λ e. other_mark old n k l mark apart (ap old.list (sym e) ∙ here)) (other_mark old m l k here (λ e. apart (sym e))))
-                (takes.lasts k apart) None (nodes_of lists k) (takes.firsts k apart) (are.going k (omega (arith, length-map lists (without n))))
+                (removes.lasts k apart) None (nodes_of lists k) (removes.firsts k apart) (are.going k (omega (arith, length-map lists (without n))))
                 )
           ];
       listed = λ m k here.
-          let differs : m ≢ n = λ e. let clash : None ≡ Some k = sym takes.mark ∙ ap new.list (sym e) ∙ here in absurd (cc) in
-          rw (nodes k) (is_in-without n m (nodes_of lists k) differs (are.listed m k (sym (takes.marks m differs) ∙ here)));
+          let differs : m ≢ n = λ e. let clash : None ≡ Some k = sym removes.mark ∙ ap new.list (sym e) ∙ here in absurd (cc) in
+          rw (nodes k) (is_in-without n m (nodes_of lists k) differs (are.listed m k (sym (removes.marks m differs) ∙ here)));
       loose = λ m none.
           elim (cases_eq m n) [
-            | inl same ↦ rw same (takes.next, takes.prev)
+            | inl same ↦ rw same (removes.next, removes.prev)
             | inr differs ↦
-                let was : old.list m ≡ None = sym (takes.marks m differs) ∙ none in
+                let was : old.list m ≡ None = sym (removes.marks m differs) ∙ none in
                 let kept = far m differs (λ e. let clash : None ≡ Some l = sym was ∙ e in absurd (cc)) in
                 let nothing = are.loose m was in
                 (kept.0 ∙ nothing.0, kept.1 ∙ nothing.1)

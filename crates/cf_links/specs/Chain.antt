@@ -51,7 +51,7 @@ pub record Puts (old new : Web) (l n : ℕ) (from to : Option ℕ) : Type 0 wher
   pub lasts : (k : ℕ) → k ≢ l → new.last k ≡ old.last k
 
 -- n leaves the list l, where it was between `from` and `to`, and no other link changes
-pub record Takes (old new : Web) (l n : ℕ) (from to : Option ℕ) : Type 0 where
+pub record Removes (old new : Web) (l n : ℕ) (from to : Option ℕ) : Type 0 where
   pub closed : AreJoined new l from to
   pub mark : new.list n ≡ None
   pub next : new.next n ≡ None

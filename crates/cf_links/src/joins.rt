@@ -2,7 +2,7 @@
 ghost use Rattle.std.specs.Prelude.{◌≡◌, ◌≢◌, ◌<◌, List, None, Some, length};
 ghost use Rattle.cf_links.specs.declared.joins.Ends.{Ends};
 ghost use Rattle.std.specs.Option.{ForSome};
-ghost use Rattle.cf_links.specs.Chain.{Leads, turned, Joins, Marks, Clears, Puts, Takes};
+ghost use Rattle.cf_links.specs.Chain.{Leads, turned, Joins, Marks, Clears, Puts, Removes};
 ghost use Rattle.cf_links.specs.Fields.{IsThere, SameNodes, web_of};
 
 use crate::numbers::{ListId, Node};
@@ -107,7 +107,7 @@ fn mark<T>(nodes: &mut Slab<Entry<T>>, n: Node, list: ListId)
     entry.list = Some(list);
 }
 
-// Takes the mark and the neighbours from a node.
+// Clears the mark and the neighbours of a node.
 fn clear<T>(nodes: &mut Slab<Entry<T>>, n: Node)
     requires there { IsThere nodes.old n }
     ensures clears { (ends : List Ends) → Clears (web_of nodes.old ends) (web_of nodes.new ends) n }
@@ -143,8 +143,8 @@ pub fn put<T>(
     mark(nodes, n, list);
 }
 
-// Takes a node out of a list, where it stands between `from` and `to`.
-pub fn take<T>(
+// Removes a node from a list, where it stands between `from` and `to`.
+pub fn remove<T>(
     nodes: &mut Slab<Entry<T>>,
     ends: &mut [Ends],
     list: ListId,
@@ -158,7 +158,7 @@ pub fn take<T>(
     requires before { from ≢ Some n }
     requires after { to ≢ Some n }
     requires made { list < length ends.old }
-    ensures takes { Takes (web_of nodes.old ends.old) (web_of nodes.new ends.new) list n from to }
+    ensures removes { Removes (web_of nodes.old ends.old) (web_of nodes.new ends.new) list n from to }
     ensures same { SameNodes nodes.old nodes.new }
     ensures count { length ends.new ≡ length ends.old }
 {

@@ -1,9 +1,10 @@
 //! Lists whose nodes name their neighbours by numbers.
-ghost use Rattle.std.specs.Prelude.{◌≡◌, ◌≢◌, ◌+◌, ◌-◌, ◌<◌, ◌≤◌, ◌++◌, ◌∷◌, [], ℕ, map, length, slice_get, slice_set, Some, None, IsSome, IfNone, OnOk, OnSome, option_copied};
+ghost use Rattle.std.specs.Prelude.{◌≡◌, ◌≢◌, ◌+◌, ◌-◌, ◌<◌, ◌≤◌, ◌++◌, ◌∷◌, [], ℕ, map, length, slice_get, slice_set, Some, None, IsOk, IsSome, IfNone, OnOk, OnErr, OnSome, option_copied, vec_len, vec_capacity};
+ghost use Rattle.slab.specs.Slab.{slab_len};
 ghost use Rattle.cf_links.specs.Lists.{value_at, loose_value, nodes_of, list_of, next_of, prev_of, with_first, with_last, put_before, put_after, without, without_node, IsValid};
 
 use crate::NoMemory;
-use crate::joins::{Ends, Entry, put, take};
+use crate::joins::{Ends, Entry, put, remove};
 use crate::numbers::{ListId, Node};
 use slab::Slab;
 use std::alloc::Global;
@@ -43,20 +44,27 @@ impl<T> Links<T> {
         }
     }
 
-    /// Makes room for `more` lists and as many nodes.
+    /// Makes room for `more` further lists and as many further nodes. `NoMemory` comes only where one of the two rooms
+    /// was less. The room for nodes is made first, and it may have grown where the room for lists is refused.
     pub fn reserve(&mut self, more: usize) -> Result<(), NoMemory>
-        ensures lists_fit { OnOk result (more ≤ self.new.list_room) }
-        ensures nodes_fit { OnOk result (more ≤ self.new.node_room) }
-        // The lists and the values stay, and neither room shrinks, whatever the result.
+        // The lists and the values stay, whatever the result.
         ensures contents { self.new ≡ record self.old {
           list_room = self.new.list_room;
           node_room = self.new.node_room;
         } }
+        ensures lists_fit { OnOk result (more ≤ self.new.list_room) }
+        ensures nodes_fit { OnOk result (more ≤ self.new.node_room) }
+        ensures enough { more ≤ self.old.list_room → more ≤ self.old.node_room → IsOk result }
+
+        // Neither room shrinks, and a room that was there stays as it was.
         ensures list_room { self.old.list_room ≤ self.new.list_room }
         ensures node_room { self.old.node_room ≤ self.new.node_room }
+        ensures had_lists { more ≤ self.old.list_room → self.new.list_room ≡ self.old.list_room }
+        ensures had_nodes { more ≤ self.old.node_room → self.new.node_room ≡ self.old.node_room }
+        ensures refused { OnErr result (self.new.list_room ≡ self.old.list_room) }
     {
-        self.nodes.reserve(more)?;
-        self.ends.reserve(more)
+        reserve_nodes(&mut self.nodes, more)?;
+        reserve_lists(&mut self.ends, more)
     }
 
     /// Makes an empty list.
@@ -160,7 +168,7 @@ impl<T> Links<T> {
         }
     }
 
-    /// Takes a node out of its list. It stays there, with its value.
+    /// Removes a node from its list. The node stays, with its value, in no list.
     pub fn unlink(&mut self, n: Node)
         requires linked { IsSome (list_of self.old.lists n) }
         ensures unlinked { self.new ≡ record self.old { lists = map (without n) self.old.lists } }
@@ -168,7 +176,7 @@ impl<T> Links<T> {
         if let Some(list) = self.list_of(n) {
             let prev = self.prev(n);
             let next = self.next(n);
-            take(
+            remove(
                 &mut self.nodes,
                 self.ends.as_mut_slice(),
                 list,
@@ -236,4 +244,34 @@ impl<T> Links<T> {
         let entry = self.nodes.try_remove(n.0)?;
         Some(entry.value)
     }
+}
+
+// Makes room for more nodes. A slab that has the room is left alone.
+fn reserve_nodes<T>(nodes: &mut Slab<Entry<T>>, more: usize) -> Result<(), NoMemory>
+    ensures kept { nodes.new ≡ record nodes.old { capacity = nodes.new.capacity } }
+    ensures grown { nodes.old.capacity ≤ nodes.new.capacity }
+    ensures fits { OnOk result (more ≤ nodes.new.capacity - slab_len nodes.new) }
+    ensures enough { more ≤ nodes.old.capacity - slab_len nodes.old → IsOk result }
+    ensures had { more ≤ nodes.old.capacity - slab_len nodes.old → nodes.new.capacity ≡ nodes.old.capacity }
+{
+    if more <= nodes.capacity() - nodes.len() {
+        return Ok(());
+    }
+    nodes.reserve(more)
+}
+
+// Makes room for more lists. A vector that has the room is left alone.
+fn reserve_lists(ends: &mut Vec<Ends>, more: usize) -> Result<(), NoMemory>
+    ensures items { ends.new.items ≡ ends.old.items }
+    ensures len { vec_len ends.new ≡ vec_len ends.old }
+    ensures grown { vec_capacity ends.old ≤ vec_capacity ends.new }
+    ensures fits { OnOk result (more ≤ vec_capacity ends.new - vec_len ends.new) }
+    ensures enough { more ≤ vec_capacity ends.old - vec_len ends.old → IsOk result }
+    ensures had { more ≤ vec_capacity ends.old - vec_len ends.old → vec_capacity ends.new ≡ vec_capacity ends.old }
+    ensures refused { OnErr result (vec_capacity ends.new ≡ vec_capacity ends.old) }
+{
+    if more <= ends.capacity() - ends.len() {
+        return Ok(());
+    }
+    ends.reserve(more)
 }

@@ -1,6 +1,6 @@
 -- Bytes on their way: those that a source has left and those that a sink has taken, each told or not. A source in
 -- memory tells them, a real file does not. These words are this project's own.
-use Rattle.std.specs.Prelude.{◌≡◌, ℕ, List, [], ◌++◌, Option, None, Some, IfSome}
+use Rattle.std.specs.Prelude.{◌≡◌, ◌≤◌, ℕ, List, [], ◌++◌, length, Option, None, Some, IfSome}
 
 -- These bytes and then those that are left, where these are told.
 abbrev pub bytes_then : List ℕ → Option (List ℕ) → Option (List ℕ)
@@ -15,3 +15,9 @@ then_bytes (Some taken) bytes = Some (taken ++ bytes)
 -- Nothing is left, where what is left is told.
 abbrev pub IsAtEnd : Option (List ℕ) → Type 0
 IsAtEnd left = IfSome left (λ bytes. bytes ≡ [])
+
+-- What was left before is these bytes and then what is left now, and they are at most so many.
+pub record HasGiven (most : ℕ) (before after : Option (List ℕ)) : Type 0 where
+  pub bytes : List ℕ
+  pub were_left : before ≡ bytes_then bytes after
+  pub few : length bytes ≤ most

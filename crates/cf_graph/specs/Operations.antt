@@ -1,5 +1,5 @@
 -- What a step does to references: it adds one, moves one to another holder, or cuts one. This project's own.
-use Rattle.std.specs.Prelude.{ℕ, ◌+◌, ◌<◌, List, [], ◌∷◌, if◌then◌else◌}
+use Rattle.std.specs.Prelude.{◌≡◌, ℕ, ◌+◌, ◌<◌, List, [], ◌∷◌, if◌then◌else◌}
 use Rattle.cf_graph.specs.Holders.{Holder}
 use Rattle.cf_graph.specs.Edges.{Reference, same, weigh, one}
 
@@ -55,3 +55,7 @@ won g (op ∷ ops) = won_by g op + won g ops
 abbrev pub lost : (Reference → ℕ) → List Operation → ℕ
 lost g [] = 0
 lost g (op ∷ ops) = lost_by g op + lost g ops
+
+-- a weight is balanced over operations: what they leave and what they lose is what was there and what they win
+abbrev pub IsBalanced : (Reference → ℕ) → List Operation → List Reference → Type 0
+IsBalanced weight ops es = weigh weight (run ops es) + lost weight ops ≡ weigh weight es + won weight ops

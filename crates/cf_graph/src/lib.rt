@@ -3,9 +3,11 @@
 
 mod degree;
 mod edge;
+mod laws;
 mod reach;
 
 pub use degree::{in_degree, owners};
 pub use edge::{Edge, Owner};
+pub use laws::counts_of_operations;
 pub use reach::reached;
 pub use std::alloc::AllocError as NoMemory;

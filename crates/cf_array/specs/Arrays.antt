@@ -1,3 +1,4 @@
+-- What contracts see of an array, after the Collections guide.
 use Rattle.std.specs.Prelude.{ℕ, List}
 
 -- what an array is to its callers: the elements in order, as in the Collections guide, and for how many

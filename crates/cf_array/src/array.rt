@@ -1,3 +1,4 @@
+//! Arrays, and the calls on them.
 ghost use Rattle.std.specs.Prelude.{◌≡◌, ◌+◌, ◌≤◌, ◌<◌, ◌↔◌, [], ◌∷◌, ◌++◌, length, slice_get, slice_set, insert, remove, position, IsOk, OnOk, OnErr, IfOk, IfErr};
 ghost use Rattle.std.specs.Option.{option_copied};
 
@@ -35,7 +36,8 @@ impl<E> Array<E> {
         }
     }
 
-    /// Makes room for at least `more` further elements.
+    /// Makes room for at least `more` further elements. `NoMemory` comes only where the room was less, and changes
+    /// nothing.
     pub fn reserve(&mut self, more: usize) -> Result<(), NoMemory>
         ensures items { self.new.items ≡ self.old.items }
         ensures room { OnOk result (more ≤ self.new.room) }
@@ -62,7 +64,7 @@ impl<E> Array<E> {
         self.items.get(i)
     }
 
-    /// Puts `e` behind the last element.
+    /// Puts `e` after the last element, in the room that is there, which becomes less by 1.
     pub fn append(&mut self, e: E)
         requires { 0 < self.old.room }
         ensures items { self.new.items ≡ self.old.items ++ e ∷ [] }
@@ -71,8 +73,9 @@ impl<E> Array<E> {
         self.items.push_reserved(e);
     }
 
-    /// Puts `e` before the element at `i`, or behind the last one where `i` is the length; `Range`
-    /// exactly where `i` is above the length.
+    /// Puts `e` before the element at `i`, or after the last one where `i` is the length, in the room that is there,
+    /// which becomes less by 1. `Range` comes exactly where `i` is above the length; then nothing changes, and `e`
+    /// comes back.
     pub fn insert(&mut self, i: usize, e: E) -> Result<(), (Range, E)>
         requires { 0 < self.old.room }
         ensures within { IsOk result ↔ (i ≤ length self.old.items) }
@@ -89,8 +92,9 @@ impl<E> Array<E> {
         Ok(())
     }
 
-    /// Puts `e` in place of the element at `i` and gives that one back, or behind the last one where
-    /// `i` is the length; `Range` exactly where `i` is above the length.
+    /// Puts `e` in place of the element at `i` and gives that one back, or after the last one where `i` is the length:
+    /// only then the room becomes less by 1. `Range` comes exactly where `i` is above the length; then nothing changes,
+    /// and `e` comes back.
     pub fn set(&mut self, i: usize, e: E) -> Result<Option<E>, (Range, E)>
         requires { 0 < self.old.room }
         ensures within { IsOk result ↔ (i ≤ length self.old.items) }
@@ -113,8 +117,8 @@ impl<E> Array<E> {
         Ok(None)
     }
 
-    /// Takes out the element at `i`, and those behind it move down; `Range` exactly where `i` is not
-    /// below the length.
+    /// Takes out the element at `i`, and those after it move down; the room becomes more by 1. `Range` comes exactly
+    /// where `i` is not below the length, and then nothing changes.
     pub fn remove(&mut self, i: usize) -> Result<E, Range>
         ensures within { IsOk result ↔ (i < length self.old.items) }
         ensures out { IfOk result (λ e. slice_get self.old.items i ≡ Some e) }

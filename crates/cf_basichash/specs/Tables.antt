@@ -1,3 +1,4 @@
+-- What contracts see of a table of rows, after the Collections guide, and how a row is set.
 use Rattle.std.specs.Prelude.{ℕ, Bool, List, [], ◌∷◌, ◌++◌, Option, is_some, position, if◌then◌else◌}
 use Rattle.std.specs.Map.{lookup, set_value}
 
@@ -15,6 +16,6 @@ place_of test rows = position (λ row. test row.0) rows
 
 -- the rows after k is given the value v, where `test` says which keys are equal to k: an equal key that is there takes
 -- it, else a row is added (the reference's "set value"). That the key that is there stays, and that a row is added
--- behind the last one, is this project's own
+-- after the last one, is this project's own
 abbrev pub pairs_with : {K V : Type 0} → (K → Bool) → List (K × V) → K → V → List (K × V)
 pairs_with test rows k v = if is_some (lookup test rows) then set_value test rows v else rows ++ (k, v) ∷ []

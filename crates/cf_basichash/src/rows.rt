@@ -1,3 +1,4 @@
+//! Tables of rows, and the calls on them.
 ghost use Rattle.std.specs.Prelude.{◌≡◌, ◌+◌, ◌≤◌, ◌<◌, ◌↔◌, true, [], ◌∷◌, ◌++◌, length, slice_get, slice_set, remove, IsOk, IsNone, OnOk, OnErr, IfErr, IfSome, IfNone, OnSome};
 ghost use Rattle.std.specs.List.{IsDistinct};
 ghost use Rattle.std.specs.Map.{keys_of};
@@ -44,7 +45,7 @@ impl<K, V, C: Callbacks<K>> Rows<K, V, C> {
         }
     }
 
-    /// Makes room for at least `more` further rows.
+    /// Makes room for at least `more` further rows. `NoMemory` comes only where the room was less, and changes nothing.
     pub fn reserve(&mut self, more: usize) -> Result<(), NoMemory>
         ensures rows { self.new.rows ≡ self.old.rows }
         ensures callbacks { self.new.callbacks ≡ self.old.callbacks }
@@ -85,7 +86,8 @@ impl<K, V, C: Callbacks<K>> Rows<K, V, C> {
         }
     }
 
-    /// Puts a row behind the last one; key and value come back exactly where an equal key is present.
+    /// Puts a row after the last one, in the room that is there, which becomes less by 1. Key and value come back
+    /// exactly where an equal key is present, and then nothing changes.
     pub fn add(&mut self, k: K, v: V) -> Result<(), (K, V)>
         requires { 0 < self.old.room }
         ensures absent { IsOk result ↔ IsNone (place_of (C.same self.old.callbacks k) self.old.rows) }
@@ -102,7 +104,7 @@ impl<K, V, C: Callbacks<K>> Rows<K, V, C> {
         Ok(())
     }
 
-    /// Puts `v` in place of the value of the row at `i`, and gives that value back.
+    /// Puts `v` in place of the value of the row at `i`, and gives that value back. The room stays.
     pub fn swap_value(&mut self, i: usize, v: V) -> V
         requires { i < length self.old.rows }
         ensures out { IfSome (slice_get self.old.rows i) (λ row. result ≡ row.1) }
@@ -113,7 +115,7 @@ impl<K, V, C: Callbacks<K>> Rows<K, V, C> {
         mem::replace(&mut row.1, v)
     }
 
-    /// Puts `k` in place of the equal key of the row at `i`, and gives that key back.
+    /// Puts `k` in place of the equal key of the row at `i`, and gives that key back. The room stays.
     pub fn swap_key(&mut self, i: usize, k: K) -> K
         requires below { i < length self.old.rows }
         requires equal { ForSome (slice_get self.old.rows i) (λ row. C.same self.old.callbacks k row.0 ≡ true) }
@@ -125,8 +127,8 @@ impl<K, V, C: Callbacks<K>> Rows<K, V, C> {
         mem::replace(&mut row.0, k)
     }
 
-    /// Takes out the row at `i`, and those behind it move down; `None` exactly where `i` is not below
-    /// the count.
+    /// Takes out the row at `i`, and those after it move down; the room becomes more by 1. `None` comes exactly where
+    /// `i` is not below the count, and then nothing changes.
     pub fn remove(&mut self, i: usize) -> Option<(K, V)>
         ensures out { result ≡ slice_get self.old.rows i }
         ensures rows { OnSome result (self.new.rows ≡ remove self.old.rows i) }

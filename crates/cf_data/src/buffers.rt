@@ -1,3 +1,4 @@
+//! Bytes that grow, and the calls on them.
 ghost use Rattle.std.specs.Prelude.{◌≡◌, ◌+◌, ◌-◌, ◌≤◌, ◌↔◌, [], ◌++◌, length, take, drop, vec_len, vec_capacity, IsOk, OnOk, OnErr, IfOk};
 ghost use Rattle.std.specs.List.{splice};
 
@@ -9,7 +10,7 @@ use std::marker::Model;
 #[derive(Clone, Copy, Debug)]
 pub struct Range;
 
-/// A growing list of bytes.
+/// A growing list of bytes. Its room is how many more it can take in before memory has to be taken.
 #[derive(Drop)]
 pub struct Bytes {
     bytes: Vec<u8>,
@@ -34,7 +35,8 @@ impl Bytes {
         }
     }
 
-    /// Makes room for at least `more` further bytes.
+    /// Makes room for at least `more` further bytes. `NoMemory` comes only where the room was less, and changes
+    /// nothing.
     pub fn reserve(&mut self, more: usize) -> Result<(), NoMemory>
         ensures items { self.new.items ≡ self.old.items }
         ensures room { OnOk result (more ≤ self.new.room) }
@@ -61,7 +63,8 @@ impl Bytes {
         self.bytes.as_slice()
     }
 
-    /// Bytes of their own with the same contents; how much room they have is left open.
+    /// Bytes of their own with the same contents; how much room they have is left open. `NoMemory` comes for want of
+    /// memory alone.
     pub fn copy(&self, alloc: Global) -> Result<Bytes, NoMemory>
         ensures { IfOk result (λ copied. copied.items ≡ self.now.items) }
     {
@@ -70,7 +73,7 @@ impl Bytes {
         })
     }
 
-    /// Puts `b` behind the last byte.
+    /// Puts `b` after the last byte, in the room that is there, which becomes less by the length of `b`.
     pub fn append(&mut self, b: &[u8])
         requires { length b.now ≤ self.old.room }
         ensures items { self.new.items ≡ self.old.items ++ b.now }
@@ -79,8 +82,9 @@ impl Bytes {
         push_all(&mut self.bytes, b);
     }
 
-    /// Puts `b` in place of the `len` bytes from `at` on; `Range` exactly where these do not lie
-    /// within the bytes.
+    /// Puts `b` in place of the `len` bytes from `at` on, in the room that is there, which becomes more by `len` and
+    /// less by the length of `b`. `Range` comes exactly where these do not lie within the bytes, and then nothing
+    /// changes.
     pub fn replace(&mut self, at: usize, len: usize, b: &[u8]) -> Result<(), Range>
         requires { length b.now ≤ self.old.room }
         ensures within { IsOk result ↔ (at + len ≤ length self.old.items) }
@@ -93,8 +97,8 @@ impl Bytes {
         Ok(())
     }
 
-    /// Takes out the `len` bytes from `at` on; `Range` exactly where these do not lie within the
-    /// bytes.
+    /// Takes out the `len` bytes from `at` on; the room becomes more by `len`. `Range` comes exactly where these do not
+    /// lie within the bytes, and then nothing changes.
     pub fn delete(&mut self, at: usize, len: usize) -> Result<(), Range>
         ensures within { IsOk result ↔ (at + len ≤ length self.old.items) }
         ensures items { OnOk result (self.new.items ≡ take at self.old.items ++ drop (at + len) self.old.items) }

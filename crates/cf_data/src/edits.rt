@@ -1,3 +1,4 @@
+//! Edits of bytes within the capacity that they have.
 ghost use Rattle.std.specs.Prelude.{◌≡◌, ◌+◌, ◌≤◌, ◌++◌, length, take, drop, vec_len, vec_capacity};
 ghost use Rattle.std.specs.List.{splice};
 
@@ -13,7 +14,7 @@ pub fn push_all(v: &mut Vec<u8>, b: &[u8])
     }
 }
 
-/// Takes out `len` bytes from `at` on, and moves those behind them down.
+/// Takes out `len` bytes from `at` on, and moves those after them down.
 pub fn cut(v: &mut Vec<u8>, at: usize, len: usize)
     requires { at + len ≤ vec_len v.old }
     ensures items { v.new.items ≡ take at v.old.items ++ drop (at + len) v.old.items }

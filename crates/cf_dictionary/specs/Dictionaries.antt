@@ -1,3 +1,4 @@
+-- What a set of a key answers, after the reference of mutable dictionaries.
 use Rattle.std.specs.Prelude.{Option, Some, None}
 use Rattle.cf_dictionary.specs.declared.dictionary.DictSet.{DictSet}
 use Rattle.cf_dictionary.specs.declared.dictionary.DictSet.TheVariants.{Added, Changed}

@@ -1,3 +1,4 @@
+//! Dictionaries, and the calls on them.
 ghost use Rattle.std.specs.Prelude.{◌≡◌, ◌+◌, ◌≤◌, ◌<◌, ◌↔◌, [], ◌∷◌, ◌++◌, length, slice_get, IsOk, IsNone, OnOk, OnErr, IfErr, IfNone, OnSome, is_some, if◌then◌else◌};
 ghost use Rattle.std.specs.List.{IsDistinct};
 ghost use Rattle.std.specs.Map.{keys_of, lookup, lookup_entry, remove_entry, set_value};
@@ -16,7 +17,12 @@ pub enum DictSet<E> {
     /// The key was absent, and the pair is there now.
     Added,
     /// An equal key was there and stays: the key that was not used, and the value that was replaced.
-    Changed { key: E, old: E },
+    Changed {
+        /// The key that was handed in and not used.
+        key: E,
+        /// The value that was replaced.
+        old: E,
+    },
 }
 
 /// A list of pairs, each a key and a value, no two of which have equal keys.
@@ -43,7 +49,8 @@ impl<E, C: Callbacks<E>> Dict<E, C> {
         }
     }
 
-    /// Makes room for at least `more` further pairs.
+    /// Makes room for at least `more` further pairs. `NoMemory` comes only where the room was less, and changes
+    /// nothing.
     pub fn reserve(&mut self, more: usize) -> Result<(), NoMemory>
         ensures rows { self.new.rows ≡ self.old.rows }
         ensures callbacks { self.new.callbacks ≡ self.old.callbacks }
@@ -81,7 +88,8 @@ impl<E, C: Callbacks<E>> Dict<E, C> {
         Some(value)
     }
 
-    /// Adds a pair behind the last one; key and value come back exactly where an equal key is present.
+    /// Adds a pair after the last one, in the room that is there, which becomes less by 1. Key and value come back
+    /// exactly where an equal key is present, and then nothing changes.
     pub fn add(&mut self, k: E, v: E) -> Result<(), (E, E)>
         requires { 0 < self.old.room }
         ensures absent { IsOk result ↔ IsNone (lookup (C.same self.old.callbacks k) self.old.rows) }
@@ -94,8 +102,8 @@ impl<E, C: Callbacks<E>> Dict<E, C> {
         self.rows.add(k, v)
     }
 
-    /// Lets `v` be the value of the key that is equal to `k`, or adds the pair where there is none. A
-    /// key that is there stays.
+    /// Lets `v` be the value of the key that is equal to `k`, or adds the pair where there is none. A key that is there
+    /// stays. The room becomes less by 1 where a pair is added, and else stays.
     pub fn set(&mut self, k: E, v: E) -> DictSet<E>
         requires { 0 < self.old.room }
         ensures answer { result ≡ set_answer k (lookup (C.same self.old.callbacks k) self.old.rows) }
@@ -116,8 +124,8 @@ impl<E, C: Callbacks<E>> Dict<E, C> {
         }
     }
 
-    /// Lets `v` be the value of the key that is equal to `k` and gives the value before, or gives `v`
-    /// back where there is none.
+    /// Lets `v` be the value of the key that is equal to `k` and gives the value before, or gives `v` back where there
+    /// is none. The room stays.
     pub fn replace(&mut self, k: &E, v: E) -> Result<E, E>
         ensures answer { result ≡ ok_or (lookup (C.same self.old.callbacks k.now) self.old.rows) v }
         ensures rows { let rows = set_value (C.same self.old.callbacks k.now) self.old.rows v in
@@ -129,8 +137,8 @@ impl<E, C: Callbacks<E>> Dict<E, C> {
         }
     }
 
-    /// Takes out the pair whose key is equal to `k`, and those behind it move down; `None` where there
-    /// is none.
+    /// Takes out the pair whose key is equal to `k`, and those after it move down; the room becomes more by 1. `None`
+    /// comes exactly where there is none, and then nothing changes.
     pub fn remove(&mut self, k: &E) -> Option<(E, E)>
         ensures answer { result ≡ lookup_entry (C.same self.old.callbacks k.now) self.old.rows }
         ensures rows { self.new.rows ≡ remove_entry (C.same self.old.callbacks k.now) self.old.rows }

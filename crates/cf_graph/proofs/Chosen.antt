@@ -13,7 +13,8 @@ pub record IsChosen (m : List Bool) (n : ℕ) (xs : List ℕ) : Type 0 where
   pub among : (o : ℕ) → Contains xs o → (o < n) × Marked m (o + 2)
   pub all : (o : ℕ) → o < n → Marked m (o + 2) → Contains xs o
 
-pub chosen-skip : (m : List Bool) (n : ℕ) (xs : List ℕ) → get_or m (n + 2) false ≡ false → IsChosen m n xs → IsChosen m (n + 1) xs
+pub chosen-skip : (m : List Bool) (n : ℕ) (xs : List ℕ) → get_or m (n + 2) false ≡ false → IsChosen m n xs
+    → IsChosen m (n + 1) xs
 chosen-skip m n xs off c = record {
   rising = c.rising;
   among = λ o h. (let a : (o < n) × Marked m (o + 2) = c.among o h in (omega (arith, a.0), a.1));
@@ -23,7 +24,8 @@ chosen-skip m n xs off c = record {
   ];
 }
 
-rising-push : (xs : List ℕ) (n : ℕ) → IsStrictlyIncreasing xs → ((k : ℕ) → k < length xs → get_or xs k 0 < n) → IsStrictlyIncreasing (xs ++ n ∷ [])
+rising-push : (xs : List ℕ) (n : ℕ) → IsStrictlyIncreasing xs → ((k : ℕ) → k < length xs → get_or xs k 0 < n)
+    → IsStrictlyIncreasing (xs ++ n ∷ [])
 rising-push xs n rising below k h =
     let size : length (xs ++ n ∷ []) ≡ length xs + 1 = length_push xs n in
     let within : k < length xs = omega arith in
@@ -31,7 +33,8 @@ rising-push xs n rising below k h =
     let low : get_or xs k 0 < n = below k within in
     elim (cases_lt (k + 1) (length xs)) [
       | inl lt ↦ (
-          let there : get_or (xs ++ n ∷ []) (k + 1) 0 ≡ get_or xs (k + 1) 0 = get_or_append_left xs (n ∷ []) 0 (k + 1) lt in
+          let there : get_or (xs ++ n ∷ []) (k + 1) 0 ≡ get_or xs (k + 1) 0 =
+          get_or_append_left xs (n ∷ []) 0 (k + 1) lt in
           let up : get_or xs k 0 < get_or xs (k + 1) 0 = rising k lt in
           omega arith)
       | inr ge ↦ (
@@ -39,7 +42,8 @@ rising-push xs n rising below k h =
           omega arith)
     ]
 
-pub chosen-push : (m : List Bool) (n : ℕ) (xs : List ℕ) → Marked m (n + 2) → IsChosen m n xs → IsChosen m (n + 1) (xs ++ n ∷ [])
+pub chosen-push : (m : List Bool) (n : ℕ) (xs : List ℕ) → Marked m (n + 2) → IsChosen m n xs
+    → IsChosen m (n + 1) (xs ++ n ∷ [])
 chosen-push m n xs marked c = record {
   rising = rising-push xs n c.rising (λ k h. (c.among _ (Contains-get_or xs k 0 h)).0);
   among = λ o h. elim (Contains-push_cases xs n o h) [
@@ -53,7 +57,8 @@ chosen-push m n xs marked c = record {
 }
 
 -- no object has a higher number
-pub chosen-all : (m : List Bool) (xs : List ℕ) (o : ℕ) → length m ≡ 65538 → IsChosen m 65536 xs → Contains xs o ↔ Marked m (o + 2)
+pub chosen-all : (m : List Bool) (xs : List ℕ) (o : ℕ) → length m ≡ 65538 → IsChosen m 65536 xs
+    → Contains xs o ↔ Marked m (o + 2)
 chosen-all m xs o size c = (
   (λ h. (c.among o h).1),
   (λ marked. elim (cases_lt o 65536) [

@@ -36,5 +36,6 @@ count_by-passing p (r ∷ rs) =
     ∙ ap (λ (n : ℕ). passing p r + n) (count_by-passing p rs)
 
 -- lists that have each reference as often as the other have as many that pass a test
-pub same_counts : (p : Edge → Bool) (es fs : List Reference) → ((r : Reference) → weigh (one r) es ≡ weigh (one r) fs) → count_by p (edges_of es) ≡ count_by p (edges_of fs)
+pub same_counts : (p : Edge → Bool) (es fs : List Reference) → ((r : Reference) → weigh (one r) es ≡ weigh (one r) fs)
+    → count_by p (edges_of es) ≡ count_by p (edges_of fs)
 same_counts p es fs h = count_by-passing p es ∙ same_weights (passing p) es fs h ∙ sym (count_by-passing p fs)

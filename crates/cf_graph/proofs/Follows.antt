@@ -23,47 +23,65 @@ set-kept m q r h marked = elim (cases_eq r q) [
   | inr ne ↦ get_or-set_other m q r true false ne ∙ marked
 ]
 
-marks_cases : (q : ℕ) (old new : List Bool) (had has : List ℕ) (b : Bool) → get_or old q false ≡ b → q < length old → new ≡ set old q true → has ≡ cond b had (had ++ q ∷ []) → Marks q old new had has
-marks_cases q old new had has true was within e s = subst (λ (m : List Bool). Marks q old m had has) (sym e) (subst (λ (ss : List ℕ). Marks q old (set old q true) had ss) (sym s) (record {
-  size = length-set old q true;
-  kept = λ r h. set-kept old q r within h;
-  now = get_or-set_same old q true false within;
-  found = λ r h. elim (cases_eq r q) [
-    | inl same ↦ inl (subst (λ (x : ℕ). Marked old x) (sym same) was)
-    | inr ne ↦ inl (sym (get_or-set_other old q r true false ne) ∙ h)
-  ];
-  waiting = λ r h. inl h;
-  stacked = λ r h. h;
-  spent = omega (arith, sum_by-set (λ (x : Bool). cond (not x) 1 0) old q true false within, ap (λ (x : Bool). cond {A = ℕ} (not x) 1 0) was);
-}))
-marks_cases q old new had has false was within e s = subst (λ (m : List Bool). Marks q old m had has) (sym e) (subst (λ (ss : List ℕ). Marks q old (set old q true) had ss) (sym s) (record {
-  size = length-set old q true;
-  kept = λ r h. set-kept old q r within h;
-  now = get_or-set_same old q true false within;
-  found = λ r h. elim (cases_eq r q) [
-    | inl same ↦ inr (subst (λ (x : ℕ). Contains (had ++ q ∷ []) x) (sym same) (Contains-push had q), sym same)
-    | inr ne ↦ inl (sym (get_or-set_other old q r true false ne) ∙ h)
-  ];
-  waiting = λ r h. elim (Contains-push_cases had q r h) [
-    | inl before ↦ inl before
-    | inr same ↦ inr (subst (λ (x : ℕ). Marked (set old q true) x) same (get_or-set_same old q true false within))
-  ];
-  stacked = λ r h. Contains-append_left had (q ∷ []) r h;
-  spent = omega (arith, length_push had q, sum_by-set (λ (x : Bool). cond (not x) 1 0) old q true false within, ap (λ (x : Bool). cond {A = ℕ} (not x) 1 0) was);
-}))
+marks_cases : (q : ℕ) (old new : List Bool) (had has : List ℕ) (b : Bool) → get_or old q false ≡ b → q < length old
+    → new ≡ set old q true → has ≡ cond b had (had ++ q ∷ []) → Marks q old new had has
+marks_cases q old new had has true was within e s =
+    subst (λ (m : List Bool). Marks q old m had has) (sym e)
+    (subst (λ (ss : List ℕ). Marks q old (set old q true) had ss) (sym s) (record {
+      size = length-set old q true;
+      kept = λ r h. set-kept old q r within h;
+      now = get_or-set_same old q true false within;
+      found = λ r h. elim (cases_eq r q) [
+        | inl same ↦ inl (subst (λ (x : ℕ). Marked old x) (sym same) was)
+        | inr ne ↦ inl (sym (get_or-set_other old q r true false ne) ∙ h)
+      ];
+      waiting = λ r h. inl h;
+      stacked = λ r h. h;
+      spent = omega (
+        arith,
+        sum_by-set (λ (x : Bool). cond (not x) 1 0) old q true false within,
+        ap (λ (x : Bool). cond {A = ℕ} (not x) 1 0) was,
+      );
+    }))
+marks_cases q old new had has false was within e s =
+    subst (λ (m : List Bool). Marks q old m had has) (sym e)
+    (subst (λ (ss : List ℕ). Marks q old (set old q true) had ss) (sym s) (record {
+      size = length-set old q true;
+      kept = λ r h. set-kept old q r within h;
+      now = get_or-set_same old q true false within;
+      found = λ r h. elim (cases_eq r q) [
+        | inl same ↦ inr (subst (λ (x : ℕ). Contains (had ++ q ∷ []) x) (sym same) (Contains-push had q), sym same)
+        | inr ne ↦ inl (sym (get_or-set_other old q r true false ne) ∙ h)
+      ];
+      waiting = λ r h. elim (Contains-push_cases had q r h) [
+        | inl before ↦ inl before
+        | inr same ↦ inr (subst (λ (x : ℕ). Marked (set old q true) x) same (get_or-set_same old q true false within))
+      ];
+      stacked = λ r h. Contains-append_left had (q ∷ []) r h;
+      spent = omega (
+        arith,
+        length_push had q,
+        sum_by-set (λ (x : Bool). cond (not x) 1 0) old q true false within,
+        ap (λ (x : Bool). cond {A = ℕ} (not x) 1 0) was,
+      );
+    }))
 
-pub marks_from : (q : ℕ) (old new : List Bool) (had has : List ℕ) → q < length old → new ≡ set old q true → has ≡ cond (get_or old q false) had (had ++ q ∷ []) → Marks q old new had has
+pub marks_from : (q : ℕ) (old new : List Bool) (had has : List ℕ) → q < length old → new ≡ set old q true
+    → has ≡ cond (get_or old q false) had (had ++ q ∷ []) → Marks q old new had has
 marks_from q old new had has within e s = marks_cases q old new had has (get_or old q false) refl within e s
 
 -- one more reference is followed
-pub grows-more : (froms tos : List ℕ) (p k below q : ℕ) (old m new : List Bool) (had s has : List ℕ) → k ≤ length froms → get_or froms (k - 1) 0 ≡ p → 0 < k → IsLatest froms p (k - 1) below → get_or tos (k - 1) 0 ≡ q → Grows froms tos p k old m had s → Marks q m new s has → Grows froms tos p below old new had has
+pub grows-more : (froms tos : List ℕ) (p k below q : ℕ) (old m new : List Bool) (had s has : List ℕ) → k ≤ length froms
+    → get_or froms (k - 1) 0 ≡ p → 0 < k → IsLatest froms p (k - 1) below → get_or tos (k - 1) 0 ≡ q
+    → Grows froms tos p k old m had s → Marks q m new s has → Grows froms tos p below old new had has
 grows-more froms tos p k below q old m new had s has within here above l to g now = record {
   size = now.size ∙ g.size;
   kept = λ r h. now.kept r (g.kept r h);
   followed = λ j a b e. elim (cases_lt j (k - 1)) [
     | inl lt ↦ absurd (l.later j a lt e)
     | inr ge ↦ elim (cases_eq j (k - 1)) [
-      | inl same ↦ subst (λ (x : ℕ). Marked new (get_or tos x 0)) (sym same) (subst (λ (x : ℕ). Marked new x) (sym to) now.now)
+      | inl same ↦ subst (λ (x : ℕ). Marked new (get_or tos x 0)) (sym same)
+          (subst (λ (x : ℕ). Marked new x) (sym to) now.now)
       | inr ne ↦ now.kept _ (g.followed j (omega arith) b e)
     ]
   ];

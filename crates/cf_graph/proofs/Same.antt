@@ -32,7 +32,8 @@ same_code-equal a b e =
 
 same_code-refl : (a : Code) → same_code a a ≡ true
 same_code-refl a =
-    and_from _ _ (eq-eqb a.kind a.kind refl) (and_from _ _ (eq-eqb a.first a.first refl) (eq-eqb a.second a.second refl))
+    and_from _ _ (eq-eqb a.kind a.kind refl) (and_from _ _ (eq-eqb a.first a.first refl)
+    (eq-eqb a.second a.second refl))
 
 -- holders that pass the test are one
 pub same_holder-equal : (a b : Holder) → same_holder a b ≡ true → a ≡ b
@@ -44,7 +45,8 @@ same_holder-refl a = same_code-refl (code_of a)
 
 reference_from : (a b : Reference) → a.holder ≡ b.holder → a.object ≡ b.object → a ≡ b
 reference_from a b h o =
-    ap (λ (k : Holder). record { holder = k; object = a.object }) h ∙ ap (λ (n : ℕ). record { holder = b.holder; object = n }) o
+    ap (λ (k : Holder). record { holder = k; object = a.object }) h
+    ∙ ap (λ (n : ℕ). record { holder = b.holder; object = n }) o
 
 -- references that pass the test are one
 pub same-equal : (a b : Reference) → same a b ≡ true → a ≡ b

@@ -19,6 +19,8 @@ pub enum Owner {
 /// One reference: who has it, and to which object it leads.
 #[derive(Clone, Copy)]
 pub struct Edge {
+    /// What has the reference.
     pub owner: Owner,
+    /// The object to which it leads.
     pub object: ObjId,
 }

@@ -28,7 +28,8 @@ struct Walk {
 }
 
 /// The objects to which a path leads from a thread or a parcel, by rising number. It takes time
-/// linear in the edges, beside a table of one place for each number that an object can have.
+/// linear in the edges, beside a table of one place for each number that an object can have. `NoMemory` comes for want
+/// of memory alone.
 pub fn reached(alloc: Global, edges: &[Edge]) -> Result<Vec<ObjId>, NoMemory>
     ensures rising { IfOk result (λ v. IsStrictlyIncreasing v.items) }
     ensures reached { IfOk result (λ v. (o : ℕ) → Contains v.items o ↔ Reaches edges.now o) }

@@ -24,7 +24,11 @@ impl Model for MemSink {
 
     ghost Value = { SinkState };
 
-    ghost view = { λ s. record { taken = s.bytes.items; faults = s.schedule.faults; plan = record { failing = s.schedule.failing.items; calls = s.schedule.calls; most = s.most } } };
+    ghost view = { λ s. record {
+      taken = s.bytes.items;
+      faults = s.schedule.faults;
+      plan = record { failing = s.schedule.failing.items; calls = s.schedule.calls; most = s.most };
+    } };
 
     ghost invariant = { λ s. 0 < s.most };
 }

@@ -15,7 +15,9 @@ use std::marker::Model;
 /// A file in memory.
 #[derive(Drop)]
 pub struct MemFile {
+    /// The name under which it is opened. Of files with one name the first is opened.
     pub name: String,
+    /// The contents.
     pub bytes: Vec<u8>,
 }
 
@@ -37,7 +39,12 @@ impl Model for MemSource {
 
     ghost Value = { SourceState };
 
-    ghost view = { λ s. record { files = files_of s.files.items; left = rest_of s.files.items s.place s.at; faults = s.schedule.faults; plan = record { failing = s.schedule.failing.items; calls = s.schedule.calls; most = s.most } } };
+    ghost view = { λ s. record {
+      files = files_of s.files.items;
+      left = rest_of s.files.items s.place s.at;
+      faults = s.schedule.faults;
+      plan = record { failing = s.schedule.failing.items; calls = s.schedule.calls; most = s.most };
+    } };
 
     ghost invariant = { λ s. 0 < s.most };
 }
@@ -69,7 +76,8 @@ impl Source for MemSource {
     ghost faults = { λ s. s.faults };
 
     fn open(&mut self, name: &str) -> Result<(), Failed>
-        ensures failed { IsErr result ↔ (Contains self.old.plan.failing self.old.plan.calls ⊎ (content_of self.old.files name.now ≡ None)) }
+        ensures failed { IsErr result ↔ (Contains self.old.plan.failing self.old.plan.calls
+            ⊎ (content_of self.old.files name.now ≡ None)) }
         ensures opened { OnOk result (Some self.new.left ≡ content_of self.old.files name.now) }
         ensures files { self.new.files ≡ self.old.files }
         ensures kept { OnErr result (self.new.left ≡ self.old.left) }

@@ -11,10 +11,12 @@ use cf_fault::raised;
 pub struct Schedule {
     failing: Vec<u64>,
     calls: u64,
+    // How many failed. It stands still at the end of its type.
     pub faults: u64,
 }
 
 impl Schedule {
+    // No call was made yet.
     pub fn new(failing: Vec<u64>) -> Schedule
         ensures failing { result.failing.items ≡ failing.items }
         ensures calls { result.calls ≡ 0 }

@@ -1,3 +1,4 @@
+-- The order of numbers is that of their values, and it is total.
 use Rattle.std.proofs.Common.{◌≡◌, ◌<ℤ◌, sym}
 use Rattle.std.specs.Prelude.{◌↔◌}
 use Rattle.std.specs.Ordering.{MatchOrdering}
@@ -10,7 +11,8 @@ pub order_of_total : IsTotalOrder order_of
 order_of_total = on_total (λ (n : Number). n.value) int_cmp_total
 
 -- what each answer says of the two values
-pub order_of_ranks : (a b : Number) → MatchOrdering (order_of a b) (a.value <ℤ b.value) (a.value ≡ b.value) (b.value <ℤ a.value)
+pub order_of_ranks : (a b : Number)
+    → MatchOrdering (order_of a b) (a.value <ℤ b.value) (a.value ≡ b.value) (b.value <ℤ a.value)
 order_of_ranks a b = int_ranks a.value b.value
 
 -- the answer is `Equal` exactly where the values are equal

@@ -1,3 +1,4 @@
+-- The kinds of numbers and what each holds, after the CFNumber reference.
 use Rattle.std.specs.Prelude.{ℕ, ◌^◌, Bool, nat_lt, ℤ, pos, negsuc, FitsSigned}
 use Rattle.std.specs.Int.{Width, w8, w16, w32, w64}
 use Rattle.cf_number.specs.declared.kinds.NumKind.{NumKind}

@@ -1,3 +1,4 @@
+-- What contracts see of a number, and how numbers are ordered.
 use Rattle.std.specs.Prelude.{ℤ}
 use Rattle.std.specs.Ordering.{int_cmp, on}
 use Rattle.std.specs.declared.cmp.Ordering.{Ordering}

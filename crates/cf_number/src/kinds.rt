@@ -1,11 +1,16 @@
+//! The kinds of numbers.
 ghost use Rattle.std.specs.Prelude.{◌≡◌, ◌↔◌, IsTrue};
 
 /// The four signed kinds of the CFNumber reference, SInt8 to SInt64.
 #[derive(Clone, Copy)]
 pub enum NumKind {
+    /// SInt8: from -128 to 127.
     S8 = 1,
+    /// SInt16: from -32,768 to 32,767.
     S16 = 2,
+    /// SInt32: from -2^31 to 2^31 - 1.
     S32 = 3,
+    /// SInt64: from -2^63 to 2^63 - 1.
     S64 = 4,
 }
 

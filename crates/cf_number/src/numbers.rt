@@ -1,3 +1,4 @@
+//! Numbers, and the calls on them.
 ghost use Rattle.std.specs.Prelude.{◌≡◌, ◌↔◌, IsOk, IfOk};
 
 use crate::kinds::NumKind;

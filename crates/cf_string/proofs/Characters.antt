@@ -37,13 +37,15 @@ high_range : (u : ℕ) → is_high_surrogate u ≡ true → (0xD800 ≤ u) × (u
 high_range u is = let parts = and_parts _ _ is in (leb-true _ _ parts.0, ltb-true _ _ parts.1)
 
 scalar_above : (c : ℕ) → 0xE000 ≤ c → c < 0x11_0000 → scalar c ≡ true
-scalar_above c from below = rw (le-ltb c 0xD800 (omega arith)) (and_from _ _ (le-leb 0xE000 c from) (lt-ltb c 0x11_0000 below))
+scalar_above c from below =
+    rw (le-ltb c 0xD800 (omega arith)) (and_from _ _ (le-leb 0xE000 c from) (lt-ltb c 0x11_0000 below))
 
 -- a unit that is no surrogate is below them or above them
 outside : (u : ℕ) → is_high_surrogate u ≡ false → is_low_surrogate u ≡ false → (u < 0xD800) ⊎ (0xE000 ≤ u)
 outside u high low = ⊎_elim (λ h. inl h) (λ (from : 0xD800 ≤ u). ⊎_elim
     (λ (below : u < 0xDC00). absurd (true≢false (sym (high_within u from below) ∙ high)))
-    (λ (past : 0xDC00 ≤ u). ⊎_elim (λ (within : u < 0xE000). absurd (true≢false (sym (low_within u past within) ∙ low))) (λ h. inr h) (cases_lt u 0xE000))
+    (λ (past : 0xDC00 ≤ u). ⊎_elim (λ (within : u < 0xE000). absurd (true≢false (sym (low_within u past within) ∙ low)))
+    (λ h. inr h) (cases_lt u 0xE000))
     (cases_lt u 0xDC00)) (cases_lt u 0xD800)
 
 -- one unit that is no surrogate
@@ -51,19 +53,26 @@ one_reads : (P : ℕ → Type 0) (u i : ℕ) → P u → P 0 → P (get_or (u �
 one_reads P u zero here past = here
 one_reads P u (suc i) here past = past
 
-one_paired : (u i : ℕ) → is_high_surrogate u ≡ false → is_low_surrogate (get_or (u ∷ []) (i + 1) 0) ≡ is_high_surrogate (get_or (u ∷ []) i 0)
+one_paired : (u i : ℕ) → is_high_surrogate u ≡ false
+    → is_low_surrogate (get_or (u ∷ []) (i + 1) 0) ≡ is_high_surrogate (get_or (u ∷ []) i 0)
 one_paired u zero high = sym high
 one_paired u (suc i) high = ap is_low_surrogate (get_or_past (u ∷ []) (suc i + 1) 0 (omega arith))
 
 IsText-one : (u : ℕ) → u < 2 ^ 16 → is_low_surrogate u ≡ false → is_high_surrogate u ≡ false → IsText (u ∷ [])
-IsText-one u fits low high = record { in_range = λ i. one_reads (λ v. v < 2 ^ 16) u i fits (lit< tt); starts_whole = low; paired = λ i. one_paired u i high }
+IsText-one u fits low high =
+    record {
+      in_range = λ i. one_reads (λ v. v < 2 ^ 16) u i fits (lit< tt);
+      starts_whole = low;
+      paired = λ i. one_paired u i high;
+    }
 
 -- a pair
 two_reads : (P : ℕ → Type 0) (u v i : ℕ) → P u → P v → P 0 → P (get_or (u ∷ v ∷ []) i 0)
 two_reads P u v zero first second past = first
 two_reads P u v (suc i) first second past = one_reads P v i second past
 
-two_paired : (u v i : ℕ) → IsPair u v → is_low_surrogate (get_or (u ∷ v ∷ []) (i + 1) 0) ≡ is_high_surrogate (get_or (u ∷ v ∷ []) i 0)
+two_paired : (u v i : ℕ) → IsPair u v
+    → is_low_surrogate (get_or (u ∷ v ∷ []) (i + 1) 0) ≡ is_high_surrogate (get_or (u ∷ v ∷ []) i 0)
 two_paired u v zero pair = low_within v pair.2 pair.3 ∙ sym (high_within u pair.0 pair.1)
 two_paired u v (suc zero) pair = sym (high_above v pair.2)
 two_paired u v (suc (suc i)) pair = ap is_low_surrogate (get_or_past (u ∷ v ∷ []) (suc (suc i) + 1) 0 (omega arith))
@@ -76,14 +85,17 @@ IsText-two u v pair = record {
 }
 
 -- the units of a character above 0xFFFF are a pair
-pair_of : (c : ℕ) → 0x1_0000 ≤ c → c < 0x11_0000 → IsPair (0xD800 + (c - 0x1_0000) / 0x400) (0xDC00 + (c - 0x1_0000) % 0x400)
+pair_of : (c : ℕ) → 0x1_0000 ≤ c → c < 0x11_0000
+    → IsPair (0xD800 + (c - 0x1_0000) / 0x400) (0xDC00 + (c - 0x1_0000) % 0x400)
 pair_of c from below = (omega arith, omega arith, omega arith, omega arith)
 
 IsText-character : (c : ℕ) → scalar c ≡ true → IsText (encode_utf16 c)
 IsText-character c is = ⊎_elim
-    (λ (below : c < 0xD800). rw (one_unit c (omega arith)) (IsText-one c (omega arith) (low_below c (omega arith)) (high_below c below)))
+    (λ (below : c < 0xD800). rw (one_unit c (omega arith))
+    (IsText-one c (omega arith) (low_below c (omega arith)) (high_below c below)))
     (λ (above : (0xE000 ≤ c) × (c < 0x11_0000)). ⊎_elim
-    (λ (one : c < 0x1_0000). rw (one_unit c one) (IsText-one c (omega arith) (low_above c above.0) (high_above c (omega arith))))
+    (λ (one : c < 0x1_0000). rw (one_unit c one) (IsText-one c (omega arith) (low_above c above.0)
+    (high_above c (omega arith))))
     (λ (two : 0x1_0000 ≤ c). rw (two_units c two) (IsText-two _ _ (pair_of c two above.1)))
     (cases_lt c 0x1_0000))
     (scalar_cases c is)
@@ -91,16 +103,23 @@ IsText-character c is = ⊎_elim
 -- the units of characters are a text
 pub IsText-units_of : (cs : List ℕ) → all_scalars cs ≡ true → IsText (units_of cs)
 IsText-units_of [] are = IsText-nil
-IsText-units_of (c ∷ cs) are = let parts = and_parts _ _ are in IsText-append (encode_utf16 c) (units_of cs) (IsText-character c parts.0) (IsText-units_of cs parts.1)
+IsText-units_of (c ∷ cs) are = let parts = and_parts _ _ are in
+    IsText-append (encode_utf16 c) (units_of cs) (IsText-character c parts.0) (IsText-units_of cs parts.1)
 
 -- the characters come back from their units
-decode_one : (c : ℕ) (rest : List ℕ) → scalar c ≡ true → utf16_chars (encode_utf16 c ++ rest) ≡ Some c ∷ utf16_chars rest
+decode_one : (c : ℕ) (rest : List ℕ) → scalar c ≡ true
+    → utf16_chars (encode_utf16 c ++ rest) ≡ Some c ∷ utf16_chars rest
 decode_one c rest is = ⊎_elim
-    (λ (below : c < 0xD800). rw (one_unit c (omega arith)) (utf16_chars_lone c rest (λ p. absurd (omega arith)) ∙ ap (λ o. o ∷ utf16_chars rest) (lone_unit_char_low c below)))
+    (λ (below : c < 0xD800). rw (one_unit c (omega arith))
+    (utf16_chars_lone c rest (λ p. absurd (omega arith))
+    ∙ ap (λ o. o ∷ utf16_chars rest) (lone_unit_char_low c below)))
     (λ (above : (0xE000 ≤ c) × (c < 0x11_0000)). ⊎_elim
-    (λ (one : c < 0x1_0000). rw (one_unit c one) (utf16_chars_lone c rest (λ p. absurd (omega arith)) ∙ ap (λ o. o ∷ utf16_chars rest) (lone_unit_char_high c above.0)))
-    (λ (two : 0x1_0000 ≤ c). rw (two_units c two) (utf16_chars_pair _ _ rest (pair_of c two above.1) ∙ ap (λ d. Some d ∷ utf16_chars rest)
-    {x = surrogate_pair_char (0xD800 + (c - 0x1_0000) / 0x400) (0xDC00 + (c - 0x1_0000) % 0x400)} {y = c} (omega arith)))
+    (λ (one : c < 0x1_0000). rw (one_unit c one) (utf16_chars_lone c rest (λ p. absurd (omega arith))
+    ∙ ap (λ o. o ∷ utf16_chars rest) (lone_unit_char_high c above.0)))
+    (λ (two : 0x1_0000 ≤ c). rw (two_units c two)
+    (utf16_chars_pair _ _ rest (pair_of c two above.1) ∙ ap (λ d. Some d ∷ utf16_chars rest)
+    {x = surrogate_pair_char (0xD800 + (c - 0x1_0000) / 0x400) (0xDC00 + (c - 0x1_0000) % 0x400)} {y = c}
+    (omega arith)))
     (cases_lt c 0x1_0000))
     (scalar_cases c is)
 
@@ -115,16 +134,21 @@ values [] = refl
 values (c ∷ cs) = ap (λ ds. c ∷ ds) (values cs)
 
 pub utf16_lossy_chars-units_of : (cs : List ℕ) → all_scalars cs ≡ true → utf16_lossy_chars (units_of cs) ≡ cs
-utf16_lossy_chars-units_of cs are = ap (λ os. map (λ o. unwrap_or o 0xFFFD) os) (utf16_chars-units_of cs are) ∙ values cs
+utf16_lossy_chars-units_of cs are = ap (λ os. map (λ o. unwrap_or o 0xFFFD) os) (utf16_chars-units_of cs are)
+    ∙ values cs
 
 -- characters of one list of units are the same
-pub units_of_same : (cs ds : List ℕ) → all_scalars cs ≡ true → all_scalars ds ≡ true → units_of cs ≡ units_of ds → cs ≡ ds
-units_of_same cs ds are also same = sym (utf16_lossy_chars-units_of cs are) ∙ ap utf16_lossy_chars same ∙ utf16_lossy_chars-units_of ds also
+pub units_of_same : (cs ds : List ℕ) → all_scalars cs ≡ true → all_scalars ds ≡ true → units_of cs ≡ units_of ds
+    → cs ≡ ds
+units_of_same cs ds are also same = sym (utf16_lossy_chars-units_of cs are) ∙ ap utf16_lossy_chars same
+    ∙ utf16_lossy_chars-units_of ds also
 
 -- a text has one UTF-8
-pub utf8_same : (bytes others : List ℕ) → IsUtf8 bytes → IsUtf8 others → units_of (chars bytes) ≡ units_of (chars others) → bytes ≡ others
+pub utf8_same : (bytes others : List ℕ) → IsUtf8 bytes → IsUtf8 others
+    → units_of (chars bytes) ≡ units_of (chars others) → bytes ≡ others
 utf8_same bytes others utf8 also same =
-    let characters = units_of_same (chars bytes) (chars others) (scalars-chars bytes utf8) (scalars-chars others also) same in
+    let characters = units_of_same (chars bytes) (chars others) (scalars-chars bytes utf8) (scalars-chars others also)
+    same in
     sym (encodes-chars bytes utf8) ∙ ap encode_utf8_all characters ∙ encodes-chars others also
 
 -- the characters of a text
@@ -133,10 +157,12 @@ pub record Spelled (units : List ℕ) : Type 0 where
   pub are : all_scalars characters ≡ true
   pub spell : units_of characters ≡ units
 
-spelled_one : (u : ℕ) (us : List ℕ) → u < 2 ^ 16 → is_high_surrogate u ≡ false → is_low_surrogate u ≡ false → Spelled us → Spelled (u ∷ us)
+spelled_one : (u : ℕ) (us : List ℕ) → u < 2 ^ 16 → is_high_surrogate u ≡ false → is_low_surrogate u ≡ false → Spelled us
+    → Spelled (u ∷ us)
 spelled_one u us fits high low rest = record {
   characters = u ∷ rest.characters;
-  are = and_from _ _ (⊎_elim (λ below. low_scalar u below) (λ above. scalar_above u above (omega arith)) (outside u high low)) rest.are;
+  are = and_from _ _ (⊎_elim (λ below. low_scalar u below) (λ above. scalar_above u above (omega arith))
+      (outside u high low)) rest.are;
   spell = rw (one_unit u (omega arith)) (ap (λ vs. u ∷ vs) rest.spell);
 }
 
@@ -163,7 +189,8 @@ spelled_by u v us false is text rest tail =
 -- a text is the units of characters
 pub spelled : (units : List ℕ) → IsText units → Spelled units
 spelled [] text = record { characters = []; are = refl; spell = refl }
-spelled (u ∷ []) text = spelled_one u [] (text.in_range 0) (sym (text.paired 0)) text.starts_whole (spelled [] IsText-nil)
+spelled (u ∷ []) text = spelled_one u [] (text.in_range 0) (sym (text.paired 0)) text.starts_whole
+    (spelled [] IsText-nil)
 spelled (u ∷ v ∷ us) text = spelled_by u v us _ refl text (spelled us) (spelled (v ∷ us))
 
 none_unpaired : (cs : List ℕ) → list_any (λ o. not (is_some o)) (map (λ (c : ℕ). Some c) cs) ≡ false
@@ -173,8 +200,11 @@ none_unpaired (c ∷ cs) = none_unpaired cs
 pub has_unpaired_surrogate-text : (units : List ℕ) → IsText units → has_unpaired_surrogate units ≡ false
 has_unpaired_surrogate-text units text =
     let known = spelled units text in
-    ap has_unpaired_surrogate (sym known.spell) ∙ ap (list_any (λ o. not (is_some o))) (utf16_chars-units_of known.characters known.are) ∙ none_unpaired known.characters
+    ap has_unpaired_surrogate (sym known.spell)
+    ∙ ap (list_any (λ o. not (is_some o))) (utf16_chars-units_of known.characters known.are)
+    ∙ none_unpaired known.characters
 
 -- any UTF-8 of characters with these units spells the same units again
-pub units_of-chars : (cs bytes : List ℕ) → IsUtf8 bytes → bytes ≡ encode_utf8_all cs → units_of (chars bytes) ≡ units_of cs
+pub units_of-chars : (cs bytes : List ℕ) → IsUtf8 bytes → bytes ≡ encode_utf8_all cs
+    → units_of (chars bytes) ≡ units_of cs
 units_of-chars cs bytes utf8 is = ap units_of (sym (chars_from_encodes cs bytes utf8 (sym is)))

@@ -15,24 +15,30 @@ IsPair-tested u v is =
 
 not_IsPair-tested : (u v : ℕ) → (is_high_surrogate u && is_low_surrogate v) ≡ false → ¬ (IsPair u v)
 not_IsPair-tested u v is pair =
-    let yes = and_from _ _ (and_from _ _ (le-leb _ _ pair.0) (lt-ltb _ _ pair.1)) (and_from _ _ (le-leb _ _ pair.2) (lt-ltb _ _ pair.3)) in
+    let yes = and_from _ _ (and_from _ _ (le-leb _ _ pair.0) (lt-ltb _ _ pair.1))
+    (and_from _ _ (le-leb _ _ pair.2) (lt-ltb _ _ pair.3)) in
     true≢false (sym yes ∙ is)
 
 -- a unit in no pair is the first character
-lone_at : (units : List ℕ) (at result : ℕ) → at < length units → ¬ (IsPair (get_or units at 0) (get_or units (at + 1) 0))
-    → result ≡ unwrap_or (lone_unit_char (get_or units at 0)) 0xFFFD → utf16_lossy_chars (drop at units) ≡ result ∷ utf16_lossy_chars (drop (at + 1) units)
+lone_at : (units : List ℕ) (at result : ℕ) → at < length units
+    → ¬ (IsPair (get_or units at 0) (get_or units (at + 1) 0))
+    → result ≡ unwrap_or (lone_unit_char (get_or units at 0)) 0xFFFD
+    → utf16_lossy_chars (drop at units) ≡ result ∷ utf16_lossy_chars (drop (at + 1) units)
 lone_at units at result within apart made =
     ap (map (λ o. unwrap_or o 0xFFFD)) (utf16_chars-drop_lone units at within apart)
     ∙ ap (λ c. c ∷ utf16_lossy_chars (drop (at + 1) units)) (sym made)
 
 -- the last unit is in no pair
 pub last_at : (units : List ℕ) (at result : ℕ) → at < length units → length units ≤ at + 1
-    → result ≡ unwrap_or (lone_unit_char (get_or units at 0)) 0xFFFD → utf16_lossy_chars (drop at units) ≡ result ∷ utf16_lossy_chars (drop (at + 1) units)
-last_at units at result within last made = lone_at units at result within (omega (arith, get_or-eq_default units 0 {n = at + 1} last)) made
+    → result ≡ unwrap_or (lone_unit_char (get_or units at 0)) 0xFFFD
+    → utf16_lossy_chars (drop at units) ≡ result ∷ utf16_lossy_chars (drop (at + 1) units)
+last_at units at result within last made =
+    lone_at units at result within (omega (arith, get_or-eq_default units 0 {n = at + 1} last)) made
 
 pub apart_at : (units : List ℕ) (at result : ℕ) → at < length units
     → (is_high_surrogate (get_or units at 0) && is_low_surrogate (get_or units (at + 1) 0)) ≡ false
-    → result ≡ unwrap_or (lone_unit_char (get_or units at 0)) 0xFFFD → utf16_lossy_chars (drop at units) ≡ result ∷ utf16_lossy_chars (drop (at + 1) units)
+    → result ≡ unwrap_or (lone_unit_char (get_or units at 0)) 0xFFFD
+    → utf16_lossy_chars (drop at units) ≡ result ∷ utf16_lossy_chars (drop (at + 1) units)
 apart_at units at result within apart made = lone_at units at result within (not_IsPair-tested _ _ apart) made
 
 -- the units of a pair are the first character

@@ -8,7 +8,8 @@ use Rattle.cf_string.specs.Units.{StandsAt}
 
 -- the test of a slice from a place on
 pub starts_stand : (units other : List ℕ) (i : ℕ) (result : Bool) → i + length other ≤ length units
-    → result ≡ pointwise eqb other (take (length other) (take (length units - i) (drop i units))) → Decides result (StandsAt units other i)
+    → result ≡ pointwise eqb other (take (length other) (take (length units - i) (drop i units)))
+    → Decides result (StandsAt units other i)
 starts_stand units other i result fits is =
     let said : result ≡ pointwise eqb other (take (length other) (drop i units)) =
     is ∙ ap (λ xs. pointwise eqb other (take (length other) xs)) (take_rest units i) in
@@ -17,7 +18,8 @@ starts_stand units other i result fits is =
 
 -- the test at the last place, where the rest is as long as the other text
 pub ends_stand : (units other : List ℕ) (result : Bool) → (result ≡ true → length other ≤ length units)
-    → result ≡ pointwise eqb other (drop (length units - length other) units) → Decides result (StandsAt units other (length units - length other))
+    → result ≡ pointwise eqb other (drop (length units - length other) units)
+    → Decides result (StandsAt units other (length units - length other))
 ends_stand units other result bound is =
     let last = length units - length other in
     let rest = drop last units in

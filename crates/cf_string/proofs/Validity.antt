@@ -21,11 +21,13 @@ second_false false b same both = same
 second_false true b same both = both
 
 -- the same place, spelled otherwise
-low_same : (units : List ℕ) (i j : ℕ) → i ≡ j → is_low_surrogate (get_or units i 0) ≡ is_low_surrogate (get_or units j 0)
+low_same : (units : List ℕ) (i j : ℕ) → i ≡ j
+    → is_low_surrogate (get_or units i 0) ≡ is_low_surrogate (get_or units j 0)
 low_same units i j same = ap (λ k. is_low_surrogate (get_or units k 0)) same
 
 -- no low surrogate stands at a place that splits no pair
-pub low_at_cut : (units : List ℕ) (i : ℕ) → IsText units → splits_pair units i ≡ false → is_low_surrogate (get_or units i 0) ≡ false
+pub low_at_cut : (units : List ℕ) (i : ℕ) → IsText units → splits_pair units i ≡ false
+    → is_low_surrogate (get_or units i 0) ≡ false
 low_at_cut units i text whole = ⊎_elim
     (λ (inside : 0 < i). second_false _ _ (low_same units i (i - 1 + 1) (omega arith) ∙ text.paired (i - 1)) whole)
     (λ (start : i ≤ 0). low_same units i 0 (omega arith) ∙ text.starts_whole)
@@ -35,17 +37,21 @@ pub IsText-nil : IsText []
 IsText-nil = record { in_range = λ i. lit< tt; starts_whole = refl; paired = λ i. refl }
 
 -- the last unit of a text is no high surrogate
-high_at_end : (units : List ℕ) (i : ℕ) → IsText units → length units ≤ i + 1 → is_high_surrogate (get_or units i 0) ≡ false
+high_at_end : (units : List ℕ) (i : ℕ) → IsText units → length units ≤ i + 1
+    → is_high_surrogate (get_or units i 0) ≡ false
 high_at_end units i text last = sym (text.paired i) ∙ low_past units (i + 1) last
 
-pub IsText-drop : (units : List ℕ) (n : ℕ) → IsText units → is_low_surrogate (get_or units n 0) ≡ false → IsText (drop n units)
+pub IsText-drop : (units : List ℕ) (n : ℕ) → IsText units → is_low_surrogate (get_or units n 0) ≡ false
+    → IsText (drop n units)
 IsText-drop units n text whole = record {
   in_range = λ i. rw (get_or-drop n units i 0) (text.in_range (n + i));
   starts_whole = rw (get_or-drop n units 0 0) (low_same units (n + 0) n (omega arith) ∙ whole);
-  paired = λ i. rw (get_or-drop n units i 0, get_or-drop n units (i + 1) 0) (low_same units (n + (i + 1)) (n + i + 1) (omega arith) ∙ text.paired (n + i));
+  paired = λ i. rw (get_or-drop n units i 0, get_or-drop n units (i + 1) 0)
+      (low_same units (n + (i + 1)) (n + i + 1) (omega arith) ∙ text.paired (n + i));
 }
 
-pub IsText-take : (units : List ℕ) (n : ℕ) → IsText units → is_low_surrogate (get_or units n 0) ≡ false → IsText (take n units)
+pub IsText-take : (units : List ℕ) (n : ℕ) → IsText units → is_low_surrogate (get_or units n 0) ≡ false
+    → IsText (take n units)
 IsText-take units n text whole = record {
   in_range = λ i. ⊎_elim
       (λ below. rw (get_or-take n units i 0 below) (text.in_range i))
@@ -58,7 +64,8 @@ IsText-take units n text whole = record {
   paired = λ i. ⊎_elim
       (λ below. rw (get_or-take n units (i + 1) 0 below, get_or-take n units i 0 (omega arith)) (text.paired i))
       (λ (past : n ≤ i + 1). low_past (take n units) (i + 1) (omega (arith, length-take n units)) ∙ sym (⊎_elim
-      (λ (below : i < n). rw (get_or-take n units i 0 below) (sym (text.paired i) ∙ low_same units (i + 1) n (omega arith) ∙ whole))
+      (λ (below : i < n). rw (get_or-take n units i 0 below)
+      (sym (text.paired i) ∙ low_same units (i + 1) n (omega arith) ∙ whole))
       (λ over. high_past (take n units) i (omega (arith, length-take n units)))
       (cases_lt i n)))
       (cases_lt (i + 1) n);
@@ -72,10 +79,12 @@ IsText-append xs ys front back = record {
       (cases_lt i (length xs));
   starts_whole = ⊎_elim
       (λ below. rw (get_or_append_left xs ys 0 0 below) front.starts_whole)
-      (λ past. rw (get_or-append_right xs ys (length xs) 0 0 refl past) (low_same ys (0 - length xs) 0 (omega arith) ∙ back.starts_whole))
+      (λ past. rw (get_or-append_right xs ys (length xs) 0 0 refl past)
+      (low_same ys (0 - length xs) 0 (omega arith) ∙ back.starts_whole))
       (cases_lt 0 (length xs));
   paired = λ i. ⊎_elim
-      (λ below. rw (get_or_append_left xs ys 0 (i + 1) below, get_or_append_left xs ys 0 i (omega arith)) (front.paired i))
+      (λ below. rw (get_or_append_left xs ys 0 (i + 1) below, get_or_append_left xs ys 0 i (omega arith))
+      (front.paired i))
       (λ (past : length xs ≤ i + 1). rw (get_or-append_right xs ys (length xs) (i + 1) 0 refl past) (⊎_elim
       (λ (below : i < length xs). rw (get_or_append_left xs ys 0 i below) (
       low_same ys (i + 1 - length xs) 0 (omega arith) ∙ back.starts_whole
@@ -93,7 +102,8 @@ pub record IsWholeCut (units : List ℕ) (at len : ℕ) : Type 0 where
   pub front : splits_pair units at ≡ false
   pub back : splits_pair units (at + len) ≡ false
 
-whole_cut_by : (units : List ℕ) (at len : ℕ) (range split : Bool) → nat_lt (length units) (at + len) ≡ range → (splits_pair units at || splits_pair units (at + len)) ≡ split
+whole_cut_by : (units : List ℕ) (at len : ℕ) (range split : Bool) → nat_lt (length units) (at + len) ≡ range
+    → (splits_pair units at || splits_pair units (at + len)) ≡ split
     → cond range (Some Range) (cond split (Some SplitsPair) None) ≡ None → IsWholeCut units at len
 whole_cut_by units at len true split is_range is_split none = cc
 whole_cut_by units at len false true is_range is_split none = cc
@@ -104,14 +114,16 @@ pub whole_cut : (units : List ℕ) (at len : ℕ) → cut_fault units at len ≡
 whole_cut units at len none = whole_cut_by units at len _ _ refl refl none
 
 -- a part of a text, between places that split no pair
-pub IsText-part : (units : List ℕ) (at len : ℕ) → IsText units → cut_fault units at len ≡ None → IsText (take len (drop at units))
+pub IsText-part : (units : List ℕ) (at len : ℕ) → IsText units → cut_fault units at len ≡ None
+    → IsText (take len (drop at units))
 IsText-part units at len text none =
     let cut = whole_cut units at len none in
     IsText-take (drop at units) len (IsText-drop units at text (low_at_cut units at text cut.front))
     (rw (get_or-drop at units len 0) (low_at_cut units (at + len) text cut.back))
 
 -- a text with a range replaced by another text; by the empty one it is taken out, and an empty range takes it in
-pub IsText-replaced : (units : List ℕ) (at len : ℕ) (other : List ℕ) → IsText units → IsText other → cut_fault units at len ≡ None → IsText (replaced units at len other)
+pub IsText-replaced : (units : List ℕ) (at len : ℕ) (other : List ℕ) → IsText units → IsText other
+    → cut_fault units at len ≡ None → IsText (replaced units at len other)
 IsText-replaced units at len other text put none =
     let cut = whole_cut units at len none in
     IsText-append (take at units ++ other) (drop (at + len) units)
@@ -127,7 +139,8 @@ replaced_in_two units at len other put fits is =
     let rest = drop cut units in
     let front_len : length front ≡ cut = length-take-le cut units fits in
     let none : cut + 0 ≡ cut = omega arith in
-    let whole : put ≡ front ++ (other ++ rest) = is ∙ ap (λ n. front ++ other ++ drop n units) none ∙ append_assoc front other rest in
+    let whole : put ≡ front ++ (other ++ rest) =
+    is ∙ ap (λ n. front ++ other ++ drop n units) none ∙ append_assoc front other rest in
     let kept : take at put ≡ take at units =
     ap (take at) whole ∙ take-append-le at front (other ++ rest) (omega arith) ∙ take-take at cut units (omega arith) in
     let moved : drop cut put ≡ other ++ rest = ap (drop cut) whole ∙ drop_at front (other ++ rest) cut front_len in

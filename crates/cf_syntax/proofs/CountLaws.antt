@@ -15,13 +15,21 @@ zeros : (v : ℕ) → v < 256 → get_or (replicate 256 none) v none ≡ none
 zeros v small = get_or-replicate 256 v none none small
 
 pub counted_start : Counted (record { bound = replicate 256 0; given = replicate 256 0; taken = replicate 256 0 }) []
-counted_start = record { binds = λ v small. zeros v small; gives = λ v small. zeros v small; takes = λ v small. zeros v small }
+counted_start = record {
+  binds = λ v small. zeros v small;
+  gives = λ v small. zeros v small;
+  takes = λ v small. zeros v small;
+}
 
-pub counted_more : (old new : Counts) (earlier : List Statement) (s : Statement) → Counted old earlier → Noted old (touch_of s) new → Counted new (earlier ++ s ∷ [])
+pub counted_more : (old new : Counts) (earlier : List Statement) (s : Statement) → Counted old earlier
+    → Noted old (touch_of s) new → Counted new (earlier ++ s ∷ [])
 counted_more old new earlier s counted noted = record {
-  binds = λ v small. noted.binds v small ∙ ap (λ (n : ℕ). n + bound_by v (touch_of s)) (counted.binds v small) ∙ sym (total_push (bound_by v) earlier s);
-  gives = λ v small. noted.gives v small ∙ ap (λ (n : ℕ). n + given_by v (touch_of s)) (counted.gives v small) ∙ sym (total_push (given_by v) earlier s);
-  takes = λ v small. noted.takes v small ∙ ap (λ (n : ℕ). n + taken_by v (touch_of s)) (counted.takes v small) ∙ sym (total_push (taken_by v) earlier s);
+  binds = λ v small. noted.binds v small ∙ ap (λ (n : ℕ). n + bound_by v (touch_of s)) (counted.binds v small)
+      ∙ sym (total_push (bound_by v) earlier s);
+  gives = λ v small. noted.gives v small ∙ ap (λ (n : ℕ). n + given_by v (touch_of s)) (counted.gives v small)
+      ∙ sym (total_push (given_by v) earlier s);
+  takes = λ v small. noted.takes v small ∙ ap (λ (n : ℕ). n + taken_by v (touch_of s)) (counted.takes v small)
+      ∙ sym (total_push (taken_by v) earlier s);
 }
 
 -- counts of fewer than 2^64 statements can rise

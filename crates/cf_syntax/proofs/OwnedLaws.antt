@@ -7,9 +7,11 @@ use Rattle.cf_syntax.specs.Forms.{touch_of}
 use Rattle.cf_syntax.specs.Owned.{total, bound_by, given_by, taken_by}
 
 -- one statement more
-pub total_push : (f : Touch → ℕ) (ss : List Statement) (s : Statement) → total f (ss ++ s ∷ []) ≡ total f ss + f (touch_of s)
+pub total_push : (f : Touch → ℕ) (ss : List Statement) (s : Statement)
+    → total f (ss ++ s ∷ []) ≡ total f ss + f (touch_of s)
 total_push f [] s = omega arith
-total_push f (t ∷ ss) s = ap (λ (n : ℕ). f (touch_of t) + n) (total_push f ss s) ∙ sym (add_assoc (f (touch_of t)) (total f ss) (f (touch_of s)))
+total_push f (t ∷ ss) s = ap (λ (n : ℕ). f (touch_of t) + n) (total_push f ss s)
+    ∙ sym (add_assoc (f (touch_of t)) (total f ss) (f (touch_of s)))
 
 one_le : (t : Bool) → cond t 1 0 ≤ 1
 one_le true = omega arith

@@ -6,7 +6,7 @@ abbrev pub in_first : ℕ → List (List ℕ) → List (List ℕ)
 in_first b [] = (b ∷ []) ∷ []
 in_first b (l ∷ ls) = (b ∷ l) ∷ ls
 
--- the pieces between LF (10); an empty piece behind the last LF is none
+-- the pieces between LF (10); an empty piece after the last LF is none
 abbrev pub pieces : List ℕ → List (List ℕ)
 pieces [] = []
 pieces (b ∷ bs) = if b == 10 then [] ∷ pieces bs else in_first b (pieces bs)

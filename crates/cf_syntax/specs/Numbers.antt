@@ -17,7 +17,7 @@ is_digit b = is_in_range 48 57 b
 abbrev pub is_numeral : List ℕ → Bool
 is_numeral word = not (length word == 0) && list_all is_digit word
 
--- the number that digits write behind those of n, and the number that they write
+-- the number that digits write after those of n, and the number that they write
 abbrev pub decimal_from : ℕ → List ℕ → ℕ
 decimal_from n [] = n
 decimal_from n (b ∷ bs) = decimal_from (n * 10 + (b - 48)) bs
@@ -27,7 +27,8 @@ decimal_value word = decimal_from 0 word
 
 -- the number of a numeral that is below a limit
 abbrev pub number_below : ℕ → List ℕ → Option ℕ
-number_below limit word = if is_numeral word && nat_lt (decimal_value word) limit then Some (decimal_value word) else None
+number_below limit word =
+    if is_numeral word && nat_lt (decimal_value word) limit then Some (decimal_value word) else None
 
 -- an INDEX
 abbrev pub index_of : List ℕ → Option ℕ

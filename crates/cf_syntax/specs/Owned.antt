@@ -67,11 +67,11 @@ abbrev pub may_use_all : List Statement → List ℕ → Bool
 may_use_all earlier [] = true
 may_use_all earlier (v ∷ vs) = may_use earlier v && may_use_all earlier vs
 
--- a statement behind earlier ones has no fault
+-- a statement after earlier ones has no fault
 abbrev pub is_fit : List Statement → Statement → Bool
 is_fit earlier s = may_touch earlier (touch_of s) && may_use_all earlier (used_by s) && is_known s
 
--- statements behind earlier ones have no fault
+-- statements after earlier ones have no fault
 abbrev pub are_fit : List Statement → List Statement → Bool
 are_fit earlier [] = true
 are_fit earlier (s ∷ ss) = is_fit earlier s && are_fit (earlier ++ s ∷ []) ss

@@ -1,5 +1,5 @@
 -- Texts and their scripts, by which the definitions can be compared with what they are meant to say.
-use Rattle.std.specs.Prelude.{ℕ, List, [], ◌∷◌, codes, true, false}
+use Rattle.std.specs.Prelude.{ℕ, List, [], ◌∷◌, ◌++◌, codes, true, false}
 use Rattle.cf_syntax.specs.declared.script.Script.{Script}
 use Rattle.cf_syntax.specs.declared.statement.Statement.TheVariants.{MakeString, Release, MakeArray, MakeDict, ArrSet, ArrTake, DictSet, DictTake, FieldTake}
 
@@ -23,7 +23,9 @@ small_script = record {
 
 -- forms of one to three variables, numbered from left to right
 abbrev pub members_text : List ℕ
-members_text = codes "cf 1\nsetup\nmake a array plain\nmake d dict\narr.set a 7 d\narr.take x a 7\ndict.set d a x\ndict.take y d a\nfield.take z d 0\nend\n"
+members_text =
+    codes "cf 1\nsetup\nmake a array plain\nmake d dict\narr.set a 7 d\narr.take x a 7\n"
+    ++ codes "dict.set d a x\ndict.take y d a\nfield.take z d 0\nend\n"
 
 abbrev pub members_script : Script
 members_script = record {
@@ -32,7 +34,9 @@ members_script = record {
     name = codes "setup";
     uses = [];
     variables = codes "a" ∷ codes "d" ∷ codes "x" ∷ codes "y" ∷ codes "z" ∷ [];
-    statements = MakeArray 0 true ∷ MakeDict 1 false ∷ ArrSet 0 7 1 ∷ ArrTake 2 0 7 ∷ DictSet 1 0 2 ∷ DictTake 3 1 0 ∷ FieldTake 4 1 0 ∷ [];
+    statements =
+        MakeArray 0 true ∷ MakeDict 1 false ∷ ArrSet 0 7 1 ∷ ArrTake 2 0 7 ∷ DictSet 1 0 2 ∷ DictTake 3 1 0
+        ∷ FieldTake 4 1 0 ∷ [];
     lines = 3 ∷ 4 ∷ 5 ∷ 6 ∷ 7 ∷ 8 ∷ 9 ∷ [];
     first = 2;
     last = 10;

@@ -213,15 +213,16 @@ pub record With (A : Type 0) : Type 0 where
   pub names : List (List ℕ)
   pub value : A
 
--- the names with this one, which goes behind them where it is new
+-- the names with this one, which goes after them where it is new
 abbrev pub with_name : List (List ℕ) → List ℕ → List (List ℕ)
 with_name names word = if list_any (bytes_eq word) names then names else names ++ word ∷ []
 
--- The numbers of a line's variables, with one more: its place among the names, that of a new one behind them.
+-- The numbers of a line's variables, with one more: its place among the names, that of a new one after them.
 -- There are 256.
 abbrev pub with_variable : With (List ℕ) → List ℕ → Result (With (List ℕ)) Refusal
 with_variable so_far word = let n = position_or_len (bytes_eq word) so_far.names in
-    if nat_lt n 256 then Ok (record { names = with_name so_far.names word; value = so_far.value ++ n ∷ [] }) else Err unread
+    if nat_lt n 256 then Ok (record { names = with_name so_far.names word; value = so_far.value ++ n ∷ [] })
+    else Err unread
 
 -- the same with a word of a class, which may be a variable
 abbrev pub with_word : With (List ℕ) → Class → List ℕ → Result (With (List ℕ)) Refusal

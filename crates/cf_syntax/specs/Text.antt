@@ -89,12 +89,17 @@ continued classes b line ws = do
 -- a line with this number inside a block: its end, or a statement
 unfoldable pub inside : List ClassLine → List Block → Opened → ℕ → List (List ℕ) → Result Reading Refusal
 inside classes blocks b line ws =
-    if is_word ws (codes "end") then Ok (record { count = line; classes = classes; blocks = blocks ++ ended b line ∷ []; block = None })
+    if is_word ws (codes "end") then Ok (record {
+      count = line;
+      classes = classes;
+      blocks = blocks ++ ended b line ∷ [];
+      block = None;
+    })
     else (do
       c ← continued classes b line ws
       Ok (record { count = line; classes = classes; blocks = blocks; block = Some c }))
 
--- a line with this number, by its words, behind line 1
+-- a line with this number, by its words, after line 1
 abbrev pub placed : List ClassLine → List Block → Option Opened → ℕ → List (List ℕ) → Result Reading Refusal
 placed classes blocks None line ws = outside classes blocks line ws
 placed classes blocks (Some b) line ws = inside classes blocks b line ws
@@ -120,11 +125,13 @@ said r line = do
   ws ← formed (words line)
   spoken r ws
 
--- A line more. Its bytes are UTF-8. Behind line 1 a line may say nothing.
+-- A line more. Its bytes are UTF-8. After line 1 a line may say nothing.
 unfoldable pub after_line : Reading → List ℕ → Result Reading Refusal
 after_line r line = do
   _ ← required (is_utf8 line)
-  if nat_lt 0 r.count && says_nothing line then Ok (record { count = r.count + 1; classes = r.classes; blocks = r.blocks; block = r.block }) else said r line
+  if nat_lt 0 r.count && says_nothing line then
+      Ok (record { count = r.count + 1; classes = r.classes; blocks = r.blocks; block = r.block })
+      else said r line
 
 -- lines more
 abbrev pub read_from : Reading → List (List ℕ) → Result Reading Refusal

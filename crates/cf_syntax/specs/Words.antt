@@ -19,16 +19,18 @@ says_nothing (b ∷ bs) = if is_blank b then says_nothing bs else b == 35
 
 -- Where the next byte stands after this one, or None where this one may not stand here. A word that
 -- begins with a quote (34) is a TEXT and goes to the next quote that no backslash (92) escapes. Its
--- escapes are the quote, the backslash and n (110), and no byte below 32 stands in it. Behind it is a
+-- escapes are the quote, the backslash and n (110), and no byte below 32 stands in it. After it is a
 -- blank or the end. Other words contain no quote.
 abbrev pub goes : Place → ℕ → Option Place
 goes Between b = if is_blank b then Some Between else (if b == 34 then Some Quoted else Some Plain)
 goes Plain b = if is_blank b then Some Between else (if b == 34 then None else Some Plain)
-goes Quoted b = if nat_lt b 32 then None else (if b == 34 then Some Closed else (if b == 92 then Some Escaped else Some Quoted))
+goes Quoted b =
+    if nat_lt b 32 then None
+    else (if b == 34 then Some Closed else (if b == 92 then Some Escaped else Some Quoted))
 goes Escaped b = if b == 34 || (b == 92 || b == 110) then Some Quoted else None
 goes Closed b = if is_blank b then Some Between else None
 
--- the words behind a blank; one that ends a word leaves nothing of that word
+-- the words after a blank; one that ends a word leaves nothing of that word
 abbrev pub past_blank : Place → List (List ℕ) → List (List ℕ)
 past_blank Between ws = ws
 past_blank p ws = [] ∷ ws
@@ -64,7 +66,7 @@ is_text word = slice_index word 0 == 34
 abbrev pub unescaped : ℕ → ℕ
 unescaped b = if b == 110 then 10 else b
 
--- what a TEXT says from behind its first quote on; the flag says that a backslash stands before
+-- what a TEXT says from after its first quote on; the flag says that a backslash stands before
 abbrev pub text_from : Bool → List ℕ → List ℕ
 text_from escape [] = []
 text_from true (b ∷ bs) = unescaped b ∷ text_from false bs
@@ -84,8 +86,10 @@ is_name_byte b = is_letter b || (is_in_range 48 57 b || b == 95)
 
 -- the words that are no names
 abbrev pub reserved : List (List ℕ)
-reserved = codes "nil" ∷ codes "any" ∷ codes "self" ∷ codes "common" ∷ codes "info" ∷ codes "setup" ∷ codes "forever" ∷ codes "plain"
-    ∷ codes "string" ∷ codes "mstring" ∷ codes "data" ∷ codes "mdata" ∷ codes "number" ∷ codes "array" ∷ codes "dict" ∷ codes "set"
+reserved = codes "nil" ∷ codes "any" ∷ codes "self" ∷ codes "common" ∷ codes "info" ∷ codes "setup"
+    ∷ codes "forever" ∷ codes "plain"
+    ∷ codes "string" ∷ codes "mstring" ∷ codes "data" ∷ codes "mdata" ∷ codes "number" ∷ codes "array"
+    ∷ codes "dict" ∷ codes "set"
     ∷ codes "bag" ∷ codes "heap" ∷ codes "source" ∷ codes "timer" ∷ codes "observer" ∷ []
 
 abbrev pub is_reserved : List ℕ → Bool
@@ -93,4 +97,6 @@ is_reserved word = list_any (λ r. bytes_eq r word) reserved
 
 -- a NAME: a letter, then up to 31 letters, digits and _, and not reserved
 abbrev pub is_name : List ℕ → Bool
-is_name word = is_letter (slice_index word 0) && (nat_le (length word) 32 && (list_all is_name_byte word && not (is_reserved word)))
+is_name word =
+    is_letter (slice_index word 0)
+    && (nat_le (length word) 32 && (list_all is_name_byte word && not (is_reserved word)))

@@ -10,8 +10,11 @@ use cf_ids::{VARIABLES, VarId};
 /// How often statements bind each variable of their block, and how many references they give to it and take from it.
 #[derive(Drop)]
 pub struct Counts {
+    /// How often each variable is bound.
     pub bound: [usize; VARIABLES],
+    /// How many references each variable is given.
     pub given: [usize; VARIABLES],
+    /// How many references are taken from each variable.
     pub taken: [usize; VARIABLES],
 }
 
@@ -32,7 +35,8 @@ impl Counts {
     #[tactic(auto, using(crate::proofs::CountLaws::counted_more))]
     pub fn count(&mut self, statement: &Statement)
         requires { CanCount self.old }
-        ensures { (earlier : List Statement) → Counted self.old earlier → Counted self.new (earlier ++ statement.now ∷ []) }
+        ensures { (earlier : List Statement) → Counted self.old earlier
+            → Counted self.new (earlier ++ statement.now ∷ []) }
     {
         self.note(statement.touch());
     }

@@ -104,18 +104,24 @@ pub enum FieldForm {
     Take,
 }
 
-/// A form of statement. The first word of a line finds it, and behind `make` the third too.
+/// A form of statement. The first word of a line finds it, and after `make` the third too.
 #[derive(Clone, Copy)]
 pub enum Form {
+    /// A form on texts.
     Text(TextForm),
+    /// A form on data.
     Data(DataForm),
+    /// A form with neither a TEXT nor a HEX that is none of those below.
     Plain(PlainForm),
     /// `make V array` and the like.
     Make(Collection),
     /// `make V array plain` and the like.
     MakePlain(Collection),
+    /// A form on arrays.
     Array(ArrayForm),
+    /// A form on dictionaries.
     Dict(DictForm),
+    /// A form on the fields of an instance.
     Field(FieldForm),
 }
 

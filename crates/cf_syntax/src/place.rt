@@ -5,12 +5,12 @@
 pub enum Place {
     /// Between words, or the first byte of one.
     Between,
-    /// In a plain word, behind its first byte.
+    /// In a plain word, after its first byte.
     Plain,
     /// In a TEXT.
     Quoted,
-    /// In a TEXT, behind a backslash.
+    /// In a TEXT, after a backslash.
     Escaped,
-    /// Behind the quote that closes a TEXT.
+    /// After the quote that closes a TEXT.
     Closed,
 }

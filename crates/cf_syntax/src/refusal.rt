@@ -14,6 +14,8 @@ pub enum Reason {
 /// reason.
 #[derive(Clone, Copy, Debug, PartialEq, Eq)]
 pub struct Refusal {
+    /// The line, counted from 1, or 0.
     pub line: u32,
+    /// The reason.
     pub reason: Reason,
 }

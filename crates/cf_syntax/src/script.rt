@@ -45,6 +45,8 @@ pub struct Block {
 /// A script: its classes, and its blocks in the order of the file, of which setup is the first.
 #[derive(Drop)]
 pub struct Script {
+    /// The class lines, in order.
     pub classes: Seq<ClassLine>,
+    /// The blocks, in order.
     pub blocks: Seq<Block>,
 }

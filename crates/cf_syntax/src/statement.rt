@@ -63,7 +63,7 @@ pub enum Statement {
     Show {
         variable: VarId,
     },
-    /// `str.append M S`: puts the text of S behind that of M.
+    /// `str.append M S`: puts the text of S after that of M.
     StrAppend {
         variable: VarId,
         other: VarId,
@@ -94,7 +94,7 @@ pub enum Statement {
         at: u32,
         len: u32,
     },
-    /// `data.append M HEX`: puts bytes behind those of M.
+    /// `data.append M HEX`: puts bytes after those of M.
     DataAppend {
         variable: VarId,
         bytes: DataLiteral,
@@ -117,7 +117,7 @@ pub enum Statement {
         variable: VarId,
         kind: NumKind,
     },
-    /// `arr.append A X`: puts X behind the last element of A.
+    /// `arr.append A X`: puts X after the last element of A.
     ArrAppend {
         variable: VarId,
         element: VarId,
@@ -128,7 +128,7 @@ pub enum Statement {
         at: u32,
         element: VarId,
     },
-    /// `arr.set A INDEX X`: puts X in place of the element at a place, or behind the last one.
+    /// `arr.set A INDEX X`: puts X in place of the element at a place, or after the last one.
     ArrSet {
         variable: VarId,
         at: u32,

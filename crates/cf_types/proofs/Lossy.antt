@@ -5,8 +5,10 @@ use Rattle.std.proofs.str.Utf16.{utf16_chars-drop_all}
 use Rattle.cf_types.specs.Hash.{hash_step, utf8_of}
 
 -- past the units nothing is left to take
-pub all_taken : (units : List ℕ) (at hash whole : ℕ) → length units ≤ at → fold hash_step hash (utf8_of (drop at units)) ≡ whole → hash ≡ whole
+pub all_taken : (units : List ℕ) (at hash whole : ℕ) → length units ≤ at
+    → fold hash_step hash (utf8_of (drop at units)) ≡ whole → hash ≡ whole
 all_taken units at hash whole past is =
     let none : fold hash_step hash (utf8_of (drop at units)) ≡ hash =
-    ap (λ os. fold hash_step hash (encode_utf8_all (map (λ o. unwrap_or o 0xFFFD) os))) (utf16_chars-drop_all units at past) in
+    ap (λ os. fold hash_step hash (encode_utf8_all (map (λ o. unwrap_or o 0xFFFD) os)))
+    (utf16_chars-drop_all units at past) in
     sym none ∙ is

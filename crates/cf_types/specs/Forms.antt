@@ -1,3 +1,4 @@
+-- What a form of the program is to contracts (this project's own).
 use Rattle.cf_types.specs.declared.forms.Form.{Form}
 use Rattle.cf_types.specs.declared.forms.Form.TheVariants.{Text, Data, Whole, Same}
 use Rattle.cf_types.specs.Views.{FormView, text_form, data_form, whole_form, same_form}

@@ -21,22 +21,26 @@ use Rattle.cf_types.specs.Views.{FormView, text_form, data_form, whole_form, sam
 
 -- forms are equal exactly where they are the same
 pub forms_equal-Decides : (a b : FormView) → Decides (forms_equal a b) (a ≡ b)
-forms_equal-Decides (text_form a) (text_form b) = let d = bytes_eq-Decides a b in (λ yes. ap text_form (d.0 yes), λ same. d.1 cc)
+forms_equal-Decides (text_form a) (text_form b) = let d = bytes_eq-Decides a b in
+    (λ yes. ap text_form (d.0 yes), λ same. d.1 cc)
 forms_equal-Decides (text_form a) (data_form b) = (λ yes. absurd (true≢false (sym yes)), λ same. cc)
 forms_equal-Decides (text_form a) (whole_form b) = (λ yes. absurd (true≢false (sym yes)), λ same. cc)
 forms_equal-Decides (text_form a) (same_form b) = (λ yes. absurd (true≢false (sym yes)), λ same. cc)
 forms_equal-Decides (data_form a) (text_form b) = (λ yes. absurd (true≢false (sym yes)), λ same. cc)
-forms_equal-Decides (data_form a) (data_form b) = let d = bytes_eq-Decides a b in (λ yes. ap data_form (d.0 yes), λ same. d.1 cc)
+forms_equal-Decides (data_form a) (data_form b) = let d = bytes_eq-Decides a b in
+    (λ yes. ap data_form (d.0 yes), λ same. d.1 cc)
 forms_equal-Decides (data_form a) (whole_form b) = (λ yes. absurd (true≢false (sym yes)), λ same. cc)
 forms_equal-Decides (data_form a) (same_form b) = (λ yes. absurd (true≢false (sym yes)), λ same. cc)
 forms_equal-Decides (whole_form a) (text_form b) = (λ yes. absurd (true≢false (sym yes)), λ same. cc)
 forms_equal-Decides (whole_form a) (data_form b) = (λ yes. absurd (true≢false (sym yes)), λ same. cc)
-forms_equal-Decides (whole_form a) (whole_form b) = let d = signed_Decides a b in (λ yes. ap whole_form (d.0 yes), λ same. d.1 cc)
+forms_equal-Decides (whole_form a) (whole_form b) = let d = signed_Decides a b in
+    (λ yes. ap whole_form (d.0 yes), λ same. d.1 cc)
 forms_equal-Decides (whole_form a) (same_form b) = (λ yes. absurd (true≢false (sym yes)), λ same. cc)
 forms_equal-Decides (same_form a) (text_form b) = (λ yes. absurd (true≢false (sym yes)), λ same. cc)
 forms_equal-Decides (same_form a) (data_form b) = (λ yes. absurd (true≢false (sym yes)), λ same. cc)
 forms_equal-Decides (same_form a) (whole_form b) = (λ yes. absurd (true≢false (sym yes)), λ same. cc)
-forms_equal-Decides (same_form a) (same_form b) = let d = Decides-eqb a b in (λ yes. ap same_form (d.0 yes), λ same. d.1 cc)
+forms_equal-Decides (same_form a) (same_form b) = let d = Decides-eqb a b in
+    (λ yes. ap same_form (d.0 yes), λ same. d.1 cc)
 
 same_record : (a b : LeafView) → a.class ≡ b.class → a.form ≡ b.form → a ≡ b
 same_record a b classes forms = λ i. record { class = classes i; form = forms i }
@@ -47,16 +51,19 @@ leaves_equal-Decides a b =
     let class = Decides-eqb a.class b.class in
     let form = forms_equal-Decides a.form b.form in (
       (λ yes. let parts = and_parts _ _ yes in same_record a b (class.0 parts.0) (form.0 parts.1)),
-      (λ same. and_from _ _ (class.1 (ap (λ (leaf : LeafView). leaf.class) same)) (form.1 (ap (λ (leaf : LeafView). leaf.form) same))),
+      (λ same. and_from _ _ (class.1 (ap (λ (leaf : LeafView). leaf.class) same))
+          (form.1 (ap (λ (leaf : LeafView). leaf.form) same))),
     )
 
 -- the order of forms and of leaves is total
 pub form_order_total : IsTotalOrder form_order
-form_order_total = then_total (on_total kind_rank nat_cmp_total) (then_total (on_texts listed_of) (on_total number_of int_cmp_total))
+form_order_total = then_total (on_total kind_rank nat_cmp_total)
+    (then_total (on_texts listed_of) (on_total number_of int_cmp_total))
 
 pub leaf_order_total : IsTotalOrder leaf_order
 leaf_order_total =
-    then_total (on_total (λ (leaf : LeafView). leaf.class) nat_cmp_total) (on_total (λ (leaf : LeafView). leaf.form) form_order_total)
+    then_total (on_total (λ (leaf : LeafView). leaf.class) nat_cmp_total)
+    (on_total (λ (leaf : LeafView). leaf.form) form_order_total)
 
 then_Equal : (o : Ordering) → is_eq o ≡ is_eq (ordering_then o Equal)
 then_Equal Less = refl
@@ -64,7 +71,8 @@ then_Equal Equal = refl
 then_Equal Greater = refl
 
 numbers_decide : (a b : ℕ) → Decides (int_eq (pos a) (pos b)) (a ≡ b)
-numbers_decide a b = let d = signed_Decides (pos a) (pos b) in (λ yes. let same : pos a ≡ pos b = d.0 yes in cc, λ same. d.1 (ap pos same))
+numbers_decide a b = let d = signed_Decides (pos a) (pos b) in
+    (λ yes. let same : pos a ≡ pos b = d.0 yes in cc, λ same. d.1 (ap pos same))
 
 -- the order answers `Equal` exactly where the forms are equal, and the leaves too
 form_ties : (a b : FormView) → forms_equal a b ≡ eq_by_cmp form_order a b
@@ -86,7 +94,8 @@ form_ties (same_form a) (whole_form b) = refl
 form_ties (same_form a) (same_form b) = one_answer _ _ (Decides-eqb a b) (numbers_decide a b)
 
 pub leaf_ties : (a b : LeafView) → leaves_equal a b ≡ eq_by_cmp leaf_order a b
-leaf_ties a b = both_tied _ _ (nat_cmp a.class b.class) (form_order a.form b.form) (unsigned_ties a.class b.class) (form_ties a.form b.form)
+leaf_ties a b = both_tied _ _ (nat_cmp a.class b.class) (form_order a.form b.form) (unsigned_ties a.class b.class)
+    (form_ties a.form b.form)
 
 -- the laws of callbacks
 pub cells_total : (c : CellCallbacks) → IsTotalOrder (cell_order c)

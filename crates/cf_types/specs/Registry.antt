@@ -9,7 +9,8 @@ use Rattle.cf_types.specs.declared.classes.Equality.TheVariants.{Identity}
 abbrev pub built_in_names : List (List ℕ)
 built_in_names =
     codes "Null" ∷ codes "Boolean" ∷ codes "String" ∷ codes "Data" ∷ codes "Number" ∷ codes "Array" ∷ codes "Dictionary"
-    ∷ codes "Set" ∷ codes "Bag" ∷ codes "BinaryHeap" ∷ codes "RunLoopSource" ∷ codes "RunLoopTimer" ∷ codes "RunLoopObserver" ∷ []
+    ∷ codes "Set" ∷ codes "Bag" ∷ codes "BinaryHeap" ∷ codes "RunLoopSource" ∷ codes "RunLoopTimer"
+    ∷ codes "RunLoopObserver" ∷ []
 
 -- a built-in type has no fields, and its class does not make objects with keys
 abbrev pub built_in : List ℕ → Class

@@ -1,3 +1,4 @@
+//! How collections treat their elements: by class and contents, or by identity.
 use crate::cells::Cell;
 use crate::hashing::{START, hash_on};
 use cf_callbacks::{Callbacks, Steps};

@@ -1,3 +1,4 @@
+//! The types of objects, and the names of those that are built in.
 ghost use Rattle.std.specs.Prelude.{◌≡◌, ◌-◌, [], ◌∷◌, ◌++◌, map, slice_get, OnOk, OnErr};
 ghost use Rattle.std.specs.Option.{option_map};
 ghost use Rattle.cf_types.specs.Registry.{built_in, built_in_names, has_name};
@@ -45,10 +46,11 @@ pub struct Class {
     pub name: Seq<u8>,
     /// How many fields an instance has.
     pub fields: u8,
+    /// What two instances are compared by.
     pub equality: Equality,
 }
 
-/// Puts a class behind the others. It copies the bytes of the name.
+/// Puts a class after the others. It copies the bytes of the name. `NoMemory` changes no class.
 pub(crate) fn add_class(
     alloc: Global,
     classes: &mut Vec<Class>,
@@ -69,7 +71,7 @@ pub(crate) fn add_class(
     Ok(())
 }
 
-/// Puts the built-in classes of these names behind the others.
+/// Puts the built-in classes of these names after the others. After `NoMemory` some of them may be there.
 pub(crate) fn add_built_in(
     alloc: Global,
     classes: &mut Vec<Class>,

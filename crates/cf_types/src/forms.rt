@@ -1,3 +1,4 @@
+//! What an object is compared by.
 ghost use Rattle.std.specs.Prelude.{◌≡◌, IfOk, fold};
 
 use crate::hashing::{hash_on, hash_text};

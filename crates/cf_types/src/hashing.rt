@@ -1,3 +1,4 @@
+//! The hash of bytes and of texts.
 ghost use Rattle.std.specs.Prelude.{◌≡◌, ◌∷◌, [], fold};
 ghost use Rattle.cf_types.specs.Hash.{hash_of, hash_step, leaf_bytes, utf8_of};
 ghost use Rattle.cf_types.specs.Views.{text_form};

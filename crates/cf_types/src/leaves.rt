@@ -1,3 +1,4 @@
+//! The type of an object and what it is compared by.
 ghost use Rattle.std.specs.Prelude.{◌≡◌, IfOk};
 ghost use Rattle.cf_types.specs.Hash.{hash_of, leaf_bytes};
 ghost use Rattle.cf_types.specs.Leaves.{leaf_order, leaves_equal};
@@ -12,7 +13,9 @@ use std::marker::Model;
 /// The type of an object and what it is compared by.
 #[derive(Drop)]
 pub struct Leaf {
+    /// The type of the object. Objects of different types are never equal.
     pub class: TypeId,
+    /// What it is compared by among objects of its type.
     pub form: Form,
 }
 

@@ -1,3 +1,4 @@
+//! The types of a script: the built-in ones, and those that it adds.
 ghost use Rattle.std.specs.Prelude.{◌≡◌, ◌+◌, ◌-◌, ◌≤◌, [], ◌∷◌, ◌++◌, length, slice_get, IfOk, OnOk, OnErr};
 ghost use Rattle.std.specs.Option.{option_copied};
 ghost use Rattle.cf_types.specs.Faults.{IsRefusedFor, register_fault};
@@ -13,10 +14,13 @@ use thiserror::Error;
 /// Why a class is not added.
 #[derive(Clone, Copy, Debug, Error)]
 pub enum RegisterFault {
+    /// There are 1,024 types, the most that there can be.
     #[error("there are 1,024 types")]
     Full,
+    /// A type has this name already.
     #[error("a type has this name")]
     Taken,
+    /// Memory could not be taken.
     #[error("out of memory")]
     NoMemory,
 }
@@ -48,7 +52,7 @@ impl Model for Registry {
 }
 
 impl Registry {
-    /// The 13 built-in types.
+    /// The 13 built-in types. `AllocError` comes for want of memory alone.
     pub fn new(alloc: Global) -> Result<Registry, AllocError>
         ensures { IfOk result (λ registry. registry ≡ built_in_classes) }
     {
@@ -57,8 +61,9 @@ impl Registry {
         Ok(Registry { classes })
     }
 
-    /// Adds a class behind the others, and answers its number. `Full` exactly where there are 1,024
-    /// types, and `Taken` exactly where there are fewer and one has the name.
+    /// Adds a class after the others, and answers its number. `Full` comes exactly where there are 1,024 types, `Taken`
+    /// exactly where there are fewer and one has the name, and `NoMemory` for want of memory alone. A refusal changes
+    /// nothing.
     pub fn register(
         &mut self,
         alloc: Global,

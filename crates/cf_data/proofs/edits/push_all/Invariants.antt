@@ -1,7 +1,7 @@
 use Rattle.std.proofs.Common.{◌≡◌, ◌+◌, ◌++◌, take, vec_len, vec_capacity}
 use Rattle.cf_data.proofs.edits.push_all.Given as goal
 
--- the bytes before the index stand behind the old ones
+-- the bytes before the index stand after the old ones
 abbrev pub invariant-loop-byte : goal.invariant-loop-byte
 invariant-loop-byte l = record {
   items : l.v.items ≡ l.initial.v.items ++ take l.byte-index l.b;

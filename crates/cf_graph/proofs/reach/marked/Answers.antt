@@ -10,7 +10,8 @@ follow-requires-clause-places c =
 pub loop-place-preserved : goal.loop-place-preserved
 loop-place-preserved c =
     let Walks : List ℕ → Type 0 = λ s. IsWalk c.args.edges.now c.loop-place.walk.marks.items s in
-    walk-more _ _ _ c.pop.new.self.items _ c.in-Some.place (subst Walks c.in-Some.ensures.items c.loop-place.invariant) c.in_ok-follow.ensures.grows
+    walk-more _ _ _ c.pop.new.self.items _ c.in-Some.place (subst Walks c.in-Some.ensures.items c.loop-place.invariant)
+    c.in_ok-follow.ensures.grows
 
 pub returns-clause-found : goal.returns-clause-found
 returns-clause-found c o =

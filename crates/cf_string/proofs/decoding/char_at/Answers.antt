@@ -3,7 +3,8 @@ use Rattle.cf_string.proofs.Lossy.{apart_at, last_at, pair_at}
 use Rattle.cf_string.proofs.decoding.char_at.Goals as goal
 
 pub returns-then-units-at-lt2-clause-first : goal.returns-then-units-at-lt2-clause-first
-returns-then-units-at-lt2-clause-first c = last_at c.args.units.now c.args.at _ c.requires (omega arith) c.lone_char.ensures
+returns-then-units-at-lt2-clause-first c =
+    last_at c.args.units.now c.args.at _ c.requires (omega arith) c.lone_char.ensures
 
 pub returns-then-is_pair-clause-first : goal.returns-then-is_pair-clause-first
 returns-then-is_pair-clause-first c =
@@ -11,4 +12,5 @@ returns-then-is_pair-clause-first c =
 
 pub returns-else-is_pair-clause-first : goal.returns-else-is_pair-clause-first
 returns-else-is_pair-clause-first c =
-    apart_at c.args.units.now c.args.at _ c.requires (sym c.is_pair.ensures ∙ c.if-is_pair.false) c.lone_char-else-is_pair.ensures
+    apart_at c.args.units.now c.args.at _ c.requires (sym c.is_pair.ensures ∙ c.if-is_pair.false)
+    c.lone_char-else-is_pair.ensures

@@ -7,6 +7,7 @@ use Rattle.cf_string.proofs.texts.units_of_text.Goals as goal
 
 pub returns : goal.returns
 returns c =
-    let end = YieldsList-end (YieldsList-from_chars c.args.text.now c.utf8.text cc) c.loop-character.yielded _ c.loop-character.yielded_by _ _ c.in-None.is c.next.ensures.steps in
+    let end = YieldsList-end (YieldsList-from_chars c.args.text.now c.utf8.text cc) c.loop-character.yielded _
+    c.loop-character.yielded_by _ _ c.in-None.is c.next.ensures.steps in
     let all : c.loop-character.yielded ≡ chars c.args.text.now = sym (map-id _) ∙ end.0 in
     rw (← all) c.loop-character.invariant

@@ -5,16 +5,21 @@ use Rattle.cf_basichash.proofs.rows.Rows.swap_key.Goals as goal
 
 pub invariant_of-self : goal.invariant_of-self
 invariant_of-self g c =
-    let there : slice_get c.self.inside.rows.items c.args.i ≡ Some c.index_mut-row.result.now = slice_get_read _ _ _ _ refl (rw (← c.self.view_is) at c.requires.below) c.index_mut-row.ensures.value in
-    let equal : g.C.Callbacks.same c.self.inside.callbacks c.args.k c.index_mut-row.result.now.0 ≡ true = (rw (← c.self.view_is) at c.requires.equal) _ there in
-    distinct_rekeyed _ (g.met.C.Callbacks.equivalence c.self.inside.callbacks) _ _ _ _ there (rw c.replace.ensures.after equal) c.self.invariant
+    let there : slice_get c.self.inside.rows.items c.args.i ≡ Some c.index_mut-row.result.now =
+    slice_get_read _ _ _ _ refl (rw (← c.self.view_is) at c.requires.below) c.index_mut-row.ensures.value in
+    let equal : g.C.Callbacks.same c.self.inside.callbacks c.args.k c.index_mut-row.result.now.0 ≡ true =
+    (rw (← c.self.view_is) at c.requires.equal) _ there in
+    distinct_rekeyed _ (g.met.C.Callbacks.equivalence c.self.inside.callbacks) _ _ _ _ there
+    (rw c.replace.ensures.after equal) c.self.invariant
 
 pub returns-clause-out : goal.returns-clause-out
 returns-clause-out g c =
-    let there : slice_get c.self.inside.rows.items c.args.i ≡ Some c.index_mut-row.result.now = slice_get_read _ _ _ _ refl (rw (← c.self.view_is) at c.requires.below) c.index_mut-row.ensures.value in
+    let there : slice_get c.self.inside.rows.items c.args.i ≡ Some c.index_mut-row.result.now =
+    slice_get_read _ _ _ _ refl (rw (← c.self.view_is) at c.requires.below) c.index_mut-row.ensures.value in
     rw (← c.self.view_is, there) c.replace.ensures.value
 
 pub returns-clause-rows : goal.returns-clause-rows
 returns-clause-rows g c =
-    let there : slice_get c.self.inside.rows.items c.args.i ≡ Some c.index_mut-row.result.now = slice_get_read _ _ _ _ refl (rw (← c.self.view_is) at c.requires.below) c.index_mut-row.ensures.value in
+    let there : slice_get c.self.inside.rows.items c.args.i ≡ Some c.index_mut-row.result.now =
+    slice_get_read _ _ _ _ refl (rw (← c.self.view_is) at c.requires.below) c.index_mut-row.ensures.value in
     rw (← c.self.view_is, there, c.replace.ensures.after)

@@ -7,7 +7,8 @@ use Rattle.cf_string.proofs.texts.Str.from_utf8.Goals as goal
 
 pub returns-in_default-clause-fault : goal.returns-in_default-clause-fault
 returns-in_default-clause-fault c =
-    let none : is_utf8 c.args.bytes.now ≡ false = false_from_ne_true _ (λ is. c.in_default.ensures.cases.0 (IsUtf8-from_is_utf8 _ is)) in
+    let none : is_utf8 c.args.bytes.now ≡ false =
+    false_from_ne_true _ (λ is. c.in_default.ensures.cases.0 (IsUtf8-from_is_utf8 _ is)) in
     rw none
 
 pub returns-in_err-units-clause-fault : goal.returns-in_err-units-clause-fault

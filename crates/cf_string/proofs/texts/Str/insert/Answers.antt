@@ -6,6 +6,7 @@ use Rattle.cf_string.proofs.texts.Str.insert.Goals as goal
 
 pub invariant_of-self : goal.invariant_of-self
 invariant_of-self c =
-    let put : c.put_in.new.units.items ≡ replaced c.self.inside.units.items c.args.at 0 c.other.inside.units.items = search rules in
+    let put : c.put_in.new.units.items ≡ replaced c.self.inside.units.items c.args.at 0 c.other.inside.units.items =
+    search rules in
     let none : cut_fault c.self.inside.units.items c.args.at 0 ≡ None = search rules in
     rw put (IsText-replaced _ c.args.at 0 _ c.self.invariant c.other.invariant none)

@@ -3,7 +3,8 @@ use Rattle.cf_string.specs.Faults.{cut_fault}
 use Rattle.cf_string.proofs.Validity.{IsText-part}
 use Rattle.cf_string.proofs.texts.Str.substring.Goals as goal
 
-part_is : (c : goal.In_ok-units) → c.in_ok-units.units.items ≡ take c.args.len (drop c.args.at c.self.inside.units.items)
+part_is : (c : goal.In_ok-units)
+    → c.in_ok-units.units.items ≡ take c.args.len (drop c.args.at c.self.inside.units.items)
 part_is c =
     let len : c.args.at + c.args.len - c.args.at ≡ c.args.len = omega arith in
     rw (c.in_ok-units.ensures.items, len, c.deref-2.ensures.value) refl

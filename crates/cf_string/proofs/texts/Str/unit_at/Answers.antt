@@ -7,7 +7,8 @@ use denote.Ref.{Bor}
 use Rattle.cf_string.proofs.texts.Str.unit_at.Goals as goal
 
 -- what is lent is the element
-item_is : (xs : List ℕ) (i : ℕ) (r : Option (Bor ℕ)) → IsItemAt xs i r → option_map (λ (x : Bor ℕ). x.now) r ≡ slice_get xs i
+item_is : (xs : List ℕ) (i : ℕ) (r : Option (Bor ℕ)) → IsItemAt xs i r
+    → option_map (λ (x : Bor ℕ). x.now) r ≡ slice_get xs i
 item_is xs i None item = sym (slice_get_past xs i item.3)
 item_is xs i (Some x) item = ap (λ n. Some n) (item.3.1 0) ∙ sym (slice_get-get_or xs i 0 item.3.0)
 

@@ -18,4 +18,5 @@ returns-clause-utf8 c = rw c.into_bytes.ensures.value (IsUtf8-string_bytes c.in-
 pub returns-clause-units : goal.returns-clause-units
 returns-clause-units c =
     let said = rw c.in-Ok.is at c.in_ok-text.ensures.ok in
-    rw (c.into_bytes.ensures.value, ← c.self.view_is) (units_of-chars said.0 _ (IsUtf8-string_bytes c.in-Ok.text) said.2 ∙ sym said.1 ∙ c.deref.ensures.value)
+    rw (c.into_bytes.ensures.value, ← c.self.view_is)
+    (units_of-chars said.0 _ (IsUtf8-string_bytes c.in-Ok.text) said.2 ∙ sym said.1 ∙ c.deref.ensures.value)

@@ -7,7 +7,8 @@ use Rattle.std.specs.Option.{option_and_then}
 use Rattle.cf_links.specs.Lists.{is_in, node_before, put_before, put_after, without, nodes_of, list_of, prev_of}
 
 -- an edit of each list, which leaves no nodes where there are none
-pub nodes_of-map : (f : List ℕ → List ℕ) → f [] ≡ [] → (lists : List (List ℕ)) (l : ℕ) → nodes_of (map f lists) l ≡ f (nodes_of lists l)
+pub nodes_of-map : (f : List ℕ → List ℕ) → f [] ≡ [] → (lists : List (List ℕ)) (l : ℕ)
+    → nodes_of (map f lists) l ≡ f (nodes_of lists l)
 nodes_of-map f none [] l = sym none
 nodes_of-map f none (ns ∷ rest) zero = refl
 nodes_of-map f none (ns ∷ rest) (suc l) = nodes_of-map f none rest l
@@ -48,14 +49,6 @@ is_in-put_before at n (m ∷ ms) among =
       | inr miss ↦ rw miss (or_right (eqb n m) _ (is_in-put_before at n ms (rw miss at among)))
     ]
 
-pub is_in-put_after : (at n : ℕ) (ns : List ℕ) → is_in at ns ≡ true → is_in n (put_after at n ns) ≡ true
-is_in-put_after at n [] among = absurd (false≢true among)
-is_in-put_after at n (m ∷ ms) among =
-    elim (cases_Bool (eqb at m)) [
-      | inl hit ↦ rw (hit, eq-eqb n n refl) (or_right (eqb n m) true refl)
-      | inr miss ↦ rw miss (or_right (eqb n m) _ (is_in-put_after at n ms (rw miss at among)))
-    ]
-
 -- a node that stays is in
 pub is_in-without : (n k : ℕ) (ns : List ℕ) → k ≢ n → is_in k ns ≡ true → is_in k (without n ns) ≡ true
 is_in-without n k [] apart among = absurd (false≢true among)
@@ -71,15 +64,19 @@ is_in-without n k (m ∷ ms) apart among =
     ]
 
 -- a node is in the one list whose nodes it is among
-pub list_of_is : (lists : List (List ℕ)) (n l : ℕ) → is_in n (nodes_of lists l) ≡ true → ((k : ℕ) → k ≢ l → is_in n (nodes_of lists k) ≡ false) → list_of lists n ≡ Some l
+pub list_of_is : (lists : List (List ℕ)) (n l : ℕ) → is_in n (nodes_of lists l) ≡ true
+    → ((k : ℕ) → k ≢ l → is_in n (nodes_of lists k) ≡ false) → list_of lists n ≡ Some l
 list_of_is lists n l among others =
     let within = made_from_in lists l n among in
-    let first = position_or_len_is (is_in n) lists l [] (omega arith) (λ k below. others k (omega arith)) (λ _. among) in
+    let first = position_or_len_is (is_in n) lists l [] (omega arith) (λ k below. others k (omega arith))
+    (λ _. among) in
     rw (first, lt-ltb l (length lists) within) refl
 
-pub list_of_none : (lists : List (List ℕ)) (n : ℕ) → ((k : ℕ) → is_in n (nodes_of lists k) ≡ false) → list_of lists n ≡ None
+pub list_of_none : (lists : List (List ℕ)) (n : ℕ) → ((k : ℕ) → is_in n (nodes_of lists k) ≡ false)
+    → list_of lists n ≡ None
 list_of_none lists n others =
-    let first = position_or_len_is (is_in n) lists (length lists) [] (omega arith) (λ k below. others k) (λ within. absurd (omega arith)) in
+    let first = position_or_len_is (is_in n) lists (length lists) [] (omega arith) (λ k below. others k)
+    (λ within. absurd (omega arith)) in
     rw (first, le-ltb (length lists) (length lists) (omega arith)) refl
 
 -- no node comes before itself
@@ -88,7 +85,8 @@ node_before_other front n [] apart = λ same. absurd (cc)
 node_before_other front n (m ∷ ms) apart =
     elim (cases_eq n m) [
       | inl same ↦ rw (eq-eqb n m same) apart
-      | inr differs ↦ rw (ne_eqb n m differs) (node_before_other (Some m) n ms (λ e. differs (let here : m ≡ n = cc in sym here)))
+      | inr differs ↦ rw (ne_eqb n m differs) (node_before_other (Some m) n ms
+          (λ e. differs (let here : m ≡ n = cc in sym here)))
     ]
 
 pub prev_of_other : (lists : List (List ℕ)) (n : ℕ) → prev_of lists n ≢ Some n

@@ -19,7 +19,8 @@ place_from_in n (m ∷ ms) among =
 pub in_from_place : (n : ℕ) (ns : List ℕ) (i : ℕ) → slice_get ns i ≡ Some n → is_in n ns ≡ true
 in_from_place n ns i found = any_passes_from_place (eqb n) ns i n found (eq-eqb n n refl)
 
-node_after_place : (n : ℕ) (ns : List ℕ) (i : ℕ) → slice_get ns i ≡ Some n → ((j : ℕ) → slice_get ns j ≡ Some n → j ≡ i) → node_after n ns ≡ slice_get ns (suc i)
+node_after_place : (n : ℕ) (ns : List ℕ) (i : ℕ) → slice_get ns i ≡ Some n → ((j : ℕ) → slice_get ns j ≡ Some n → j ≡ i)
+    → node_after n ns ≡ slice_get ns (suc i)
 node_after_place n [] i found once = absurd (cc)
 node_after_place n (m ∷ ms) zero found once = let here : m ≡ n = cc in rw (eq-eqb n m (sym here)) refl
 node_after_place n (m ∷ ms) (suc i) found once =
@@ -31,7 +32,8 @@ place_before : Option ℕ → List ℕ → ℕ → Option ℕ
 place_before front ns zero = front
 place_before front ns (suc i) = slice_get ns i
 
-node_before_place : (front : Option ℕ) (n : ℕ) (ns : List ℕ) (i : ℕ) → slice_get ns i ≡ Some n → ((j : ℕ) → slice_get ns j ≡ Some n → j ≡ i) → node_before front n ns ≡ place_before front ns i
+node_before_place : (front : Option ℕ) (n : ℕ) (ns : List ℕ) (i : ℕ) → slice_get ns i ≡ Some n
+    → ((j : ℕ) → slice_get ns j ≡ Some n → j ≡ i) → node_before front n ns ≡ place_before front ns i
 unfolding place_before
 node_before_place front n [] i found once = absurd (cc)
 node_before_place front n (m ∷ ms) zero found once = let here : m ≡ n = cc in rw (eq-eqb n m (sym here)) refl
@@ -56,41 +58,48 @@ module _ {T : Type 0} (s : Lists T) (valid : IsValid s) (l i n : ℕ) where
       apart (valid.one_place k l there.0 i n there.1 here).0))
 
   -- the node after it is at the next place
-  pub next_of_place : slice_get (nodes_of s.lists l) i ≡ Some n → next_of s.lists n ≡ slice_get (nodes_of s.lists l) (suc i)
+  pub next_of_place : slice_get (nodes_of s.lists l) i ≡ Some n
+      → next_of s.lists n ≡ slice_get (nodes_of s.lists l) (suc i)
   next_of_place here = rw (list_of_place here) (node_after_place n (nodes_of s.lists l) i here (once here))
 
   prev_at : slice_get (nodes_of s.lists l) i ≡ Some n → prev_of s.lists n ≡ place_before None (nodes_of s.lists l) i
   prev_at here = rw (list_of_place here) (node_before_place None n (nodes_of s.lists l) i here (once here))
 
 -- the node before one is at the place before, and none is before the first
-pub prev_of_place : {T : Type 0} (s : Lists T) (valid : IsValid s) (l i n : ℕ) → slice_get (nodes_of s.lists l) (suc i) ≡ Some n → prev_of s.lists n ≡ slice_get (nodes_of s.lists l) i
+pub prev_of_place : {T : Type 0} (s : Lists T) (valid : IsValid s) (l i n : ℕ)
+    → slice_get (nodes_of s.lists l) (suc i) ≡ Some n → prev_of s.lists n ≡ slice_get (nodes_of s.lists l) i
 unfolding place_before
 prev_of_place s valid l i n here = prev_at s valid l (suc i) n here
 
-pub prev_of_first : {T : Type 0} (s : Lists T) (valid : IsValid s) (l n : ℕ) → slice_get (nodes_of s.lists l) 0 ≡ Some n → prev_of s.lists n ≡ None
+pub prev_of_first : {T : Type 0} (s : Lists T) (valid : IsValid s) (l n : ℕ) → slice_get (nodes_of s.lists l) 0 ≡ Some n
+    → prev_of s.lists n ≡ None
 unfolding place_before
 prev_of_first s valid l n here = prev_at s valid l 0 n here
 
 -- a node that has a place in no list is in none
-pub list_of_outside : (lists : List (List ℕ)) (n : ℕ) → ((l i : ℕ) → slice_get (nodes_of lists l) i ≢ Some n) → list_of lists n ≡ None
+pub list_of_outside : (lists : List (List ℕ)) (n : ℕ) → ((l i : ℕ) → slice_get (nodes_of lists l) i ≢ Some n)
+    → list_of lists n ≡ None
 list_of_outside lists n outside =
     list_of_none lists n (λ l. false_from_ne_true (is_in n (nodes_of lists l)) (λ among.
     let there = place_from_in n (nodes_of lists l) among in outside l there.0 there.1))
 
 -- ---- an edit round a node that comes once
-pub put_before_at : (at n : ℕ) (front back : List ℕ) → is_in at front ≡ false → is_in at back ≡ false → put_before at n (front ++ at ∷ back) ≡ front ++ n ∷ at ∷ back
+pub put_before_at : (at n : ℕ) (front back : List ℕ) → is_in at front ≡ false → is_in at back ≡ false
+    → put_before at n (front ++ at ∷ back) ≡ front ++ n ∷ at ∷ back
 put_before_at at n [] back before after = rw (eq-eqb at at refl, put_before_none at n back after) refl
 put_before_at at n (m ∷ ms) back before after =
     let parts = or_parts (eqb at m) (is_in at ms) before in
     rw (parts.0, put_before_at at n ms back parts.1 after) refl
 
-pub put_after_at : (at n : ℕ) (front back : List ℕ) → is_in at front ≡ false → is_in at back ≡ false → put_after at n (front ++ at ∷ back) ≡ front ++ at ∷ n ∷ back
+pub put_after_at : (at n : ℕ) (front back : List ℕ) → is_in at front ≡ false → is_in at back ≡ false
+    → put_after at n (front ++ at ∷ back) ≡ front ++ at ∷ n ∷ back
 put_after_at at n [] back before after = rw (eq-eqb at at refl, put_after_none at n back after) refl
 put_after_at at n (m ∷ ms) back before after =
     let parts = or_parts (eqb at m) (is_in at ms) before in
     rw (parts.0, put_after_at at n ms back parts.1 after) refl
 
-pub without_at : (n : ℕ) (front back : List ℕ) → is_in n front ≡ false → is_in n back ≡ false → without n (front ++ n ∷ back) ≡ front ++ back
+pub without_at : (n : ℕ) (front back : List ℕ) → is_in n front ≡ false → is_in n back ≡ false
+    → without n (front ++ n ∷ back) ≡ front ++ back
 without_at n [] back before after = rw (eq-eqb n n refl) (without_none n back after)
 without_at n (m ∷ ms) back before after =
     let parts = or_parts (eqb n m) (is_in n ms) before in
@@ -108,15 +117,19 @@ slice_get_back (m ∷ ms) back i =
     rw shift (slice_get_back ms back i)
 
 -- the other nodes of a list are not n
-pub split_apart : {T : Type 0} (s : Lists T) (valid : IsValid s) (l n : ℕ) (front back : List ℕ) → nodes_of s.lists l ≡ front ++ n ∷ back → (is_in n front ≡ false) × (is_in n back ≡ false)
+pub split_apart : {T : Type 0} (s : Lists T) (valid : IsValid s) (l n : ℕ) (front back : List ℕ)
+    → nodes_of s.lists l ≡ front ++ n ∷ back → (is_in n front ≡ false) × (is_in n back ≡ false)
 split_apart s valid l n front back split =
-    let here : slice_get (nodes_of s.lists l) (length front + 0) ≡ Some n = rw split (slice_get_back front (n ∷ back) 0) in (
+    let here : slice_get (nodes_of s.lists l) (length front + 0) ≡ Some n =
+    rw split (slice_get_back front (n ∷ back) 0) in (
       false_from_ne_true (is_in n front) (λ among.
           let place = place_from_in n front among in
-          let there : slice_get (nodes_of s.lists l) place.0 ≡ Some n = rw split (slice_get_front front (n ∷ back) place.0 n place.1) in
+          let there : slice_get (nodes_of s.lists l) place.0 ≡ Some n =
+          rw split (slice_get_front front (n ∷ back) place.0 n place.1) in
           absurd (omega (arith, slice_get_within front place.0 n place.1, (valid.one_place l l _ _ n here there).1))),
       false_from_ne_true (is_in n back) (λ among.
           let place = place_from_in n back among in
-          let there : slice_get (nodes_of s.lists l) (length front + suc place.0) ≡ Some n = rw split (slice_get_back front (n ∷ back) (suc place.0) ∙ place.1) in
+          let there : slice_get (nodes_of s.lists l) (length front + suc place.0) ≡ Some n =
+          rw split (slice_get_back front (n ∷ back) (suc place.0) ∙ place.1) in
           absurd (omega (arith, (valid.one_place l l _ _ n here there).1))),
     )

@@ -1,3 +1,4 @@
+mod Turned
 mod Chains
 mod Edits
 pub mod Laws

@@ -1,10 +1,11 @@
 -- How a `Links` keeps its lists. No public clause cites this module. All definitions here are this
 -- project's own.
-use Rattle.std.specs.Prelude.{◌≡◌, ◌-◌, ℕ, List, map, length, Option, None, IsSome, slice_get, slice_index_or, Vec, vec_len, vec_capacity}
-use Rattle.std.specs.Option.{option_and_then, option_map}
+use Rattle.std.specs.Prelude.{◌≡◌, ◌≢◌, ◌-◌, ◌<◌, ℕ, List, map, length, Option, None, Some, IsSome, slice_get, slice_index_or, Vec, vec_len, vec_capacity}
+use Rattle.std.specs.Option.{ForSome, option_and_then, option_map}
 use Rattle.slab.specs.Slab.{Slab, get, slab_len}
 use Rattle.cf_links.specs.declared.joins.Entry.{Entry}
 use Rattle.cf_links.specs.declared.joins.Ends.{Ends}
+use Rattle.cf_links.specs.declared.joins.Gap.{Gap}
 use Rattle.cf_links.specs.Lists.{Lists}
 use Rattle.cf_links.specs.Chain.{Web, AreLists, walk}
 
@@ -49,3 +50,12 @@ module _ {T : Type 0} where
   -- the node is there
   abbrev pub IsThere : Slab (Entry T) → ℕ → Type 0
   IsThere nodes n = IsSome (slice_index_or (values_of nodes) n None)
+
+  -- n can stand in this gap of the list l: the nodes are there, n is neither of its neighbours, and the list was made
+  pub record CanStand (nodes : Slab (Entry T)) (ends : List Ends) (l n : ℕ) (gap : Gap) : Type 0 where
+    pub there : IsThere nodes n
+    pub from_there : ForSome gap.from (λ b. IsThere nodes b)
+    pub to_there : ForSome gap.to (λ b. IsThere nodes b)
+    pub before : gap.from ≢ Some n
+    pub after : gap.to ≢ Some n
+    pub made : l < length ends

@@ -1,3 +1,4 @@
 pub mod Lists
 pub mod Chain
+pub mod Sides
 pub mod Fields

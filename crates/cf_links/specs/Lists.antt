@@ -62,7 +62,8 @@ loose_value s n = if is_some (list_of s.lists n) then None else value_at s n
 
 -- a node is in one list at most and in one place of it, and it is there
 pub record IsValid {T : Type 0} (s : Lists T) : Type 0 where
-  pub one_place : (k l i j n : ℕ) → slice_get (nodes_of s.lists k) i ≡ Some n → slice_get (nodes_of s.lists l) j ≡ Some n → (k ≡ l) × (i ≡ j)
+  pub one_place : (k l i j n : ℕ) → slice_get (nodes_of s.lists k) i ≡ Some n
+      → slice_get (nodes_of s.lists l) j ≡ Some n → (k ≡ l) × (i ≡ j)
   pub there : (l i n : ℕ) → slice_get (nodes_of s.lists l) i ≡ Some n → IsSome (value_at s n)
 
 -- the lists, with n as the first node of the list l

@@ -1,9 +1,10 @@
 //! The links of nodes and lists, and the steps that change them.
-ghost use Rattle.std.specs.Prelude.{◌≡◌, ◌≢◌, ◌<◌, List, None, Some, length};
+ghost use Rattle.std.specs.Prelude.{◌≡◌, ◌<◌, List, None, Some, length};
 ghost use Rattle.cf_links.specs.declared.joins.Ends.{Ends};
 ghost use Rattle.std.specs.Option.{ForSome};
 ghost use Rattle.cf_links.specs.Chain.{Leads, turned, Joins, Marks, Clears, Puts, Removes};
-ghost use Rattle.cf_links.specs.Fields.{IsThere, SameNodes, web_of};
+ghost use Rattle.cf_links.specs.Fields.{CanStand, IsThere, SameNodes, web_of};
+ghost use Rattle.cf_links.specs.Sides.{end_gap, gap_beside};
 
 use crate::numbers::{ListId, Node};
 use slab::Slab;
@@ -22,6 +23,52 @@ pub struct Entry<T> {
 pub struct Ends {
     pub first: Option<Node>,
     pub last: Option<Node>,
+}
+
+// One of the two sides of a node among the others of its list; of a list, the front or the end.
+#[derive(Clone, Copy)]
+pub enum Side {
+    Before,
+    After,
+}
+
+// Two that are joined, between which a node comes in or stands. `None` stands for the list itself.
+#[derive(Clone, Copy)]
+pub struct Gap {
+    pub from: Option<Node>,
+    pub to: Option<Node>,
+}
+
+// The gap at one end of a list.
+pub fn end_gap(side: Side, ends: Ends) -> Gap
+    ensures { result ≡ end_gap side ends.first ends.last }
+{
+    match side {
+        Side::Before => Gap {
+            from: None,
+            to: ends.first,
+        },
+        Side::After => Gap {
+            from: ends.last,
+            to: None,
+        },
+    }
+}
+
+// The gap beside a node with these neighbours.
+pub fn gap_beside(side: Side, at: Node, prev: Option<Node>, next: Option<Node>) -> Gap
+    ensures { result ≡ gap_beside side at prev next }
+{
+    match side {
+        Side::Before => Gap {
+            from: prev,
+            to: Some(at),
+        },
+        Side::After => Gap {
+            from: Some(at),
+            to: next,
+        },
+    }
 }
 
 // Lets the link onwards from `from`, or from the list itself, lead to `to`.
@@ -119,49 +166,25 @@ fn clear<T>(nodes: &mut Slab<Entry<T>>, n: Node)
     entry.next = None;
 }
 
-// Puts a node into a list between two that are joined.
-pub fn put<T>(
-    nodes: &mut Slab<Entry<T>>,
-    ends: &mut [Ends],
-    list: ListId,
-    n: Node,
-    from: Option<Node>,
-    to: Option<Node>,
-)
-    requires there { IsThere nodes.old n }
-    requires from_there { ForSome from (λ b. IsThere nodes.old b) }
-    requires to_there { ForSome to (λ b. IsThere nodes.old b) }
-    requires before { from ≢ Some n }
-    requires after { to ≢ Some n }
-    requires made { list < length ends.old }
-    ensures puts { Puts (web_of nodes.old ends.old) (web_of nodes.new ends.new) list n from to }
+// Puts a node into a list, in a gap of it.
+pub fn put<T>(nodes: &mut Slab<Entry<T>>, ends: &mut [Ends], list: ListId, n: Node, gap: Gap)
+    requires { CanStand nodes.old ends.old list n gap }
+    ensures puts { Puts (web_of nodes.old ends.old) (web_of nodes.new ends.new) list n gap.from gap.to }
     ensures same { SameNodes nodes.old nodes.new }
     ensures count { length ends.new ≡ length ends.old }
 {
-    join(nodes, ends, list, from, Some(n));
-    join(nodes, ends, list, Some(n), to);
+    join(nodes, ends, list, gap.from, Some(n));
+    join(nodes, ends, list, Some(n), gap.to);
     mark(nodes, n, list);
 }
 
-// Removes a node from a list, where it stands between `from` and `to`.
-pub fn remove<T>(
-    nodes: &mut Slab<Entry<T>>,
-    ends: &mut [Ends],
-    list: ListId,
-    n: Node,
-    from: Option<Node>,
-    to: Option<Node>,
-)
-    requires there { IsThere nodes.old n }
-    requires from_there { ForSome from (λ b. IsThere nodes.old b) }
-    requires to_there { ForSome to (λ b. IsThere nodes.old b) }
-    requires before { from ≢ Some n }
-    requires after { to ≢ Some n }
-    requires made { list < length ends.old }
-    ensures removes { Removes (web_of nodes.old ends.old) (web_of nodes.new ends.new) list n from to }
+// Removes a node from a list, where it stands in this gap.
+pub fn remove<T>(nodes: &mut Slab<Entry<T>>, ends: &mut [Ends], list: ListId, n: Node, gap: Gap)
+    requires { CanStand nodes.old ends.old list n gap }
+    ensures removes { Removes (web_of nodes.old ends.old) (web_of nodes.new ends.new) list n gap.from gap.to }
     ensures same { SameNodes nodes.old nodes.new }
     ensures count { length ends.new ≡ length ends.old }
 {
-    join(nodes, ends, list, from, to);
+    join(nodes, ends, list, gap.from, gap.to);
     clear(nodes, n);
 }

@@ -1,10 +1,11 @@
 //! Lists whose nodes name their neighbours by numbers.
 ghost use Rattle.std.specs.Prelude.{◌≡◌, ◌≢◌, ◌+◌, ◌-◌, ◌<◌, ◌≤◌, ◌++◌, ◌∷◌, [], ℕ, map, length, slice_get, slice_set, Some, None, IsOk, IsSome, IfNone, OnOk, OnErr, OnSome, option_copied, vec_len, vec_capacity};
 ghost use Rattle.slab.specs.Slab.{slab_len};
+ghost use Rattle.cf_links.specs.Sides.{with_end, put_beside};
 ghost use Rattle.cf_links.specs.Lists.{value_at, loose_value, nodes_of, list_of, next_of, prev_of, with_first, with_last, put_before, put_after, without, without_node, IsValid};
 
 use crate::NoMemory;
-use crate::joins::{Ends, Entry, put, remove};
+use crate::joins::{Ends, Entry, Gap, Side, end_gap, gap_beside, put, remove};
 use crate::numbers::{ListId, Node};
 use slab::Slab;
 use std::alloc::Global;
@@ -113,8 +114,7 @@ impl<T> Links<T> {
         requires made { l < length self.old.lists }
         ensures pushed { self.new ≡ record self.old { lists = with_last self.old.lists l n } }
     {
-        let last = self.ends[l.0].last;
-        put(&mut self.nodes, self.ends.as_mut_slice(), l, n, last, None);
+        self.push(Side::After, l, n);
     }
 
     /// Puts a node at the front of a list.
@@ -124,8 +124,18 @@ impl<T> Links<T> {
         requires made { l < length self.old.lists }
         ensures pushed { self.new ≡ record self.old { lists = with_first self.old.lists l n } }
     {
-        let first = self.ends[l.0].first;
-        put(&mut self.nodes, self.ends.as_mut_slice(), l, n, None, first);
+        self.push(Side::Before, l, n);
+    }
+
+    // Puts a node at one end of a list.
+    fn push(&mut self, side: Side, l: ListId, n: Node)
+        requires there { IsSome (value_at self.old n) }
+        requires loose { list_of self.old.lists n ≡ None }
+        requires made { l < length self.old.lists }
+        ensures pushed { self.new ≡ record self.old { lists = with_end side self.old.lists l n } }
+    {
+        let gap = end_gap(side, self.ends[l.0]);
+        put(&mut self.nodes, self.ends.as_mut_slice(), l, n, gap);
     }
 
     /// Puts the node `n` right before `at`, into the same list.
@@ -135,17 +145,7 @@ impl<T> Links<T> {
         requires linked { IsSome (list_of self.old.lists at) }
         ensures inserted { self.new ≡ record self.old { lists = map (put_before at n) self.old.lists } }
     {
-        if let Some(list) = self.list_of(at) {
-            let prev = self.prev(at);
-            put(
-                &mut self.nodes,
-                self.ends.as_mut_slice(),
-                list,
-                n,
-                prev,
-                Some(at),
-            );
-        }
+        self.insert(Side::Before, at, n);
     }
 
     /// Puts the node `n` right after `at`, into the same list.
@@ -155,16 +155,19 @@ impl<T> Links<T> {
         requires linked { IsSome (list_of self.old.lists at) }
         ensures inserted { self.new ≡ record self.old { lists = map (put_after at n) self.old.lists } }
     {
+        self.insert(Side::After, at, n);
+    }
+
+    // Puts the node `n` right beside `at`, into the same list.
+    fn insert(&mut self, side: Side, at: Node, n: Node)
+        requires there { IsSome (value_at self.old n) }
+        requires loose { list_of self.old.lists n ≡ None }
+        requires linked { IsSome (list_of self.old.lists at) }
+        ensures inserted { self.new ≡ record self.old { lists = map (put_beside side at n) self.old.lists } }
+    {
         if let Some(list) = self.list_of(at) {
-            let next = self.next(at);
-            put(
-                &mut self.nodes,
-                self.ends.as_mut_slice(),
-                list,
-                n,
-                Some(at),
-                next,
-            );
+            let gap = gap_beside(side, at, self.prev(at), self.next(at));
+            put(&mut self.nodes, self.ends.as_mut_slice(), list, n, gap);
         }
     }
 
@@ -174,16 +177,11 @@ impl<T> Links<T> {
         ensures unlinked { self.new ≡ record self.old { lists = map (without n) self.old.lists } }
     {
         if let Some(list) = self.list_of(n) {
-            let prev = self.prev(n);
-            let next = self.next(n);
-            remove(
-                &mut self.nodes,
-                self.ends.as_mut_slice(),
-                list,
-                n,
-                prev,
-                next,
-            );
+            let gap = Gap {
+                from: self.prev(n),
+                to: self.next(n),
+            };
+            remove(&mut self.nodes, self.ends.as_mut_slice(), list, n, gap);
         }
     }
 

@@ -3,4 +3,6 @@ use Rattle.cf_links.proofs.FieldLemmas.{valid_seen}
 use Rattle.cf_links.proofs.links.Links.value.Goals as goal
 
 pub returns-clause-valid : goal.returns-clause-valid
-returns-clause-valid g c = valid_seen c.self.inside.nodes c.self.inside.ends.items _ c.self.invariant (ap (λ s. s.lists) c.self.view_is) (ap (λ s. s.values) c.self.view_is)
+returns-clause-valid g c =
+    valid_seen c.self.inside.nodes c.self.inside.ends.items _ c.self.invariant (ap (λ s. s.lists) c.self.view_is)
+    (ap (λ s. s.values) c.self.view_is)

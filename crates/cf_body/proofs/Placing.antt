@@ -6,8 +6,8 @@ use Rattle.std.specs.List.{splice, remove}
 use Rattle.std.proofs.lemmas.Bool.{cases_lt}
 use Rattle.std.proofs.lemmas.Option.{slice_get_read, slice_get_within}
 use Rattle.cf_types.specs.declared.cells.Cell.{Cell}
-use Rattle.cf_contents.specs.Contents.{Content, text_content, data_content, number_content, instance_content, array_content, dictionary_content, present, flat, unless_plain, slots_in}
-use Rattle.cf_body.specs.Bodies.{members_in, member_limit}
+use Rattle.cf_contents.specs.Contents.{Content, text_content, data_content, number_content, instance_content, array_content, dictionary_content, present, flat, unless_plain, slots_in, member_limit}
+use Rattle.cf_body.specs.Bodies.{members_in}
 use Rattle.cf_body.specs.Changes.{DoneTo}
 use Rattle.cf_body.specs.Pairs.{numbers_in}
 use Rattle.cf_body.specs.declared.change.Change.TheVariants.{Replace, Remove, Fill, Clear}

@@ -40,7 +40,7 @@ room_of (Instance i) = 0
 room_of (Array plain elements) = elements.room
 room_of (Dictionary pairs) = pairs.room
 
--- how many members there are: fields, elements or pairs. A body has fewer than this limit
+-- how many members there are: fields, elements or pairs
 abbrev pub members_in : Content → ℕ
 members_in (text_content mutable units) = 0
 members_in (data_content mutable bytes) = 0
@@ -48,9 +48,6 @@ members_in (number_content n) = 0
 members_in (instance_content key fields) = length fields
 members_in (array_content plain elements) = length elements
 members_in (dictionary_content plain pairs) = length pairs
-
-abbrev pub member_limit : ℕ
-member_limit = 2147483648
 
 -- the words of the members
 abbrev pub words_of : Content → List (List ℕ)

@@ -1,11 +1,11 @@
 -- Changes of bodies, with the objects that come in.
 use Rattle.std.specs.Prelude.{◌≡◌, ℕ, true, ◌+◌, ◌<◌, ◌≤◌, List, [], ◌∷◌, length, Option, Some, None}
 use Rattle.cf_string.specs.Faults.{cut_fault}
-use Rattle.cf_contents.specs.Contents.{Content, text_content, data_content, instance_content, array_content, dictionary_content, present}
+use Rattle.cf_contents.specs.Contents.{Content, text_content, data_content, instance_content, array_content, dictionary_content, member_limit, present}
 use Rattle.cf_contents.specs.Deeds as deeds
-use Rattle.cf_body.specs.Bodies.{BodyView, members_in, member_limit}
+use Rattle.cf_body.specs.Bodies.{BodyView, members_in}
 use Rattle.cf_body.specs.declared.change.Change.{Change}
-use Rattle.cf_body.specs.declared.change.Change.TheVariants.{Nothing, Text, Data, Insert, Replace, Remove, Fill, Clear, Put, Take}
+use Rattle.cf_body.specs.declared.change.Change.TheVariants.{Nothing, Text, Data, Insert, Replace, Remove, Fill, Clear, PutPair, RemovePair}
 use Rattle.cf_body.specs.declared.change.Moved.{Moved}
 
 -- an edit of places
@@ -22,8 +22,8 @@ done_of (Replace at element) = places at 1 (Some element ∷ [])
 done_of (Remove at) = places at 1 []
 done_of (Fill at element) = places at 1 (Some element ∷ [])
 done_of (Clear at) = places at 1 (None ∷ [])
-done_of (Put key value) = deeds.put_pair key.leaf (Some key.id) (Some value)
-done_of (Take key) = deeds.take_pair key
+done_of (PutPair key value) = deeds.put_pair key value
+done_of (RemovePair key) = deeds.remove_pair key
 
 -- a content can be changed so: it is of the kind, and the places are within it
 abbrev pub CanBe : Change → Content → Type 0
@@ -35,8 +35,8 @@ CanBe (Replace at element) (array_content plain os) = at ≤ length os
 CanBe (Remove at) (array_content plain os) = at < length os
 CanBe (Fill at element) (instance_content key fields) = at < length fields
 CanBe (Clear at) (instance_content key fields) = at < length fields
-CanBe (Put key value) (dictionary_content plain pairs) = Unit {0}
-CanBe (Take key) (dictionary_content plain pairs) = Unit {0}
+CanBe (PutPair key value) (dictionary_content plain pairs) = Unit {0}
+CanBe (RemovePair key) (dictionary_content plain pairs) = Unit {0}
 CanBe _ _ = ⊥
 
 -- for how many units, bytes, elements or pairs a change needs room, and by how many members it grows a body at most
@@ -49,8 +49,8 @@ room_for (Replace at element) = 1
 room_for (Remove at) = 0
 room_for (Fill at element) = 0
 room_for (Clear at) = 0
-room_for (Put key value) = 1
-room_for (Take key) = 0
+room_for (PutPair key value) = 1
+room_for (RemovePair key) = 0
 
 abbrev pub members_for : Change → ℕ
 members_for Nothing = 0
@@ -61,8 +61,8 @@ members_for (Replace at element) = 1
 members_for (Remove at) = 0
 members_for (Fill at element) = 0
 members_for (Clear at) = 0
-members_for (Put key value) = 1
-members_for (Take key) = 0
+members_for (PutPair key value) = 1
+members_for (RemovePair key) = 0
 
 -- there is room for what comes in
 pub record HasRoom (change : Change) (b : BodyView) : Type 0 where

@@ -1,6 +1,7 @@
 //! What an object is made of.
 ghost use Rattle.std.specs.Prelude.{◌≡◌, ◌<◌};
-ghost use Rattle.cf_body.specs.Bodies.{content_of, held_of, members_in, member_limit};
+ghost use Rattle.cf_contents.specs.Contents.{member_limit};
+ghost use Rattle.cf_body.specs.Bodies.{content_of, held_of, members_in};
 ghost use Rattle.cf_contents.specs.Stores.{live};
 
 use crate::pairs::Pairs;
@@ -10,9 +11,6 @@ use cf_ids::{ObjId, TypeId};
 use cf_number::Num;
 use cf_string::Str;
 use std::marker::Model;
-
-/// A body has fewer members than this: fields, elements or pairs.
-pub(crate) const MEMBER_LIMIT: usize = 2_147_483_648;
 
 /// The key and the fields of an instance of a script's class.
 #[derive(Drop)]
@@ -38,25 +36,6 @@ pub enum Kind {
     Dictionary(Pairs),
 }
 
-/// An object that is new. Contracts see its type, and what it contains.
-#[derive(Drop)]
-pub struct Made {
-    class: TypeId,
-    kind: Kind,
-}
-
-impl Model for Made {
-    ghost use Rattle.std.specs.Prelude.{◌<◌};
-    ghost use Rattle.cf_contents.specs.Contents.{Object};
-    ghost use Rattle.cf_body.specs.Bodies.{content_of, members_in, member_limit};
-
-    ghost Value = { Object };
-
-    ghost view = { λ m. record { class = m.class; content = content_of m.kind } };
-
-    ghost invariant = { λ m. members_in (content_of m.kind) < member_limit };
-}
-
 /// The body of an object. Contracts see the object, whether it is finalised, how many of its slots it has
 /// given up, and how many more units, bytes, elements or pairs come in without memory.
 #[derive(Drop)]
@@ -69,7 +48,8 @@ pub struct Body {
 
 impl Model for Body {
     ghost use Rattle.std.specs.Prelude.{◌<◌};
-    ghost use Rattle.cf_body.specs.Bodies.{BodyView, content_of, room_of, members_in, member_limit};
+    ghost use Rattle.cf_contents.specs.Contents.{member_limit};
+    ghost use Rattle.cf_body.specs.Bodies.{BodyView, content_of, room_of, members_in};
 
     ghost Value = { BodyView };
 
@@ -84,22 +64,12 @@ impl Model for Body {
     ghost invariant = { λ b. members_in (content_of b.kind) < member_limit };
 }
 
-impl Made {
-    /// A new object of a type.
-    pub fn new(class: TypeId, kind: Kind) -> Made
-        requires { members_in (content_of kind) < member_limit }
-        ensures { result ≡ record { class = class; content = content_of kind } }
-    {
-        Made { class, kind }
-    }
-}
-
 impl Body {
-    /// The body of a new object.
-    pub fn of(made: Made) -> Body
-        ensures { held_of result ≡ live made }
+    /// The body of a new object of a type.
+    pub fn new(class: TypeId, kind: Kind) -> Body
+        requires { members_in (content_of kind) < member_limit }
+        ensures { held_of result ≡ live (record { class = class; content = content_of kind }) }
     {
-        let Made { class, kind } = made;
         Body {
             class,
             kind,

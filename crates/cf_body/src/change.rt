@@ -1,7 +1,7 @@
-//! What becomes of a body, with the objects that come in.
+//! What becomes of a body.
 ghost use Rattle.std.specs.Prelude.{◌≡◌, [], ◌∷◌, None};
 ghost use Rattle.cf_contents.specs.Contents.{present, unless_plain};
-ghost use Rattle.cf_body.specs.Changes.{room_for, members_for};
+ghost use Rattle.cf_body.specs.Changes.{room_for};
 
 use cf_data::Bytes;
 use cf_ids::ObjId;
@@ -16,20 +16,20 @@ pub enum Change {
     Text { at: usize, len: usize, text: Str },
     /// Bytes in place of the `len` bytes from `at` on.
     Data { at: usize, len: usize, bytes: Bytes },
-    /// An element before the one at a place, or behind the last one.
+    /// An element before the one at a place, or after the last one.
     Insert { at: usize, element: ObjId },
-    /// An element in place of the one at a place, or behind the last one.
+    /// An element in place of the one at a place, or after the last one.
     Replace { at: usize, element: ObjId },
-    /// The element at a place is taken out.
+    /// The element at a place is removed.
     Remove { at: usize },
     /// An object in a field.
     Fill { at: usize, element: ObjId },
     /// A field is emptied.
     Clear { at: usize },
-    /// A pair is put in, its value alone where its key is there.
-    Put { key: Cell, value: ObjId },
-    /// A pair is taken out by its key.
-    Take { key: Cell },
+    /// A pair is put in, its value alone if its key is there.
+    PutPair { key: Cell, value: ObjId },
+    /// A pair is removed by its key.
+    RemovePair { key: Cell },
 }
 
 impl Change {
@@ -40,17 +40,7 @@ impl Change {
         match self {
             Change::Text { text, .. } => text.length(),
             Change::Data { bytes, .. } => bytes.length(),
-            Change::Insert { .. } | Change::Replace { .. } | Change::Put { .. } => 1,
-            _ => 0,
-        }
-    }
-
-    /// By how many members a body grows at most.
-    pub(crate) fn members(&self) -> usize
-        ensures { result ≡ members_for self.now }
-    {
-        match self {
-            Change::Insert { .. } | Change::Replace { .. } | Change::Put { .. } => 1,
+            Change::Insert { .. } | Change::Replace { .. } | Change::PutPair { .. } => 1,
             _ => 0,
         }
     }

@@ -11,11 +11,14 @@ use cf_types::built_in_name;
 /// The number of a script's first class.
 const FIRST_CLASS: u16 = 14;
 
-/// The line of a class.
+/// The line of a class. A type that is built in has none.
 pub fn class_line(classes: &[ClassLine], class: TypeId) -> Option<&ClassLine>
     ensures { option_copied result ≡ class_line classes.now class }
 {
-    classes.get(usize::from(class.0.saturating_sub(FIRST_CLASS)))
+    if class.0 < FIRST_CLASS {
+        return None;
+    }
+    classes.get(usize::from(class.0 - FIRST_CLASS))
 }
 
 /// The name of a type: built in, or a class of the script; empty where there is none of this number.
@@ -23,15 +26,14 @@ pub fn class_name(classes: &[ClassLine], class: TypeId) -> &[u8]
     ensures { result.now ≡ class_name classes.now class }
 {
     if class.0 < FIRST_CLASS {
-        match built_in_name(class) {
+        return match built_in_name(class) {
             Some(name) => name.as_bytes(),
             None => &[],
-        }
-    } else {
-        match classes.get(usize::from(class.0 - FIRST_CLASS)) {
-            Some(line) => line.name.as_slice(),
-            None => &[],
-        }
+        };
+    }
+    match class_line(classes, class) {
+        Some(line) => line.name.as_slice(),
+        None => &[],
     }
 }
 

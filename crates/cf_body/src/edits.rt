@@ -1,15 +1,14 @@
 //! How bodies are changed, without memory where there is room.
-ghost use Rattle.std.specs.Prelude.{◌≡◌, ◌≤◌, ◌<◌, length, OnOk};
-ghost use Rattle.cf_contents.specs.Contents.{text_content, data_content, instance_content, array_content, dictionary_content, present};
+ghost use Rattle.std.specs.Prelude.{◌≡◌, ◌+◌, ◌≤◌, ◌<◌, length, IsOk, OnOk, OnErr};
+ghost use Rattle.cf_contents.specs.Contents.{text_content, data_content, instance_content, array_content, dictionary_content, present, size_of, member_limit};
 ghost use Rattle.cf_contents.specs.Deeds.{coming_in, going_out};
 ghost use Rattle.cf_body.specs.Bodies.{content_of, room_of, held_of};
-ghost use Rattle.cf_body.specs.Changes.{done_of, room_for, CanBe, HasRoom, DoneTo};
+ghost use Rattle.cf_body.specs.Changes.{done_of, room_for, members_for, CanBe, HasRoom, DoneTo};
 ghost use Rattle.cf_contents.specs.Stores.{body_changed};
-ghost use Rattle.cf_body.specs.declared.change.Change.TheVariants.{Insert, Replace, Remove, Fill, Clear, Put, Take};
+ghost use Rattle.cf_body.specs.declared.change.Change.TheVariants.{Insert, Replace, Remove, Fill, Clear, PutPair, RemovePair};
 
-use crate::body::{Body, Instance, Kind, MEMBER_LIMIT};
+use crate::body::{Body, Instance, Kind};
 use crate::change::{Change, Moved};
-use crate::members::members;
 use crate::pairs::Pairs;
 use cf_array::Array;
 use cf_data::Bytes;
@@ -20,15 +19,18 @@ use std::alloc::AllocError as NoMemory;
 use std::mem;
 
 impl Body {
-    /// Makes room for a change. A refusal changes nothing.
+    /// Makes room for a change. It is refused only for want of memory, and that changes nothing.
     pub fn reserve(&mut self, change: &Change) -> Result<(), NoMemory>
-        requires { CanBe change.now self.old.content }
+        requires can { CanBe change.now self.old.content }
+        requires few { size_of self.old.content + members_for change.now < member_limit }
         ensures held { held_of self.new ≡ held_of self.old }
         ensures room { OnOk result (HasRoom change.now self.new) }
+        ensures kept { self.old.room ≤ self.new.room }
+
+        // It can be refused only where the room was missing.
+        ensures enough { room_for change.now ≤ self.old.room → IsOk result }
+        ensures refused { OnErr result (self.new ≡ self.old) }
     {
-        if MEMBER_LIMIT - members(&self.kind) <= change.members() {
-            return Err(NoMemory);
-        }
         reserve(&mut self.kind, change)
     }
 
@@ -49,6 +51,9 @@ fn reserve(kind: &mut Kind, change: &Change) -> Result<(), NoMemory>
     requires { CanBe change.now (content_of kind.old) }
     ensures content { content_of kind.new ≡ content_of kind.old }
     ensures room { OnOk result (room_for change.now ≤ room_of kind.new) }
+    ensures kept { room_of kind.old ≤ room_of kind.new }
+    ensures enough { room_for change.now ≤ room_of kind.old → IsOk result }
+    ensures refused { OnErr result (kind.new ≡ kind.old) }
 {
     let more = change.room();
     match kind {
@@ -167,7 +172,7 @@ fn change_elements(plain: bool, elements: &mut Array<ObjId>, change: Change) -> 
     }
 }
 
-/// Puts an element in before the one at a place, or behind the last one.
+/// Puts an element in before the one at a place, or after the last one.
 fn insert_element(plain: bool, elements: &mut Array<ObjId>, at: usize, element: ObjId) -> Moved
     requires within { at ≤ length elements.old.items }
     requires room { 0 < elements.old.room }
@@ -178,7 +183,7 @@ fn insert_element(plain: bool, elements: &mut Array<ObjId>, at: usize, element: 
     Moved::unless_plain(plain, [Some(element), None], [None, None])
 }
 
-/// Puts an element in place of the one at a place, or behind the last one.
+/// Puts an element in place of the one at a place, or after the last one.
 fn replace_element(plain: bool, elements: &mut Array<ObjId>, at: usize, element: ObjId) -> Moved
     requires within { at ≤ length elements.old.items }
     requires room { 0 < elements.old.room }
@@ -189,7 +194,7 @@ fn replace_element(plain: bool, elements: &mut Array<ObjId>, at: usize, element:
     Moved::unless_plain(plain, [Some(element), None], [old, None])
 }
 
-/// Takes out the element at a place.
+/// Removes the element at a place.
 fn remove_element(plain: bool, elements: &mut Array<ObjId>, at: usize) -> Moved
     requires { at < length elements.old.items }
     ensures { let before = array_content plain elements.old.items in
@@ -206,8 +211,8 @@ fn change_pairs(pairs: &mut Pairs, change: Change) -> Moved
     ensures { DoneTo change (dictionary_content pairs.old.plain pairs.old.items) (dictionary_content pairs.new.plain pairs.new.items) result }
 {
     match change {
-        Change::Put { key, value } => put_pair(pairs, key, value),
-        Change::Take { key } => take_pair(pairs, &key),
+        Change::PutPair { key, value } => put_pair(pairs, key, value),
+        Change::RemovePair { key } => remove_pair(pairs, &key),
         _ => Moved::nothing(),
     }
 }
@@ -215,7 +220,7 @@ fn change_pairs(pairs: &mut Pairs, change: Change) -> Moved
 /// Puts a pair in.
 fn put_pair(pairs: &mut Pairs, key: Cell, value: ObjId) -> Moved
     requires { 0 < pairs.old.room }
-    ensures { DoneTo (Put key value) (dictionary_content pairs.old.plain pairs.old.items) (dictionary_content pairs.new.plain pairs.new.items) result }
+    ensures { DoneTo (PutPair key value) (dictionary_content pairs.old.plain pairs.old.items) (dictionary_content pairs.new.plain pairs.new.items) result }
 {
     let id = key.id;
     match pairs.put(key, value) {
@@ -224,11 +229,11 @@ fn put_pair(pairs: &mut Pairs, key: Cell, value: ObjId) -> Moved
     }
 }
 
-/// Takes out a pair.
-fn take_pair(pairs: &mut Pairs, key: &Cell) -> Moved
-    ensures { DoneTo (Take key.now) (dictionary_content pairs.old.plain pairs.old.items) (dictionary_content pairs.new.plain pairs.new.items) result }
+/// Removes a pair.
+fn remove_pair(pairs: &mut Pairs, key: &Cell) -> Moved
+    ensures { DoneTo (RemovePair key.now) (dictionary_content pairs.old.plain pairs.old.items) (dictionary_content pairs.new.plain pairs.new.items) result }
 {
-    match pairs.take(key) {
+    match pairs.remove(key) {
         Some((key, value)) => {
             Moved::unless_plain(pairs.plain(), [None, None], [Some(key), Some(value)])
         }

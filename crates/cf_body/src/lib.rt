@@ -12,7 +12,7 @@ mod members;
 mod pairs;
 mod slots;
 
-pub use body::{Body, Instance, Kind, Made};
+pub use body::{Body, Instance, Kind};
 pub use change::{Change, Moved};
 pub use classes::{class_line, class_name};
 pub use description::describe;

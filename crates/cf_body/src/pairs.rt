@@ -1,5 +1,5 @@
 //! The pairs of a dictionary.
-ghost use Rattle.std.specs.Prelude.{◌≡◌, ◌+◌, ◌≤◌, ◌<◌, [], length, slice_get, OnOk};
+ghost use Rattle.std.specs.Prelude.{◌≡◌, ◌+◌, ◌≤◌, ◌<◌, [], length, slice_get, IsOk, OnOk, OnErr};
 ghost use Rattle.std.specs.Map.{lookup, lookup_entry, remove_entry};
 ghost use Rattle.std.specs.Option.{option_map};
 ghost use Rattle.cf_contents.specs.Keys.{equal_to};
@@ -57,6 +57,11 @@ impl Pairs {
         ensures plain { self.new.plain ≡ self.old.plain }
         ensures items { self.new.items ≡ self.old.items }
         ensures room { OnOk result (more ≤ self.new.room) }
+        ensures kept { self.old.room ≤ self.new.room }
+
+        // It can be refused only where the room was missing.
+        ensures enough { more ≤ self.old.room → IsOk result }
+        ensures refused { OnErr result (self.new ≡ self.old) }
     {
         self.rows.reserve(more)
     }
@@ -106,8 +111,8 @@ impl Pairs {
         }
     }
 
-    /// Takes out the pair whose key is equal to one, and gives its key and value.
-    pub fn take(&mut self, key: &Cell) -> Option<(ObjId, ObjId)>
+    /// Removes the pair whose key is equal to one, and gives its key and value.
+    pub fn remove(&mut self, key: &Cell) -> Option<(ObjId, ObjId)>
         ensures out { let out = lookup_entry (equal_to self.old.plain key.now) self.old.items in
             result ≡ option_map numbers_in out }
         ensures plain { self.new.plain ≡ self.old.plain }

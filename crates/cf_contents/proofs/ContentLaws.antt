@@ -4,7 +4,7 @@ use Rattle.std.proofs.Common.{◌≡◌, ℕ, zero, suc, Bool, true, List, [], �
 use Rattle.std.specs.Prelude.{slice_get}
 use Rattle.std.specs.Option.{option_map}
 use Rattle.cf_contents.specs.Contents.{Content, text_content, data_content, instance_content, array_content, dictionary_content, Object}
-use Rattle.cf_contents.specs.Deeds.{Change, unchanged, in_text, in_data, in_places, put_pair, take_pair, Splice, text_after, data_after, places_after, content_after, with_change, changed_by}
+use Rattle.cf_contents.specs.Deeds.{Change, unchanged, in_text, in_data, in_places, put_pair, remove_pair, Splice, text_after, data_after, places_after, content_after, with_change, changed_by}
 use Rattle.cf_contents.specs.Keys.{compared_by}
 
 pub length-with_change : (o : ℕ) (change : Change) (objects : List Object) → length (with_change o change objects) ≡ length objects
@@ -55,7 +55,7 @@ form-after keyed o unchanged c = refl
 form-after keyed o (in_text e) c = form-text keyed o e c
 form-after keyed o (in_data e) c = form-data keyed o e c
 form-after keyed o (in_places e) c = form-places keyed o e c
-form-after keyed o (put_pair leaf key value) (dictionary_content plain pairs) = refl
-form-after keyed o (put_pair leaf key value) _ = refl
-form-after keyed o (take_pair key) (dictionary_content plain pairs) = refl
-form-after keyed o (take_pair key) _ = refl
+form-after keyed o (put_pair key value) (dictionary_content plain pairs) = refl
+form-after keyed o (put_pair key value) _ = refl
+form-after keyed o (remove_pair key) (dictionary_content plain pairs) = refl
+form-after keyed o (remove_pair key) _ = refl

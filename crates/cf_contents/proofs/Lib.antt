@@ -3,3 +3,4 @@ pub mod OnLiterals
 pub mod SlotLaws
 pub mod FormLaws
 pub mod BodyLaws
+pub mod Sizes

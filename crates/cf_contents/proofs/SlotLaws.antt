@@ -7,7 +7,7 @@ use Rattle.std.proofs.lemmas.List.{take-append-drop, drop-drop}
 use Rattle.cf_types.specs.declared.cells.Cell.{Cell}
 use Rattle.cf_contents.specs.Contents.{Content, text_content, data_content, number_content, instance_content, array_content, dictionary_content, Object, times, present, flat, unless_plain, slots_in, slots_at}
 use Rattle.cf_contents.specs.Keys.{equal_to}
-use Rattle.cf_contents.specs.Deeds.{Source, nowhere, fresh, there, Splice, Change, unchanged, in_text, in_data, in_places, put_pair, take_pair, pair_of, spliced, removed, elements, with_put, put_in, coming_by, going_by, text_after, data_after, places_after, entering, leaving, put_after, put_entering, put_leaving, taken_after, taken_leaving, content_after, coming_in, going_out, taken_in, given_out, with_change}
+use Rattle.cf_contents.specs.Deeds.{Origin, nowhere, fresh, there, Splice, Change, unchanged, in_text, in_data, in_places, put_pair, remove_pair, spliced, removed, elements, coming_by, going_by, text_after, data_after, places_after, entering, leaving, put_after, put_entering, put_leaving, removed_after, removed_leaving, content_after, coming_in, going_out, taken_in, given_out, with_change}
 
 pub times-append : (n : ℕ) (xs ys : List ℕ) → times n (xs ++ ys) ≡ times n xs + times n ys
 times-append n [] ys = omega arith
@@ -63,7 +63,7 @@ set_law : (n v old : ℕ) (test : Cell → Bool) (pairs : List (Cell × ℕ)) �
 set_law n v old test [] h = absurd cc
 set_law n v old test (p ∷ ps) h = set_head n v old test p ps (test p.0) (set_law n v old test ps) h
 
-put_law : (n : ℕ) (test : Cell → Bool) (pairs : List (Cell × ℕ)) (k : Cell) (v : ℕ) (found : Option ℕ) → lookup test pairs ≡ found → times n (flat (cond (is_some found) (set_value test pairs v) (pairs ++ (k, v) ∷ []))) + times n (option_to_list found) ≡ times n (flat pairs) + times n (put_in (is_some found) (k, v))
+put_law : (n : ℕ) (test : Cell → Bool) (pairs : List (Cell × ℕ)) (k : Cell) (v : ℕ) (found : Option ℕ) → lookup test pairs ≡ found → times n (flat (cond (is_some found) (set_value test pairs v) (pairs ++ (k, v) ∷ []))) + times n (option_to_list found) ≡ times n (flat pairs) + times n (cond (is_some found) (v ∷ []) (k.id ∷ v ∷ []))
 put_law n test pairs k v None h = omega (arith, times-flat n pairs ((k, v) ∷ []))
 put_law n test pairs k v (Some old) h = set_law n v old test pairs h
 
@@ -116,25 +116,23 @@ places_law n e (data_content mutable bytes) = refl
 places_law n e (number_content k) = refl
 places_law n e (dictionary_content plain pairs) = omega arith
 
-with_law : (n : ℕ) (plain : Bool) (pairs : List (Cell × ℕ)) (p : Option (Cell × ℕ)) → times n (flat (with_put plain pairs p)) + times n (going_by plain pairs p) ≡ times n (flat pairs) + times n (coming_by plain pairs p)
-with_law n plain pairs None = refl
-with_law n plain pairs (Some p) = put_law n (equal_to plain p.0) pairs p.0 p.1 (lookup (equal_to plain p.0) pairs) refl
+pair_law : (n : ℕ) (key : Cell) (value : ℕ) (c : Content)
+    → times n (slots_in (put_after key value c)) + times n (put_leaving key c) ≡ times n (slots_in c) + times n (put_entering key value c)
+pair_law n key value (dictionary_content plain pairs) =
+    unless_law n plain _ _ _ _ (put_law n (equal_to plain key) pairs key value (lookup (equal_to plain key) pairs) refl)
+pair_law n key value (text_content mutable units) = refl
+pair_law n key value (data_content mutable bytes) = refl
+pair_law n key value (number_content k) = refl
+pair_law n key value (instance_content k fields) = omega arith
+pair_law n key value (array_content plain os) = omega arith
 
-pair_law : (n : ℕ) (p : Option (Cell × ℕ)) (c : Content) → times n (slots_in (put_after p c)) + times n (put_leaving p c) ≡ times n (slots_in c) + times n (put_entering p c)
-pair_law n p (dictionary_content plain pairs) = unless_law n plain _ _ _ _ (with_law n plain pairs p)
-pair_law n p (text_content mutable units) = refl
-pair_law n p (data_content mutable bytes) = refl
-pair_law n p (number_content k) = refl
-pair_law n p (instance_content key fields) = omega arith
-pair_law n p (array_content plain os) = omega arith
-
-taken_law : (n : ℕ) (key : Cell) (c : Content) → times n (slots_in (taken_after key c)) + times n (taken_leaving key c) ≡ times n (slots_in c) + times n []
-taken_law n key (dictionary_content plain pairs) = unless_none n plain _ _ _ (take_law n (equal_to plain key) pairs)
-taken_law n key (text_content mutable units) = refl
-taken_law n key (data_content mutable bytes) = refl
-taken_law n key (number_content k) = refl
-taken_law n key (instance_content k fields) = omega arith
-taken_law n key (array_content plain os) = omega arith
+removed_law : (n : ℕ) (key : Cell) (c : Content) → times n (slots_in (removed_after key c)) + times n (removed_leaving key c) ≡ times n (slots_in c) + times n []
+removed_law n key (dictionary_content plain pairs) = unless_none n plain _ _ _ (take_law n (equal_to plain key) pairs)
+removed_law n key (text_content mutable units) = refl
+removed_law n key (data_content mutable bytes) = refl
+removed_law n key (number_content k) = refl
+removed_law n key (instance_content k fields) = omega arith
+removed_law n key (array_content plain os) = omega arith
 
 -- the slots after a change, with what it gives out, are those before it with what it takes in
 content_law : (n : ℕ) (change : Change) (c : Content) → times n (slots_in (content_after change c)) + times n (going_out change c) ≡ times n (slots_in c) + times n (coming_in change c)
@@ -142,8 +140,8 @@ content_law n unchanged c = refl
 content_law n (in_text e) c = rw (text_law n e c) refl
 content_law n (in_data e) c = rw (data_law n e c) refl
 content_law n (in_places e) c = places_law n e c
-content_law n (put_pair leaf key value) c = pair_law n (pair_of leaf key value) c
-content_law n (take_pair key) c = taken_law n key c
+content_law n (put_pair key value) c = pair_law n key value c
+content_law n (remove_pair key) c = removed_law n key c
 
 pub change_law : (n o : ℕ) (change : Change) (objects : List Object) → times n (slots_at (slice_get (with_change o change objects) o)) + times n (given_out (slice_get objects o) change) ≡ times n (slots_at (slice_get objects o)) + times n (taken_in (slice_get objects o) change)
 change_law n o change [] = refl
@@ -164,32 +162,28 @@ leaving_most n e (instance_content key fields) = removed_most (λ (ps : List (Op
 leaving_most n e (array_content plain os) = unless_most n plain _ _ (removed_most (times n) (times-append n) os (elements e))
 leaving_most n e _ = omega arith
 
-going_most : (n : ℕ) (plain : Bool) (pairs : List (Cell × ℕ)) (p : Option (Cell × ℕ)) → times n (going_by plain pairs p) ≤ times n (flat pairs)
-going_most n plain pairs None = omega arith
-going_most n plain pairs (Some p) = found_most n (equal_to plain p.0) pairs
+put_most : (n : ℕ) (key : Cell) (c : Content) → times n (put_leaving key c) ≤ times n (slots_in c)
+put_most n key (dictionary_content plain pairs) = unless_most n plain _ _ (found_most n (equal_to plain key) pairs)
+put_most n key _ = omega arith
 
-put_most : (n : ℕ) (p : Option (Cell × ℕ)) (c : Content) → times n (put_leaving p c) ≤ times n (slots_in c)
-put_most n p (dictionary_content plain pairs) = unless_most n plain _ _ (going_most n plain pairs p)
-put_most n p _ = omega arith
-
-taken_most : (n : ℕ) (key : Cell) (c : Content) → times n (taken_leaving key c) ≤ times n (slots_in c)
-taken_most n key (dictionary_content plain pairs) = unless_most n plain _ _ (omega (arith, take_law n (equal_to plain key) pairs))
-taken_most n key _ = omega arith
+pair_most : (n : ℕ) (key : Cell) (c : Content) → times n (removed_leaving key c) ≤ times n (slots_in c)
+pair_most n key (dictionary_content plain pairs) = unless_most n plain _ _ (omega (arith, take_law n (equal_to plain key) pairs))
+pair_most n key _ = omega arith
 
 out_most : (n : ℕ) (change : Change) (c : Content) → times n (going_out change c) ≤ times n (slots_in c)
 out_most n unchanged c = omega arith
 out_most n (in_text e) c = omega arith
 out_most n (in_data e) c = omega arith
 out_most n (in_places e) c = leaving_most n e c
-out_most n (put_pair leaf key value) c = put_most n (pair_of leaf key value) c
-out_most n (take_pair key) c = taken_most n key c
+out_most n (put_pair key value) c = put_most n key c
+out_most n (remove_pair key) c = pair_most n key c
 
 pub given_most : (n : ℕ) (change : Change) (ob : Option Object) → times n (given_out ob change) ≤ times n (slots_at ob)
 given_most n change None = omega arith
 given_most n change (Some ob) = out_most n change ob.content
 
 -- a new object has no slots
-abbrev pub MakesEmpty : Source → Type 0
+abbrev pub MakesEmpty : Origin → Type 0
 MakesEmpty nowhere = Unit {0}
 MakesEmpty (fresh ob) = slots_in ob.content ≡ []
 MakesEmpty (there o) = Unit {0}
@@ -199,3 +193,45 @@ slots-more [] ob zero h = h
 slots-more [] ob (suc b) h = refl
 slots-more (o ∷ os) ob zero h = refl
 slots-more (o ∷ os) ob (suc b) h = slots-more os ob b h
+
+-- ---- what comes in is what a change names
+
+-- the objects that a change names, which may come in
+abbrev pub named_in : Change → List ℕ
+named_in unchanged = []
+named_in (in_text e) = []
+named_in (in_data e) = []
+named_in (in_places e) = present e.enter
+named_in (put_pair key value) = key.id ∷ value ∷ []
+named_in (remove_pair key) = []
+
+unless_fewer : (n : ℕ) (plain : Bool) (os : List ℕ) → times n (unless_plain plain os) ≤ times n os
+unless_fewer n true os = omega arith
+unless_fewer n false os = omega arith
+
+entering_most : (n : ℕ) (e : Splice (Option ℕ)) (c : Content) → times n (entering e c) ≤ times n (present e.enter)
+entering_most n e (instance_content key fields) = omega arith
+entering_most n e (array_content plain os) = unless_fewer n plain (present e.enter)
+entering_most n e _ = omega arith
+
+coming_fewer : (n : ℕ) (known : Bool) (k v : ℕ) → times n (cond known (v ∷ []) (k ∷ v ∷ [])) ≤ times n (k ∷ v ∷ [])
+coming_fewer n true k v = omega arith
+coming_fewer n false k v = omega arith
+
+coming_most : (n : ℕ) (key : Cell) (value : ℕ) (c : Content) → times n (put_entering key value c) ≤ times n (key.id ∷ value ∷ [])
+coming_most n key value (dictionary_content plain pairs) =
+    let some = coming_fewer n (is_some (lookup (equal_to plain key) pairs)) key.id value in
+    omega (arith, some, unless_fewer n plain (coming_by plain pairs key value))
+coming_most n key value _ = omega arith
+
+in_most : (n : ℕ) (change : Change) (c : Content) → times n (coming_in change c) ≤ times n (named_in change)
+in_most n unchanged c = omega arith
+in_most n (in_text e) c = omega arith
+in_most n (in_data e) c = omega arith
+in_most n (in_places e) c = entering_most n e c
+in_most n (put_pair key value) c = coming_most n key value c
+in_most n (remove_pair key) c = omega arith
+
+pub taken_most : (n : ℕ) (change : Change) (ob : Option Object) → times n (taken_in ob change) ≤ times n (named_in change)
+taken_most n change None = omega arith
+taken_most n change (Some ob) = in_most n change ob.content

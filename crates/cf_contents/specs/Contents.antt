@@ -1,7 +1,7 @@
 -- What objects contain. After the reference: a text is a list of UTF-16 units, data a list of bytes, a number a
 -- value and its kind, an array a list of elements, a dictionary a list of pairs with distinct keys. Instances of a
 -- script's classes, and the order of pairs, are this project's own.
-use Rattle.std.specs.Prelude.{ℕ, ◌+◌, ℤ, Bool, List, [], ◌∷◌, ◌==◌, if◌then◌else◌, Option, None, Some, replicate}
+use Rattle.std.specs.Prelude.{ℕ, ◌+◌, ℤ, Bool, List, [], ◌∷◌, ◌==◌, if◌then◌else◌, length, Option, None, Some, replicate}
 use Rattle.cf_number.specs.Numbers.{Number}
 use Rattle.cf_types.specs.declared.cells.Cell.{Cell}
 use Rattle.cf_syntax.specs.declared.script.ClassLine.{ClassLine}
@@ -52,6 +52,22 @@ slots_in (dictionary_content plain pairs) = unless_plain plain (flat pairs)
 abbrev pub slots_at : Option Object → List ℕ
 slots_at None = []
 slots_at (Some ob) = slots_in ob.content
+
+-- how many members a collection has, and the number that all are below. The number of an instance's fields stays
+abbrev pub size_of : Content → ℕ
+size_of (text_content mutable units) = 0
+size_of (data_content mutable bytes) = 0
+size_of (number_content n) = 0
+size_of (instance_content key fields) = 0
+size_of (array_content plain elements) = length elements
+size_of (dictionary_content plain pairs) = length pairs
+
+abbrev pub size_at : Option Object → ℕ
+size_at None = 0
+size_at (Some ob) = size_of ob.content
+
+abbrev pub member_limit : ℕ
+member_limit = 2147483648
 
 -- the numbers of the types, after the reference's names; the first class of a script has the number 14
 abbrev pub string_class : ℕ

@@ -1,6 +1,6 @@
 -- Each form as data: what it answers, what it binds, and what it does to contents, by the objects that it uses. All
 -- that a step does comes from this data, so a further form adds a line. This project's own, after the reference.
-use Rattle.std.specs.Prelude.{ℕ, zero, suc, ◌+◌, Bool, true, false, List, [], ◌∷◌, length, take, drop, map, Option, Some, None, is_some, slice_get, nat_lt, nat_le, if◌then◌else◌}
+use Rattle.std.specs.Prelude.{ℕ, zero, suc, ◌+◌, Bool, true, false, List, [], ◌∷◌, length, take, drop, Option, Some, None, is_some, slice_get, nat_lt, nat_le, if◌then◌else◌}
 use Rattle.std.specs.List.{splice}
 use Rattle.std.specs.Map.{lookup, lookup_entry, remove_entry}
 use Rattle.std.specs.Option.{option_to_list}
@@ -12,7 +12,6 @@ use Rattle.cf_number.specs.Numbers.{Number}
 use Rattle.cf_string.specs.declared.faults.StrFault.{StrFault}
 use Rattle.cf_string.specs.declared.faults.StrFault.TheVariants.{Range, SplitsPair}
 use Rattle.cf_string.specs.Faults.{cut_fault}
-use Rattle.cf_types.specs.Views.{LeafView}
 use Rattle.cf_types.specs.declared.cells.Cell.{Cell}
 use Rattle.cf_basichash.specs.Tables.{pairs_with}
 use Rattle.cf_syntax.specs.declared.script.ClassLine.{ClassLine}
@@ -24,10 +23,10 @@ use Rattle.cf_contents.specs.Descriptions.{description}
 
 -- where the object comes from that a statement binds: there is none, and the variable is empty; it is new; or it is
 -- there, and the variable is empty too where that object is finalised
-pub data Source : Type 0 where
-  nowhere : Source
-  fresh : Object → Source
-  there : ℕ → Source
+pub data Origin : Type 0 where
+  nowhere : Origin
+  fresh : Object → Origin
+  there : ℕ → Origin
 
 -- an edit of a list: from a place on so many go out, and others come in there
 pub record Splice (A : Type 0) : Type 0 where
@@ -36,43 +35,42 @@ pub record Splice (A : Type 0) : Type 0 where
   pub enter : List A
 
 -- what becomes of the first object that a statement uses: nothing; an edit of its text, of its bytes, or of its fields
--- or elements; a pair that is put in, its value alone where its key is there; or a pair that is taken out by its key.
--- What comes in is empty or one of the objects that are used, by its number among them
+-- or elements; a pair that is put in, its value alone if its key is there; or a pair that is removed by its key
 pub data Change : Type 0 where
   unchanged : Change
   in_text : Splice ℕ → Change
   in_data : Splice ℕ → Change
   in_places : Splice (Option ℕ) → Change
-  put_pair : LeafView → (key value : Option ℕ) → Change
-  take_pair : Cell → Change
+  put_pair : (key : Cell) (value : ℕ) → Change
+  remove_pair : (key : Cell) → Change
 
 -- what a statement answers where nothing else decides its answer, what it binds, and what it changes
 pub record Deed : Type 0 where
   pub answer : Answer
-  pub source : Source
+  pub origin : Origin
   pub change : Change
 
 abbrev pub answered : Answer → Deed
-answered a = record { answer = a; source = nowhere; change = unchanged }
+answered a = record { answer = a; origin = nowhere; change = unchanged }
 
 abbrev pub skipped : Deed
 skipped = answered answers.Skip
 
 abbrev pub made : ℕ → Content → Deed
-made class content = record { answer = answers.Skip; source = fresh (record { class = class; content = content }); change = unchanged }
+made class content = record { answer = answers.Skip; origin = fresh (record { class = class; content = content }); change = unchanged }
 
 abbrev pub changing : Answer → Change → Deed
-changing a change = record { answer = a; source = nowhere; change = change }
+changing a change = record { answer = a; origin = nowhere; change = change }
 
 -- an object is bound where one is found, and stays where it is
 abbrev pub binding : Option ℕ → Deed
 binding None = answered answers.Nil
-binding (Some o) = record { answer = answers.Nil; source = there o; change = unchanged }
+binding (Some o) = record { answer = answers.Nil; origin = there o; change = unchanged }
 
 -- by an object, where there is one of the kind; else the statement is skipped
-abbrev pub with_object : Option Numbered → (Object → Deed) → Deed
+abbrev pub with_object : Option Numbered → (Numbered → Deed) → Deed
 with_object None deed = skipped
-with_object (Some u) deed = deed u.object
+with_object (Some u) deed = deed u
 
 abbrev pub with_key : List ClassLine → Option Numbered → (Cell → Deed) → Deed
 with_key classes None deed = skipped
@@ -107,27 +105,28 @@ pairs_in (dictionary_content plain pairs) deed = deed plain pairs
 pairs_in _ deed = skipped
 
 abbrev pub with_text : Option Numbered → (List ℕ → Deed) → Deed
-with_text o deed = with_object o (λ ob. text_in ob.content deed)
+with_text o deed = with_object o (λ u. text_in u.object.content deed)
 
 abbrev pub with_mutable_text : Option Numbered → (List ℕ → Deed) → Deed
-with_mutable_text o deed = with_object o (λ ob. mutable_text_in ob.content deed)
+with_mutable_text o deed = with_object o (λ u. mutable_text_in u.object.content deed)
 
 abbrev pub with_mutable_data : Option Numbered → (List ℕ → Deed) → Deed
-with_mutable_data o deed = with_object o (λ ob. mutable_data_in ob.content deed)
+with_mutable_data o deed = with_object o (λ u. mutable_data_in u.object.content deed)
 
 abbrev pub with_number : Option Numbered → (Number → Deed) → Deed
-with_number o deed = with_object o (λ ob. number_in ob.content deed)
+with_number o deed = with_object o (λ u. number_in u.object.content deed)
 
 abbrev pub with_fields : Option Numbered → (List (Option ℕ) → Deed) → Deed
-with_fields o deed = with_object o (λ ob. fields_in ob.content deed)
+with_fields o deed = with_object o (λ u. fields_in u.object.content deed)
 
 abbrev pub with_elements : Option Numbered → (List ℕ → Deed) → Deed
-with_elements o deed = with_object o (λ ob. elements_in ob.content deed)
+with_elements o deed = with_object o (λ u. elements_in u.object.content deed)
 
 -- by the value of the key that is equal to one, where it is there, and by that key
 abbrev pub with_pair : List ClassLine → (dictionary key : Option Numbered) → (Cell → Option ℕ → Deed) → Deed
 with_pair classes dictionary key deed =
-    with_object dictionary (λ ob. pairs_in ob.content (λ plain pairs. with_key classes key (λ cell. deed cell (lookup (equal_to plain cell) pairs))))
+    with_object dictionary
+    (λ u. pairs_in u.object.content (λ plain pairs. with_key classes key (λ cell. deed cell (lookup (equal_to plain cell) pairs))))
 
 -- a deed on a range of a text, unless the range passes its length or cuts a surrogate pair
 abbrev pub unless_cut : Option StrFault → Deed → Deed
@@ -147,8 +146,7 @@ edited_text units at len other = unless_cut (cut_fault units at len) (changing a
 abbrev pub edited_data : List ℕ → ℕ → ℕ → List ℕ → Deed
 edited_data bytes at len other = within (nat_le (at + len) (length bytes)) (changing answers.Ok (in_data (record { at = at; out = len; enter = other })))
 
--- so many fields or elements from a place on replaced by one of the objects that are used, by nothing in a field, or by
--- no element
+-- so many fields or elements from a place on replaced by an object, by nothing in a field, or by no element
 abbrev pub edited_places : ℕ → ℕ → List (Option ℕ) → Deed
 edited_places at out enter = changing answers.Ok (in_places (record { at = at; out = out; enter = enter }))
 
@@ -161,27 +159,27 @@ as_kind kind n = if fits_kind kind n.value then answered (answers.Number n.value
 
 abbrev pub fresh_if : Option Object → Deed
 fresh_if None = skipped
-fresh_if (Some o) = record { answer = answers.Skip; source = fresh o; change = unchanged }
+fresh_if (Some o) = record { answer = answers.Skip; origin = fresh o; change = unchanged }
 
--- the second and the third object that are used as a pair, by whether the key is there: it is added, set or replaced
-abbrev pub put : Answer → Cell → Deed
-put a key = changing a (put_pair key.leaf (Some 1) (Some 2))
+-- a key and an object as a pair, by whether the key is there: it is added, set, replaced or removed
+abbrev pub putting : Answer → Cell → ℕ → Deed
+putting a key value = changing a (put_pair key value)
 
-abbrev pub add_pair : Cell → Option ℕ → Deed
-add_pair key None = put answers.Ok key
-add_pair key (Some old) = answered answers.Present
+abbrev pub adding_pair : Cell → ℕ → Option ℕ → Deed
+adding_pair key value None = putting answers.Ok key value
+adding_pair key value (Some old) = answered answers.Present
 
-abbrev pub set_pair : Cell → Option ℕ → Deed
-set_pair key None = put answers.Added key
-set_pair key (Some old) = put answers.Changed key
+abbrev pub setting_pair : Cell → ℕ → Option ℕ → Deed
+setting_pair key value None = putting answers.Added key value
+setting_pair key value (Some old) = putting answers.Changed key value
 
-abbrev pub replace_pair : Cell → Option ℕ → Deed
-replace_pair key None = answered answers.Absent
-replace_pair key (Some old) = put answers.Ok key
+abbrev pub replacing_pair : Cell → ℕ → Option ℕ → Deed
+replacing_pair key value None = answered answers.Absent
+replacing_pair key value (Some old) = putting answers.Ok key value
 
-abbrev pub remove_pair : Cell → Option ℕ → Deed
-remove_pair key None = answered answers.Absent
-remove_pair key (Some old) = changing answers.Ok (take_pair key)
+abbrev pub removing_pair : Cell → Option ℕ → Deed
+removing_pair key None = answered answers.Absent
+removing_pair key (Some old) = changing answers.Ok (remove_pair key)
 
 -- the object in a field, where there is one
 abbrev pub in_field : Option (Option ℕ) → Option ℕ
@@ -201,7 +199,7 @@ deed_of classes (forms.New v None key) a b c = skipped
 deed_of classes (forms.New v (Some class) key) a b c = fresh_if (instance_of class key (class_line classes class))
 deed_of classes (forms.Retain v) a b c = answered answers.Ok
 deed_of classes (forms.Release v) a b c = answered answers.Ok
-deed_of classes (forms.Show v) a b c = with_object a (λ o. answered (answers.Shown (description classes o)))
+deed_of classes (forms.Show v) a b c = with_object a (λ u. answered (answers.Shown (description classes u.object)))
 deed_of classes (forms.StrAppend v other) a b c = with_mutable_text a (λ units. with_text b (λ more. edited_text units (length units) 0 more))
 deed_of classes (forms.StrInsert v at text) a b c = with_mutable_text a (λ units. edited_text units at 0 text)
 deed_of classes (forms.StrDelete v at len) a b c = with_mutable_text a (λ units. edited_text units at len [])
@@ -211,17 +209,17 @@ deed_of classes (forms.DataAppend v bytes) a b c = with_mutable_data a (λ old. 
 deed_of classes (forms.DataReplace v at len bytes) a b c = with_mutable_data a (λ old. edited_data old at len bytes)
 deed_of classes (forms.DataDelete v at len) a b c = with_mutable_data a (λ old. edited_data old at len [])
 deed_of classes (forms.NumAs v kind) a b c = with_number a (as_kind kind)
-deed_of classes (forms.ArrAppend v x) a b c = with_elements a (λ os. with_object b (λ o. edited_places (length os) 0 (Some 1 ∷ [])))
-deed_of classes (forms.ArrInsert v at x) a b c = with_elements a (λ os. with_object b (λ o. within (nat_le at (length os)) (edited_places at 0 (Some 1 ∷ []))))
-deed_of classes (forms.ArrSet v at x) a b c = with_elements a (λ os. with_object b (λ o. within (nat_le at (length os)) (edited_places at 1 (Some 1 ∷ []))))
+deed_of classes (forms.ArrAppend v x) a b c = with_elements a (λ os. with_object b (λ u. edited_places (length os) 0 (Some u.number ∷ [])))
+deed_of classes (forms.ArrInsert v at x) a b c = with_elements a (λ os. with_object b (λ u. within (nat_le at (length os)) (edited_places at 0 (Some u.number ∷ []))))
+deed_of classes (forms.ArrSet v at x) a b c = with_elements a (λ os. with_object b (λ u. within (nat_le at (length os)) (edited_places at 1 (Some u.number ∷ []))))
 deed_of classes (forms.ArrRemove v at) a b c = with_elements a (λ os. within (nat_lt at (length os)) (edited_places at 1 []))
 deed_of classes (forms.ArrTake v array at) a b c = with_elements a (λ os. binding (slice_get os at))
-deed_of classes (forms.DictAdd v k x) a b c = with_pair classes a b (λ key old. with_object c (λ o. add_pair key old))
-deed_of classes (forms.DictSet v k x) a b c = with_pair classes a b (λ key old. with_object c (λ o. set_pair key old))
-deed_of classes (forms.DictReplace v k x) a b c = with_pair classes a b (λ key old. with_object c (λ o. replace_pair key old))
-deed_of classes (forms.DictRemove v k) a b c = with_pair classes a b remove_pair
+deed_of classes (forms.DictAdd v k x) a b c = with_pair classes a b (λ key old. with_object c (λ u. adding_pair key u.number old))
+deed_of classes (forms.DictSet v k x) a b c = with_pair classes a b (λ key old. with_object c (λ u. setting_pair key u.number old))
+deed_of classes (forms.DictReplace v k x) a b c = with_pair classes a b (λ key old. with_object c (λ u. replacing_pair key u.number old))
+deed_of classes (forms.DictRemove v k) a b c = with_pair classes a b removing_pair
 deed_of classes (forms.DictTake v dictionary k) a b c = with_pair classes a b (λ key old. binding old)
-deed_of classes (forms.FieldSet v at x) a b c = with_fields a (λ fields. with_object b (λ o. within (nat_lt at (length fields)) (edited_places at 1 (Some 1 ∷ []))))
+deed_of classes (forms.FieldSet v at x) a b c = with_fields a (λ fields. with_object b (λ u. within (nat_lt at (length fields)) (edited_places at 1 (Some u.number ∷ []))))
 deed_of classes (forms.FieldClear v at) a b c = with_fields a (λ fields. within (nat_lt at (length fields)) (edited_places at 1 (None ∷ [])))
 deed_of classes (forms.FieldTake v instance at) a b c = with_fields a (λ fields. binding (in_field (slice_get fields at)))
 
@@ -243,19 +241,6 @@ abbrev pub deed_at : List ClassLine → List Object → Statement → List (Opti
 deed_at classes objects s used =
     deed_of classes s (numbered objects (used_at used 0)) (numbered objects (used_at used 1)) (numbered objects (used_at used 2))
 
--- a change with the objects that come in
-abbrev pub chosen : List (Option ℕ) → Option ℕ → Option ℕ
-chosen used None = None
-chosen used (Some i) = used_at used i
-
-abbrev pub resolved : List (Option ℕ) → Change → Change
-resolved used unchanged = unchanged
-resolved used (in_text e) = in_text e
-resolved used (in_data e) = in_data e
-resolved used (in_places e) = in_places (record { at = e.at; out = e.out; enter = map (chosen used) e.enter })
-resolved used (put_pair leaf key value) = put_pair leaf (chosen used key) (chosen used value)
-resolved used (take_pair key) = take_pair key
-
 -- a list after an edit, and what it takes out of it
 abbrev pub spliced : {A : Type 0} → List A → Splice A → List A
 spliced xs e = splice xs e.at (e.at + e.out) e.enter
@@ -267,26 +252,12 @@ removed xs e = take e.out (drop e.at xs)
 abbrev pub elements : Splice (Option ℕ) → Splice ℕ
 elements e = record { at = e.at; out = e.out; enter = present e.enter }
 
--- a pair of two objects, where both are there
-abbrev pub pair_of : LeafView → (key value : Option ℕ) → Option (Cell × ℕ)
-pair_of leaf (Some k) (Some v) = Some (record { id = k; leaf = leaf }, v)
-pair_of leaf _ _ = None
+-- what comes in and what goes out where a pair is put in
+abbrev pub coming_by : Bool → List (Cell × ℕ) → Cell → ℕ → List ℕ
+coming_by plain pairs key value = if is_some (lookup (equal_to plain key) pairs) then value ∷ [] else key.id ∷ value ∷ []
 
--- pairs with one put in, what then comes in, and what goes out
-abbrev pub with_put : Bool → List (Cell × ℕ) → Option (Cell × ℕ) → List (Cell × ℕ)
-with_put plain pairs None = pairs
-with_put plain pairs (Some p) = pairs_with (equal_to plain p.0) pairs p.0 p.1
-
-abbrev pub put_in : Bool → Cell × ℕ → List ℕ
-put_in known p = if known then p.1 ∷ [] else p.0.id ∷ p.1 ∷ []
-
-abbrev pub coming_by : Bool → List (Cell × ℕ) → Option (Cell × ℕ) → List ℕ
-coming_by plain pairs None = []
-coming_by plain pairs (Some p) = put_in (is_some (lookup (equal_to plain p.0) pairs)) p
-
-abbrev pub going_by : Bool → List (Cell × ℕ) → Option (Cell × ℕ) → List ℕ
-going_by plain pairs None = []
-going_by plain pairs (Some p) = option_to_list (lookup (equal_to plain p.0) pairs)
+abbrev pub going_by : Bool → List (Cell × ℕ) → Cell → List ℕ
+going_by plain pairs key = option_to_list (lookup (equal_to plain key) pairs)
 
 -- contents after each kind of change, and the objects that it takes in and gives out: only a mutable text, or data, is
 -- edited
@@ -313,49 +284,50 @@ leaving e (instance_content key fields) = present (removed fields e)
 leaving e (array_content plain os) = unless_plain plain (removed os (elements e))
 leaving e _ = []
 
-abbrev pub put_after : Option (Cell × ℕ) → Content → Content
-put_after p (dictionary_content plain pairs) = dictionary_content plain (with_put plain pairs p)
-put_after p c = c
+abbrev pub put_after : Cell → ℕ → Content → Content
+put_after key value (dictionary_content plain pairs) = dictionary_content plain (pairs_with (equal_to plain key) pairs key value)
+put_after key value c = c
 
-abbrev pub put_entering : Option (Cell × ℕ) → Content → List ℕ
-put_entering p (dictionary_content plain pairs) = unless_plain plain (coming_by plain pairs p)
-put_entering p _ = []
+abbrev pub put_entering : Cell → ℕ → Content → List ℕ
+put_entering key value (dictionary_content plain pairs) = unless_plain plain (coming_by plain pairs key value)
+put_entering key value _ = []
 
-abbrev pub put_leaving : Option (Cell × ℕ) → Content → List ℕ
-put_leaving p (dictionary_content plain pairs) = unless_plain plain (going_by plain pairs p)
-put_leaving p _ = []
+abbrev pub put_leaving : Cell → Content → List ℕ
+put_leaving key (dictionary_content plain pairs) = unless_plain plain (going_by plain pairs key)
+put_leaving key _ = []
 
-abbrev pub taken_after : Cell → Content → Content
-taken_after key (dictionary_content plain pairs) = dictionary_content plain (remove_entry (equal_to plain key) pairs)
-taken_after key c = c
+abbrev pub removed_after : Cell → Content → Content
+removed_after key (dictionary_content plain pairs) = dictionary_content plain (remove_entry (equal_to plain key) pairs)
+removed_after key c = c
 
-abbrev pub taken_leaving : Cell → Content → List ℕ
-taken_leaving key (dictionary_content plain pairs) = unless_plain plain (flat (option_to_list (lookup_entry (equal_to plain key) pairs)))
-taken_leaving key _ = []
+abbrev pub removed_leaving : Cell → Content → List ℕ
+removed_leaving key (dictionary_content plain pairs) =
+    unless_plain plain (flat (option_to_list (lookup_entry (equal_to plain key) pairs)))
+removed_leaving key _ = []
 
 abbrev pub content_after : Change → Content → Content
 content_after unchanged c = c
 content_after (in_text e) c = text_after e c
 content_after (in_data e) c = data_after e c
 content_after (in_places e) c = places_after e c
-content_after (put_pair leaf key value) c = put_after (pair_of leaf key value) c
-content_after (take_pair key) c = taken_after key c
+content_after (put_pair key value) c = put_after key value c
+content_after (remove_pair key) c = removed_after key c
 
 abbrev pub coming_in : Change → Content → List ℕ
 coming_in unchanged c = []
 coming_in (in_text e) c = []
 coming_in (in_data e) c = []
 coming_in (in_places e) c = entering e c
-coming_in (put_pair leaf key value) c = put_entering (pair_of leaf key value) c
-coming_in (take_pair key) c = []
+coming_in (put_pair key value) c = put_entering key value c
+coming_in (remove_pair key) c = []
 
 abbrev pub going_out : Change → Content → List ℕ
 going_out unchanged c = []
 going_out (in_text e) c = []
 going_out (in_data e) c = []
 going_out (in_places e) c = leaving e c
-going_out (put_pair leaf key value) c = put_leaving (pair_of leaf key value) c
-going_out (take_pair key) c = taken_leaving key c
+going_out (put_pair key value) c = put_leaving key c
+going_out (remove_pair key) c = removed_leaving key c
 
 abbrev pub taken_in : Option Object → Change → List ℕ
 taken_in None change = []

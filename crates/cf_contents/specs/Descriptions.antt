@@ -1,5 +1,5 @@
 -- How objects are described. This project's own.
-use Rattle.std.specs.Prelude.{ℕ, ◌-◌, Bool, List, [], ◌++◌, codes, length, map, take, Option, Some, None, nat_lt, slice_get, slice_index_or, encode_utf8, ◌==◌, if◌then◌else◌}
+use Rattle.std.specs.Prelude.{ℕ, ◌-◌, Bool, List, [], ◌∷◌, ◌++◌, codes, length, map, take, Option, Some, None, nat_lt, slice_get, slice_index_or, encode_utf8, ◌==◌, if◌then◌else◌}
 use Rattle.std.specs.Char.Utf16.{utf16_lossy_chars}
 use Rattle.std.specs.List.{flat_map, join_with_byte}
 use Rattle.std.specs.Fmt.{decimal, signed_decimal}
@@ -12,14 +12,14 @@ use Rattle.cf_types.specs.declared.cells.Cell.{Cell}
 use Rattle.cf_syntax.specs.declared.script.ClassLine.{ClassLine}
 use Rattle.cf_contents.specs.Contents.{Content, text_content, data_content, number_content, instance_content, array_content, dictionary_content, Object, first_class}
 
--- the name of a type: built in, or a class of the script
+-- the name of a type: built in, or a class of the script. 0 is no type and has none
 abbrev pub name_in : Option ClassLine → List ℕ
 name_in None = []
 name_in (Some line) = line.name
 
 abbrev pub class_name : List ClassLine → ℕ → List ℕ
 class_name classes class =
-    if nat_lt class first_class then slice_index_or built_in_names (class - 1) []
+    if nat_lt class first_class then slice_index_or ([] ∷ built_in_names) class []
     else name_in (slice_get classes (class - first_class))
 
 -- what says that more is there than is written

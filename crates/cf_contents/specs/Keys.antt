@@ -1,7 +1,7 @@
 -- What objects are compared by: an immutable string by its text, immutable data by its bytes, a number by its value, an
 -- instance of a class with keys by its key, and every other object by its identity. No change of an object changes that.
 -- This project's own, after the type callbacks of the Collections guide.
-use Rattle.std.specs.Prelude.{ℕ, ◌-◌, Bool, true, false, List, Option, Some, None, slice_get, if◌then◌else◌}
+use Rattle.std.specs.Prelude.{ℕ, ◌-◌, Bool, true, false, List, Option, Some, None, slice_get, nat_lt, if◌then◌else◌}
 use Rattle.cf_types.specs.Views.{FormView, text_form, data_form, whole_form, same_form}
 use Rattle.cf_types.specs.Cells.{cells_equal}
 use Rattle.cf_types.specs.declared.cells.Cell.{Cell}
@@ -23,9 +23,13 @@ abbrev pub numbered : List Object → Option ℕ → Option Numbered
 numbered objects None = None
 numbered objects (Some o) = with_number_of o (slice_get objects o)
 
--- the line of a class, by the number of its type
+abbrev pub number_of : Option Numbered → Option ℕ
+number_of None = None
+number_of (Some u) = Some u.number
+
+-- the line of a class, by the number of its type; a type that is built in has none
 abbrev pub class_line : List ClassLine → ℕ → Option ClassLine
-class_line classes class = slice_get classes (class - first_class)
+class_line classes class = if nat_lt class first_class then None else slice_get classes (class - first_class)
 
 abbrev pub is_keyed : Option ClassLine → Bool
 is_keyed None = false

@@ -7,7 +7,7 @@ use Rattle.cf_syntax.specs.declared.statement.Statement.{Statement}
 use Rattle.cf_types.specs.Views.{text_form}
 use Rattle.cf_types.specs.declared.cells.Cell.{Cell}
 use Rattle.cf_contents.specs.Contents.{Content, text_content, data_content, number_content, instance_content, array_content, dictionary_content, Object}
-use Rattle.cf_contents.specs.Deeds.{Deed, deed_at, resolved, content_after, coming_in, going_out}
+use Rattle.cf_contents.specs.Deeds.{Deed, deed_at, content_after, coming_in, going_out}
 
 -- a class of points, which has the type number 14
 abbrev pub point : ClassLine
@@ -62,11 +62,11 @@ answer_on_nothing s = (deed_at [] [] s (None ∷ None ∷ None ∷ [])).answer
 
 -- what becomes of the first of the three
 abbrev pub after : Statement → (first second : Object) → Content
-after s a b = content_after (resolved (Some 0 ∷ Some 1 ∷ Some 2 ∷ []) (deed_on s a b b).change) a.content
+after s a b = content_after (deed_on s a b b).change a.content
 
 -- what it takes in, and what it gives out
 abbrev pub coming : Statement → (first second : Object) → List ℕ
-coming s a b = coming_in (resolved (Some 0 ∷ Some 1 ∷ Some 2 ∷ []) (deed_on s a b b).change) a.content
+coming s a b = coming_in (deed_on s a b b).change a.content
 
 abbrev pub going : Statement → (first second : Object) → List ℕ
-going s a b = going_out (resolved (Some 0 ∷ Some 1 ∷ Some 2 ∷ []) (deed_on s a b b).change) a.content
+going s a b = going_out (deed_on s a b b).change a.content

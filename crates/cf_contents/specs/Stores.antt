@@ -1,10 +1,10 @@
 -- What a store is to its callers: the bodies by the numbers of their objects, the deed for which room was made, and for
 -- how many more bodies there is room.
-use Rattle.std.specs.Prelude.{ℕ, zero, suc, ◌+◌, Bool, true, false, not, List, [], ◌∷◌, Option, None, Some, map, drop, slice_get}
+use Rattle.std.specs.Prelude.{ℕ, zero, suc, ◌+◌, ◌<◌, Bool, true, false, not, List, [], ◌∷◌, Option, None, Some, map, drop, slice_get}
 use Rattle.cf_syntax.specs.declared.script.ClassLine.{ClassLine}
 use Rattle.cf_syntax.specs.declared.statement.Statement.{Statement}
-use Rattle.cf_contents.specs.Contents.{Object, slots_in}
-use Rattle.cf_contents.specs.Deeds.{Deed, Change, deed_at, resolved, first_of, changed}
+use Rattle.cf_contents.specs.Contents.{Object, slots_in, size_at, member_limit}
+use Rattle.cf_contents.specs.Deeds.{Deed, Change, deed_at, first_of, changed}
 
 -- a body: its object, whether that is finalised, and how many of its slots it has given up
 pub record Held : Type 0 where
@@ -12,7 +12,7 @@ pub record Held : Type 0 where
   pub is_dead : Bool
   pub given_up : ℕ
 
--- a deed that can be done, on the first object that its statement uses; what comes in has its numbers
+-- a deed that can be done, on the first object that its statement uses
 pub record Ready : Type 0 where
   pub object : Option ℕ
   pub deed : Deed
@@ -32,11 +32,7 @@ objects_of bodies = map (λ (h : Held). h.object) bodies
 -- the deed of a statement among bodies
 abbrev pub readied : List ClassLine → List Held → Statement → List (Option ℕ) → Ready
 readied classes bodies s used =
-    let deed = deed_at classes (objects_of bodies) s used in
-    record {
-      object = first_of used;
-      deed = record { answer = deed.answer; source = deed.source; change = resolved used deed.change };
-    }
+    record { object = first_of used; deed = deed_at classes (objects_of bodies) s used }
 
 -- bodies with one of them changed in its content, finalised, and with a slot given up
 abbrev pub with_body : (Held → Held) → ℕ → List Held → List Held
@@ -71,6 +67,10 @@ given_up_by (Some h) = h.given_up
 
 abbrev pub given_up_in : List Held → ℕ → ℕ
 given_up_in bodies o = given_up_by (slice_get bodies o)
+
+-- each collection may have one more member
+abbrev pub MayGrow : List Held → Type 0
+MayGrow bodies = (o : ℕ) → size_at (slice_get (objects_of bodies) o) + 1 < member_limit
 
 -- the slots that are left to a body
 abbrev pub left_to : Option Held → List ℕ

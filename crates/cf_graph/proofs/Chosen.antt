@@ -57,11 +57,11 @@ chosen-push m n xs marked c = record {
 }
 
 -- no object has a higher number
-pub chosen-all : (m : List Bool) (xs : List ℕ) (o : ℕ) → length m ≡ 65538 → IsChosen m 65536 xs
+pub chosen-all : (m : List Bool) (xs : List ℕ) (o : ℕ) → length m ≡ 66562 → IsChosen m 66560 xs
     → Contains xs o ↔ Marked m (o + 2)
 chosen-all m xs o size c = (
   (λ h. (c.among o h).1),
-  (λ marked. elim (cases_lt o 65536) [
+  (λ marked. elim (cases_lt o 66560) [
     | inl lt ↦ c.all o lt marked
     | inr ge ↦ absurd (false≢true (sym (get_or_past m (o + 2) false (omega arith)) ∙ marked))
   ]),

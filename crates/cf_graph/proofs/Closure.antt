@@ -82,7 +82,7 @@ led-step (d ∷ es) p q l led =
 -- what a walk keeps: each mark is a place to which a path leads, and of each marked place that does not wait on the
 -- stack, each reference leads to a marked one
 pub record IsWalk (es : List Edge) (m : List Bool) (s : List ℕ) : Type 0 where
-  pub size : length m ≡ 65538
+  pub size : length m ≡ 66562
   pub root : Marked m 0
   pub led : (q : ℕ) → Marked m q → IsLed es q
   pub waiting : (q : ℕ) → Contains s q → Marked m q
@@ -90,8 +90,8 @@ pub record IsWalk (es : List Edge) (m : List Bool) (s : List ℕ) : Type 0 where
       ⊎ ((j : ℕ) → j < length (sources es) → get_or (sources es) j 0 ≡ q → Marked m (get_or (targets es) j 0))
 
 -- a place on the stack is a place
-pub walk-place : (es : List Edge) (m : List Bool) (s : List ℕ) (p : ℕ) → IsWalk es m (s ++ p ∷ []) → p < 65538
-walk-place es m s p w = elim (cases_lt p 65538) [
+pub walk-place : (es : List Edge) (m : List Bool) (s : List ℕ) (p : ℕ) → IsWalk es m (s ++ p ∷ []) → p < 66562
+walk-place es m s p w = elim (cases_lt p 66562) [
   | inl lt ↦ lt
   | inr ge ↦ absurd (false≢true (sym (get_or_past m p false (omega (arith, w.size))) ∙ w.waiting p (Contains-push s p)))
 ]

@@ -53,12 +53,12 @@ links-more froms before n k i size l links h = elim (cases_lt i n) [
 ]
 
 -- one more reference is linked
-pub linked-more : (froms latest before : List ℕ) (n p : ℕ) → p ≡ get_or froms n 0 → p < 65538
+pub linked-more : (froms latest before : List ℕ) (n p : ℕ) → p ≡ get_or froms n 0 → p < 66562
     → IsLinked froms n latest before → IsLinked froms (n + 1) (set latest p (n + 1)) (before ++ get_or latest p 0 ∷ [])
 linked-more froms latest before n p e fits l =
-    let places : length latest ≡ 65538 = l.places in
+    let places : length latest ≡ 66562 = l.places in
     let number : length before ≡ n = l.number in
-    let within : get_or froms n 0 < 65538 = omega arith in
+    let within : get_or froms n 0 < 66562 = omega arith in
     subst (λ (q : ℕ). IsLinked froms (n + 1) (set latest q (n + 1)) (before ++ get_or latest q 0 ∷ [])) (sym e)
     (record {
       places = length-set latest (get_or froms n 0) (n + 1) ∙ places;

@@ -28,9 +28,9 @@ pub record IsLatest (froms : List ℕ) (p n k : ℕ) : Type 0 where
 
 -- of the first n references: the latest of each place, and of each reference the latest before it of the same place
 pub record IsLinked (froms : List ℕ) (n : ℕ) (latest before : List ℕ) : Type 0 where
-  pub places : length latest ≡ 65538
+  pub places : length latest ≡ 66562
   pub number : length before ≡ n
-  pub heads : (p : ℕ) → p < 65538 → IsLatest froms p n (slice_index latest p)
+  pub heads : (p : ℕ) → p < 66562 → IsLatest froms p n (slice_index latest p)
   pub links : (i : ℕ) → i < n → IsLatest froms (slice_index froms i) i (slice_index before i)
 
 -- a place is marked

@@ -6,11 +6,11 @@ ghost use Rattle.cf_graph.specs.Walks.{source, sources, targets, IsLinked, Grows
 
 use crate::NoMemory;
 use crate::edge::{Edge, Owner};
-use cf_ids::{OBJECTS, ObjId};
+use cf_ids::{OBJECT_NUMBERS, ObjId};
 use std::alloc::Global;
 
 /// Threads and parcels share the first place, modes and common items the second.
-const PLACES: usize = OBJECTS + 2;
+const PLACES: usize = OBJECT_NUMBERS + 2;
 
 /// For each place its latest edge, and for each edge the one before it from the same place: a
 /// number one higher than the edge's, or 0.
@@ -40,7 +40,7 @@ pub fn reached(alloc: Global, edges: &[Edge]) -> Result<Vec<ObjId>, NoMemory>
 
 // The places that a walk from the first place reaches.
 fn marked(alloc: Global, edges: &[Edge]) -> Result<Vec<bool>, NoMemory>
-    ensures places { IfOk result (λ v. length v.items ≡ 65538) }
+    ensures places { IfOk result (λ v. length v.items ≡ 66562) }
     ensures found { IfOk result (λ v. (o : ℕ) → Marked v.items (o + 2) ↔ Reaches edges.now o) }
 {
     let links = linked(alloc, edges)?;
@@ -86,10 +86,10 @@ fn unmarked(alloc: Global, places: usize) -> Result<Vec<bool>, NoMemory>
 impl Walk {
     // Marks where the edges of a place lead, and puts what was not marked on the stack.
     fn follow(&mut self, edges: &[Edge], links: &Links, place: usize) -> Result<(), NoMemory>
-        requires places { place < 65538 }
+        requires places { place < 66562 }
         requires linked { IsLinked (sources edges.now) (length edges.now)
             links.now.latest.items links.now.before.items }
-        requires marks { length self.old.marks.items ≡ 65538 }
+        requires marks { length self.old.marks.items ≡ 66562 }
         ensures grows { OnOk result
             (Grows (sources edges.now) (targets edges.now) place 0
             self.old.marks.items self.new.marks.items
@@ -123,7 +123,7 @@ impl Walk {
 
 fn place_of(owner: &Owner) -> usize
     ensures place { result ≡ source owner.now }
-    ensures within { result < 65538 }
+    ensures within { result < 66562 }
 {
     match owner {
         Owner::Thread(_) | Owner::Parcel(_) => 0,
@@ -134,19 +134,19 @@ fn place_of(owner: &Owner) -> usize
 
 fn place_of_object(o: ObjId) -> usize
     ensures place { result ≡ o + 2 }
-    ensures within { result < 65538 }
+    ensures within { result < 66562 }
 {
     o.0 as usize + 2
 }
 
 // The objects whose places are marked.
 fn chosen(alloc: Global, marks: &[bool]) -> Result<Vec<ObjId>, NoMemory>
-    requires places { length marks.now ≡ 65538 }
+    requires places { length marks.now ≡ 66562 }
     ensures rising { IfOk result (λ v. IsStrictlyIncreasing v.items) }
     ensures chosen { IfOk result (λ v. (o : ℕ) → Contains v.items o ↔ Marked marks.now (o + 2)) }
 {
     let mut objects = Vec::new(alloc);
-    for o in 0..65_536u32 {
+    for o in 0..OBJECT_NUMBERS as u32 {
         if marks[o as usize + 2] {
             objects.push(ObjId(o))?;
         }

@@ -9,8 +9,8 @@ mod sequence;
 
 pub use answer::{Answer, Ended};
 pub use limits::{
-    DEFAULT_LIMIT, FIELDS, HANDLERS, LARGEST_LIMIT, MODES, NOTICES, OBJECTS, SCRIPT_BYTES, THREADS,
-    TYPES, VARIABLES,
+    DEFAULT_LIMIT, FIELDS, HANDLERS, LARGEST_LIMIT, MODES, NOTICES, OBJECT_NUMBERS, OBJECTS,
+    SCRIPT_BYTES, THREADS, TYPE_NUMBERS, TYPES, VARIABLES,
 };
 pub use numbers::{HandlerId, Item, ItemKind, ModeId, NameId, ObjId, ThreadId, TypeId, VarId};
 pub use sequence::Seq;

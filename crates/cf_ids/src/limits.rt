@@ -9,8 +9,11 @@ pub const THREADS: usize = 64;
 /// The most variables of one block, a handler's `info` and used variables among them.
 pub const VARIABLES: usize = 256;
 
-/// The most types, of which 13 are built in.
+/// The most types that a registry has, of which 13 are built in.
 pub const TYPES: usize = 1_024;
+
+/// Types have numbers up to this: those of a registry, and one beside it.
+pub const TYPE_NUMBERS: usize = 1_025;
 
 /// The most handlers of a script.
 pub const HANDLERS: usize = 1_024;
@@ -26,6 +29,9 @@ pub const FIELDS: usize = 255;
 
 /// The most objects that one run makes. Their numbers are below it and are never used again.
 pub const OBJECTS: usize = 65_536;
+
+/// Objects have numbers below this: those that a run makes, and after them up to 1,024 constants of a script.
+pub const OBJECT_NUMBERS: usize = 66_560;
 
 /// The most entries of a journal where the command names no limit.
 pub const DEFAULT_LIMIT: usize = 1_000_000;

@@ -1,13 +1,13 @@
 //! Numbers that mean different things have different types, and each type keeps its range.
-ghost use Rattle.std.specs.Prelude.{ℕ, ◌<◌};
-ghost use Rattle.std.specs.Prelude.{Some};
-ghost use Rattle.cf_ids.specs.Ranges.{IsThread, IsTypeNumber};
+ghost use Rattle.std.specs.Prelude.{ℕ, ◌<◌, Some};
+ghost use Rattle.cf_ids.specs.Ranges.{IsObjectNumber, IsThread, IsTypeNumber};
 ghost use Rattle.cf_ids.specs.Words.{thread_word, number_word};
 
 use std::fmt;
 use std::marker::Model;
 
-/// The number of an object, in the order in which a run makes them: 0 to 65,535.
+/// The number of an object: 0 to 65,535 in the order in which a run makes them. The numbers from there to 66,559 are
+/// kept for constants of a script.
 #[derive(Clone, Copy, Debug, PartialEq, Eq)]
 pub struct ObjId(pub u32);
 
@@ -16,7 +16,7 @@ impl Model for ObjId {
 
     ghost view = { λ id. id.0 };
 
-    ghost invariant = { λ id. id.0 < 65536 };
+    ghost invariant = { λ id. IsObjectNumber id.0 };
 
     ghost inverse = { λ n. record { 0 = n } };
 }
@@ -66,7 +66,8 @@ impl ThreadId {
     pub const LEAD: ThreadId = ThreadId(255);
 }
 
-/// The number of a type: 1 to 13 are built in, and a script's classes follow. 0 is no type.
+/// The number of a type: 1 to 13 are built in, and a script's classes follow up to 1,024. 1,025 is kept for a type beside
+/// the registry. 0 is no type.
 #[derive(Clone, Copy, Debug, PartialEq, Eq)]
 pub struct TypeId(pub u16);
 

@@ -1,19 +1,16 @@
 -- Along legal journals all is kept.
-use Rattle.std.proofs.Common.{◌≡◌, ℕ, zero, suc, ◌<◌, ◌≤◌, Bool, true, false, List, [], ◌∷◌, map, Option, Some, None, eqb, refl, sym, ap, ◌∙◌, subst, arith, inl, inr}
-use Rattle.std.proofs.lemmas.Bool.Decides.{eqb_tells}
+use Rattle.std.proofs.Common.{◌≡◌, ℕ, zero, suc, ◌<◌, ◌≤◌, Bool, true, false, List, [], ◌∷◌, Option, Some, None, slice_get, refl, sym, ap, ◌∙◌, subst, arith, inl, inr}
 use Rattle.cf_ids.specs.declared.answer.Answer.{Answer}
-use Rattle.cf_graph.specs.Edges.{counted}
 use Rattle.cf_syntax.specs.declared.script.Script.{Script}
 use Rattle.cf_syntax.specs.declared.script.ClassLine.{ClassLine}
 use Rattle.cf_syntax.specs.declared.statement.Statement.{Statement}
 use Rattle.cf_syntax.specs.declared.statement.Touch.{Touch}
 use Rattle.cf_syntax.specs.declared.statement.Touch.TheVariants.{Nothing, Binds, Plus, Minus}
 use Rattle.cf_syntax.specs.Forms.{touch_of}
-use Rattle.cf_types.specs.Views.{LeafView}
-use Rattle.cf_types.specs.declared.cells.Cell.{Cell}
-use Rattle.cf_contents.specs.Contents.{Content, instance_content, array_content, dictionary_content, Object, times, present, unless_plain}
-use Rattle.cf_contents.specs.Deeds.{Source, Splice, Change, unchanged, in_text, in_data, in_places, put_pair, take_pair, pair_of, first_of, object_of, deed_at, used_at, chosen, resolved, put_in, coming_by, entering, put_entering, taken_in}
-use Rattle.cf_contents.proofs.SlotLaws.{MakesEmpty}
+use Rattle.cf_contents.specs.Contents.{Object, times}
+use Rattle.cf_contents.specs.Deeds.{Origin, Change, first_of, object_of, deed_at, used_at, taken_in}
+use Rattle.cf_contents.specs.Keys.{number_of, numbered, with_number_of}
+use Rattle.cf_contents.proofs.SlotLaws.{MakesEmpty, named_in, taken_most}
 use Rattle.cf_contents.proofs.FormLaws.{form_fits}
 use Rattle.cf_model.specs.declared.action.Action.{Action}
 use Rattle.cf_model.specs.declared.action.Entry.{Entry}
@@ -44,65 +41,38 @@ used_live st t body (None ∷ os) (suc i) o h e = used_live st t body os i o h e
 used_live st t body (Some p ∷ os) zero o h e = subst (IsLive st) (some_is p o e) (live_parts st t body p h.0)
 used_live st t body (Some p ∷ os) (suc i) o h e = used_live st t body os i o h.1 e
 
--- what comes into places is live
-module _ (st : State) (t : ℕ) (body : Option ℕ) (used : List (Option ℕ)) (h : MayUseAll st t body used) (o : ℕ) where
-  place_live : (p : Option ℕ) (i : ℕ) (ps : List (Option ℕ)) → used_at used i ≡ p → (0 < times o (present ps) → IsLive st o) → 0 < times o (present (p ∷ ps)) → IsLive st o
-  place_live None i ps e rest some = rest some
-  place_live (Some q) i ps e rest some = elim (eqb_tells q o) [
-    | inl here ↦ subst (IsLive st) here.1 (used_live st t body used i q h e)
-    | inr other ↦ rest (let none : counted (eqb q o) ≡ 0 = ap counted other.0 in omega arith)
-  ]
+-- what a number finds has that number
+number_with : (q : ℕ) (found : Option Object) (o : ℕ) → number_of (with_number_of q found) ≡ Some o → Some q ≡ Some o
+number_with q None o e = absurd cc
+number_with q (Some ob) o e = e
 
-  chosen_live : (is : List (Option ℕ)) → 0 < times o (present (map (chosen used) is)) → IsLive st o
-  chosen_live [] some = absurd (omega arith)
-  chosen_live (None ∷ is) some = chosen_live is some
-  chosen_live (Some i ∷ is) some = place_live (used_at used i) i (map (chosen used) is) refl (chosen_live is) some
+number_found : (objects : List Object) (p : Option ℕ) (o : ℕ) → number_of (numbered objects p) ≡ Some o → p ≡ Some o
+number_found objects None o e = absurd cc
+number_found objects (Some q) o e = number_with q (slice_get objects q) o e
 
-  unless_live : (plain : Bool) (os : List ℕ) → (0 < times o os → IsLive st o) → 0 < times o (unless_plain plain os) → IsLive st o
-  unless_live true os h some = absurd (omega arith)
-  unless_live false os h some = h some
+-- what comes into a body is live
+pub taken_live : (classes : List ClassLine) (x : Statement) (st : State) (t : ℕ) (body : Option ℕ) (used : List (Option ℕ)) → MayUseAll st t body used
+    → (o : ℕ) (ob : Option Object) → 0 < times o (taken_in ob (deed_at classes st.objects x used).change) → IsLive st o
+taken_live classes x st t body used uses o ob some =
+    let deed = deed_at classes st.objects x used in
+    let named : 0 < times o (named_in deed.change) = omega (arith, some, taken_most o deed.change ob) in
+    elim ((form_fits classes x _ _ _).used.among o named) [
+      | inl second ↦ used_live st t body used 1 o uses (number_found st.objects (used_at used 1) o second)
+      | inr third ↦ used_live st t body used 2 o uses (number_found st.objects (used_at used 2) o third)
+    ]
 
-  entering_live : (c : Content) (e : Splice (Option ℕ)) → 0 < times o (entering (record { at = e.at; out = e.out; enter = map (chosen used) e.enter }) c) → IsLive st o
-  entering_live (instance_content key fields) e some = chosen_live e.enter some
-  entering_live (array_content plain os) e some = unless_live plain _ (chosen_live e.enter) some
-  entering_live _ e some = absurd (omega arith)
-
-  -- a pair that comes in is of objects that are used
-  put_most : (known : Bool) (leaf : LeafView) (k v : ℕ) → times o (put_in known (record { id = k; leaf = leaf }, v)) ≤ times o (present (Some k ∷ Some v ∷ []))
-  put_most true leaf k v = omega arith
-  put_most false leaf k v = omega arith
-
-  coming_most : (plain : Bool) (pairs : List (Cell × ℕ)) (leaf : LeafView) (k v : Option ℕ) → times o (coming_by plain pairs (pair_of leaf k v)) ≤ times o (present (k ∷ v ∷ []))
-  coming_most plain pairs leaf (Some k) (Some v) = put_most _ leaf k v
-  coming_most plain pairs leaf (Some k) None = omega arith
-  coming_most plain pairs leaf None v = omega arith
-
-  pair_live : (c : Content) (leaf : LeafView) (key value : Option ℕ) → 0 < times o (put_entering (pair_of leaf (chosen used key) (chosen used value)) c) → IsLive st o
-  pair_live (dictionary_content plain pairs) leaf key value some =
-      unless_live plain _ (λ p. chosen_live (key ∷ value ∷ []) (omega (arith, p, coming_most plain pairs leaf (chosen used key) (chosen used value)))) some
-  pair_live _ leaf key value some = absurd (omega arith)
-
-  pub taken_live : (ob : Option Object) (change : Change) → 0 < times o (taken_in ob (resolved used change)) → IsLive st o
-  taken_live None change some = absurd (omega arith)
-  taken_live (Some ob) unchanged some = absurd (omega arith)
-  taken_live (Some ob) (in_text e) some = absurd (omega arith)
-  taken_live (Some ob) (in_data e) some = absurd (omega arith)
-  taken_live (Some ob) (in_places e) some = entering_live ob.content e some
-  taken_live (Some ob) (put_pair leaf key value) some = pair_live ob.content leaf key value some
-  taken_live (Some ob) (take_pair key) some = absurd (omega arith)
-
-touch_kept : (t : ℕ) (touch : Touch) (answer : Answer) (source : Source) (used : Option ℕ) (change : Change) (st : State) → IsKept st → MakesEmpty source → IsLiveIf st used → ((o : ℕ) → 0 < times o (taken_in (object_of st.objects used) change) → IsLive st o) → KeepsStep st (touch_step t touch answer source used change st)
-touch_kept t Nothing answer source used change st h makes live enters = change_kept t answer used change st h live enters
-touch_kept t (Binds v) answer source used change st h makes live enters = reference_kept t (Binds v) answer source (found st source) st h makes (found_is st source)
-touch_kept t (Plus v) answer source used change st h makes live enters = reference_kept t (Plus v) answer source used st h makes live
-touch_kept t (Minus v) answer source used change st h makes live enters = reference_kept t (Minus v) answer source used st h makes live
+touch_kept : (t : ℕ) (touch : Touch) (answer : Answer) (origin : Origin) (used : Option ℕ) (change : Change) (st : State) → IsKept st → MakesEmpty origin → IsLiveIf st used → ((o : ℕ) → 0 < times o (taken_in (object_of st.objects used) change) → IsLive st o) → KeepsStep st (touch_step t touch answer origin used change st)
+touch_kept t Nothing answer origin used change st h makes live enters = change_kept t answer used change st h live enters
+touch_kept t (Binds v) answer origin used change st h makes live enters = reference_kept t (Binds v) answer origin (found st origin) st h makes (found_is st origin)
+touch_kept t (Plus v) answer origin used change st h makes live enters = reference_kept t (Plus v) answer origin used st h makes live
+touch_kept t (Minus v) answer origin used change st h makes live enters = reference_kept t (Minus v) answer origin used st h makes live
 
 -- the step of each statement, by what its form keeps of slots
 pub statement_kept : (classes : List ClassLine) (t : ℕ) (body : Option ℕ) (x : Statement) (used : List (Option ℕ)) (st : State) → IsKept st → MayUseAll st t body used → KeepsStep st (statement_step classes t x used st)
 statement_kept classes t body x used st h uses =
     let deed = deed_at classes st.objects x used in
-    touch_kept t (touch_of x) deed.answer deed.source (first_of used) (resolved used deed.change) st h (form_fits classes x _ _ _).makes
-    (live_if st t body used uses) (λ o some. taken_live st t body used uses o (object_of st.objects (first_of used)) deed.change some)
+    touch_kept t (touch_of x) deed.answer deed.origin (first_of used) deed.change st h (form_fits classes x _ _ _).makes
+    (live_if st t body used uses) (λ o some. taken_live classes x st t body used uses o (object_of st.objects (first_of used)) some)
 
 frame_kept : (classes : List ClassLine) (t : ℕ) (st : State) (o : Option Statement) → IsKept st → MayUseAll st t (named_of (next_of st.frame o)) (used_of (next_of st.frame o)) → KeepsStep st (frame_step classes t st o)
 frame_kept classes t st None h uses = done_kept st h

@@ -13,7 +13,7 @@ use Rattle.cf_syntax.specs.declared.statement.Touch.TheVariants.{Nothing, Binds,
 use Rattle.cf_syntax.specs.Forms.{touch_of, read_by}
 use Rattle.cf_syntax.specs.Owned.{Owned}
 use Rattle.cf_contents.specs.Contents.{times}
-use Rattle.cf_contents.specs.Deeds.{Source, Change, first_of, object_of, deed_at, resolved, taken_in, given_out}
+use Rattle.cf_contents.specs.Deeds.{Origin, Change, first_of, object_of, deed_at, taken_in, given_out}
 use Rattle.cf_model.specs.declared.action.Action.{Action}
 use Rattle.cf_model.specs.declared.action.Entry.{Entry}
 use Rattle.cf_model.specs.State.{State, Work, release_of, degree}
@@ -79,11 +79,11 @@ minus_can : (st : State) (v : ℕ) (object : Option ℕ) → TouchesThere st (Mi
 minus_can st v None there = tt
 minus_can st v (Some o) there = (there.reference, tt)
 
-touch_counted : (touch : Touch) (answer : Answer) (source : Source) (used : Option ℕ) (change : Change) (st : State) → TakesFirst touch st.frame.bindings used → TouchesThere st touch (looked touch st.frame.bindings) → ((b : ℕ) → used ≡ Some b → CanRun (operations_in 0 b (slice_get st.objects b) change) st.edges) → IsCounted st (touch_step 0 touch answer source used change st)
-touch_counted Nothing answer source used change st first there can = change_counted answer used change st can
-touch_counted (Binds v) answer source used change st first there can = record { can = binds_can v (found st source) st.edges; cuts = touch_cuts 0 (Binds v) (found st source) }
-touch_counted (Plus v) answer source used change st first there can = record { can = plus_can v used st.edges; cuts = touch_cuts 0 (Plus v) used }
-touch_counted (Minus v) answer source used change st first there can = record { can = minus_can st v used (subst (TouchesThere st (Minus v)) (sym first) there); cuts = touch_cuts 0 (Minus v) used }
+touch_counted : (touch : Touch) (answer : Answer) (origin : Origin) (used : Option ℕ) (change : Change) (st : State) → TakesFirst touch st.frame.bindings used → TouchesThere st touch (looked touch st.frame.bindings) → ((b : ℕ) → used ≡ Some b → CanRun (operations_in 0 b (slice_get st.objects b) change) st.edges) → IsCounted st (touch_step 0 touch answer origin used change st)
+touch_counted Nothing answer origin used change st first there can = change_counted answer used change st can
+touch_counted (Binds v) answer origin used change st first there can = record { can = binds_can v (found st origin) st.edges; cuts = touch_cuts 0 (Binds v) (found st origin) }
+touch_counted (Plus v) answer origin used change st first there can = record { can = plus_can v used st.edges; cuts = touch_cuts 0 (Plus v) used }
+touch_counted (Minus v) answer origin used change st first there can = record { can = minus_can st v used (subst (TouchesThere st (Minus v)) (sym first) there); cuts = touch_cuts 0 (Minus v) used }
 
 frame_counted : (s : Script) (st : State) (o : Option Statement) → Owned s → IsSound s st → slice_get (setup s) st.frame.number ≡ o → MayUseAll st 0 (named_of (next_of st.frame o)) (used_of (next_of st.frame o)) → IsCounted st (frame_step s.classes 0 st o)
 frame_counted s st None own h e uses = record { can = tt; cuts = λ o. refl }
@@ -93,9 +93,9 @@ frame_counted s st (Some x) own h e uses =
     let deed = deed_at s.classes st.objects x used in
     let may = subst (MayUseAll st 0 (named_of (next_of st.frame (Some x)))) (used_of-action_of x site) uses in
     let body = named_of (next_of st.frame (Some x)) in
-    touch_counted (touch_of x) deed.answer deed.source (first_of used) (resolved used deed.change) st
+    touch_counted (touch_of x) deed.answer deed.origin (first_of used) deed.change st
     (first_used (touch_of x) (read_by x) st.frame.bindings) (touches_there s st x own h e)
-    (can_used (first_of used) (resolved used deed.change) st h.kept (live_if st 0 body used may) (λ o some. taken_live st 0 body used may o (object_of st.objects (first_of used)) deed.change some))
+    (can_used (first_of used) deed.change st h.kept (live_if st 0 body used may) (λ o some. taken_live s.classes x st 0 body used may o (object_of st.objects (first_of used)) some))
 
 owed_counted : (o : ℕ) (rest : List Work) (s : Script) (st : State) → IsSound s st → st.frame.work ≡ release_of o ∷ rest → IsCounted st (owed_step 0 o st)
 owed_counted o rest s st h w =

@@ -1,8 +1,8 @@
 -- Along the legal journals of an owned script all is kept, each variable holds what it owns, and work is in order.
-use Rattle.std.proofs.Common.{◌≡◌, ℕ, zero, suc, ◌+◌, ◌<◌, ◌≤◌, Bool, true, false, ◌&&◌, List, [], ◌∷◌, ◌++◌, take, map, Option, Some, None, ltb, refl, sym, ap, ◌∙◌, subst, arith, append_assoc, append-nil}
+use Rattle.std.proofs.Common.{◌≡◌, ℕ, zero, suc, ◌+◌, ◌<◌, ◌≤◌, Bool, true, false, ◌&&◌, List, [], ◌∷◌, ◌++◌, take, map, Option, Some, None, eqb, ltb, refl, sym, ap, ◌∙◌, subst, arith, inl, inr, append_assoc, append-nil}
 use Rattle.std.specs.Prelude.{slice_get}
-use Rattle.std.proofs.lemmas.Bool.{and_parts, and_from, eq-eqb}
-use Rattle.std.proofs.lemmas.Bool.Decides.{nat_tests}
+use Rattle.std.proofs.lemmas.Bool.{and_parts, and_from, eq-eqb, ltb-true}
+use Rattle.std.proofs.lemmas.Bool.Decides.{eqb_tells, nat_tests}
 use Rattle.cf_ids.specs.declared.answer.Answer.{Answer}
 use Rattle.cf_ids.specs.declared.answer.Answer.TheVariants as answers
 use Rattle.cf_graph.specs.Holders.{Holder, variable, owed, slot}
@@ -15,9 +15,10 @@ use Rattle.cf_syntax.specs.declared.statement.Statement.{Statement}
 use Rattle.cf_syntax.specs.declared.statement.Touch.{Touch}
 use Rattle.cf_syntax.specs.declared.statement.Touch.TheVariants.{Nothing, Binds, Plus, Minus}
 use Rattle.cf_syntax.specs.Forms.{touch_of, touched, read_by, used_by, is_known, padded}
-use Rattle.cf_syntax.specs.Owned.{may_use, may_use_all, may_touch, is_fit, are_fit, blocks_fit, Owned}
+use Rattle.cf_syntax.specs.Owned.{bound, given, taken, given_by, taken_by, may_use, may_use_all, may_touch, is_fit, are_fit, blocks_fit, Owned}
+use Rattle.cf_syntax.proofs.OwnedLaws.{total_push}
 use Rattle.cf_contents.specs.Contents.{times}
-use Rattle.cf_contents.specs.Deeds.{Source, Change, first_of, object_of, deed_at, resolved, taken_in, given_out}
+use Rattle.cf_contents.specs.Deeds.{Origin, Change, first_of, object_of, deed_at, taken_in, given_out}
 use Rattle.cf_contents.proofs.SlotLaws.{MakesEmpty}
 use Rattle.cf_contents.proofs.FormLaws.{form_fits}
 use Rattle.cf_model.specs.declared.action.Action.{Action}
@@ -142,11 +143,44 @@ foreign_quiet : (touch : Touch) (object : Option ℕ) (r : Reference) (es : List
 foreign_quiet touch object r es f = operations_quiet 0 touch object r es (λ v o. one_apart r (reference 0 v o) (λ q. f.variable v (ap (λ (p : Reference). p.holder) q)))
 
 -- a touch's step leaves what others hold
-touch_quiet : (touch : Touch) (answer : Answer) (source : Source) (used : Option ℕ) (change : Change) (st : State) → ((b : ℕ) → used ≡ Some b → CanRun (operations_in 0 b (slice_get st.objects b) change) st.edges) → (r : Reference) → IsForeign r.holder → weigh (one r) (run (touch_step 0 touch answer source used change st).operations st.edges) ≡ weigh (one r) st.edges
-touch_quiet Nothing answer source used change st can r f = change_quiet r used change st f.owed f.slot can
-touch_quiet (Binds v) answer source used change st can r f = foreign_quiet (Binds v) (found st source) r st.edges f
-touch_quiet (Plus v) answer source used change st can r f = foreign_quiet (Plus v) used r st.edges f
-touch_quiet (Minus v) answer source used change st can r f = foreign_quiet (Minus v) used r st.edges f
+touch_quiet : (touch : Touch) (answer : Answer) (origin : Origin) (used : Option ℕ) (change : Change) (st : State) → ((b : ℕ) → used ≡ Some b → CanRun (operations_in 0 b (slice_get st.objects b) change) st.edges) → (r : Reference) → IsForeign r.holder → weigh (one r) (run (touch_step 0 touch answer origin used change st).operations st.edges) ≡ weigh (one r) st.edges
+touch_quiet Nothing answer origin used change st can r f = change_quiet r used change st f.owed f.slot can
+touch_quiet (Binds v) answer origin used change st can r f = foreign_quiet (Binds v) (found st origin) r st.edges f
+touch_quiet (Plus v) answer origin used change st can r f = foreign_quiet (Plus v) used r st.edges f
+touch_quiet (Minus v) answer origin used change st can r f = foreign_quiet (Minus v) used r st.edges f
+
+-- ---- no variable of an owned script has more references taken from it than it was given
+
+owns_touch : (earlier : List Statement) (v : ℕ) (touch : Touch) → may_use_all earlier (touched touch) ≡ true → taken v earlier ≤ given v earlier
+    → taken v earlier + taken_by v touch ≤ given v earlier + given_by v touch
+owns_touch earlier v Nothing used h = omega (arith, h)
+owns_touch earlier v (Binds w) used h = omega (arith, h)
+owns_touch earlier v (Plus w) used h = omega (arith, h)
+owns_touch earlier v (Minus w) used h = elim (eqb_tells v w) [
+  | inl here ↦
+      let may = (and_parts (may_use earlier w) true used).0 in
+      let left : taken w earlier < given w earlier = ltb-true (taken w earlier) (given w earlier) (and_parts (ltb 0 (bound w earlier)) (ltb (taken w earlier) (given w earlier)) may).1 in
+      omega (arith, subst (λ (u : ℕ). taken u earlier < given u earlier) (sym here.1) left, counted_most (eqb v w))
+  | inr other ↦ omega (arith, h, ap counted other.0)
+]
+  where
+    counted_most : (b : Bool) → counted b ≤ 1
+    counted_most true = omega arith
+    counted_most false = omega arith
+
+owns_all : (earlier xs : List Statement) (n v : ℕ) → are_fit earlier xs ≡ true → taken v earlier ≤ given v earlier
+    → taken v (earlier ++ take n xs) ≤ given v (earlier ++ take n xs)
+owns_all earlier xs zero v fit h = rw (append-nil earlier) h
+owns_all earlier [] (suc n) v fit h = rw (append-nil earlier) h
+owns_all earlier (x ∷ xs) (suc n) v fit h =
+    let p = and_parts (is_fit earlier x) (are_fit (earlier ++ x ∷ []) xs) fit in
+    let used = use_first earlier (touched (touch_of x)) (read_by x) (fit_parts earlier x p.0).1 in
+    let more : taken v (earlier ++ x ∷ []) ≤ given v (earlier ++ x ∷ []) =
+    rw (total_push (taken_by v) earlier x, total_push (given_by v) earlier x) (owns_touch earlier v (touch_of x) used h) in
+    rw (← append_assoc earlier (x ∷ []) (take n xs)) (owns_all (earlier ++ x ∷ []) xs n v p.1 more)
+
+pub setup_owns : (s : Script) → Owned s → (n v : ℕ) → taken v (take n (setup s)) ≤ given v (take n (setup s))
+setup_owns s own n v = owns_all [] (setup s) n v (owned_blocks s.blocks own) (omega arith)
 
 -- the operations of a change can be done
 pub can_used : (used : Option ℕ) (change : Change) (st : State) → IsKept st → IsLiveIf st used → ((o : ℕ) → 0 < times o (taken_in (object_of st.objects used) change) → IsLive st o) → (b : ℕ) → used ≡ Some b → CanRun (operations_in 0 b (slice_get st.objects b) change) st.edges
@@ -160,42 +194,42 @@ live_used st (Some c) b live e =
     subst (λ (d : ℕ). times d st.finalised ≡ 0) (some_is c b e) live.0
 
 -- a touch's step keeps what variables hold, and its work is in order
-touch_sound : (touch : Touch) (answer : Answer) (source : Source) (used : Option ℕ) (change : Change) (st : State) (later : List Statement) → let step = touch_step 0 touch answer source used change st in let object = aimed touch (found st source) st.frame.bindings in IsWorked st → MakesEmpty source → TakesFirst touch st.frame.bindings used → ((b : ℕ) → used ≡ Some b → times b st.finalised ≡ 0) → ((b : ℕ) → used ≡ Some b → CanRun (operations_in 0 b (slice_get st.objects b) change) st.edges) → Holds later (bindings_by touch object ++ st.frame.bindings) (run (operations_of 0 touch object) st.edges) → Holds later (step.bindings ++ st.frame.bindings) (run step.operations st.edges) × WorksStep st step
-touch_sound Nothing answer source used change st later w makes first live can h =
+touch_sound : (touch : Touch) (answer : Answer) (origin : Origin) (used : Option ℕ) (change : Change) (st : State) (later : List Statement) → let step = touch_step 0 touch answer origin used change st in let object = aimed touch (found st origin) st.frame.bindings in IsWorked st → MakesEmpty origin → TakesFirst touch st.frame.bindings used → ((b : ℕ) → used ≡ Some b → times b st.finalised ≡ 0) → ((b : ℕ) → used ≡ Some b → CanRun (operations_in 0 b (slice_get st.objects b) change) st.edges) → Holds later (bindings_by touch object ++ st.frame.bindings) (run (operations_of 0 touch object) st.edges) → Holds later (step.bindings ++ st.frame.bindings) (run step.operations st.edges) × WorksStep st step
+touch_sound Nothing answer origin used change st later w makes first live can h =
     (holds_same later st.frame.bindings st.edges (run (change_operations 0 used (object_of st.objects used) change) st.edges) (change_same used change st can) h, change_works answer used change st w live can)
-touch_sound (Binds v) answer source used change st later w makes first live can h = (h, reference_works 0 (Binds v) answer source (found st source) st w makes)
-touch_sound (Plus v) answer source used change st later w makes first live can h =
-    (subst (λ (o : Option ℕ). Holds later (bindings_by (Plus v) o ++ st.frame.bindings) (run (operations_of 0 (Plus v) o) st.edges)) (sym first) h, reference_works 0 (Plus v) answer source used st w makes)
-touch_sound (Minus v) answer source used change st later w makes first live can h =
-    (subst (λ (o : Option ℕ). Holds later (bindings_by (Minus v) o ++ st.frame.bindings) (run (operations_of 0 (Minus v) o) st.edges)) (sym first) h, reference_works 0 (Minus v) answer source used st w makes)
+touch_sound (Binds v) answer origin used change st later w makes first live can h = (h, reference_works 0 (Binds v) answer origin (found st origin) st w makes)
+touch_sound (Plus v) answer origin used change st later w makes first live can h =
+    (subst (λ (o : Option ℕ). Holds later (bindings_by (Plus v) o ++ st.frame.bindings) (run (operations_of 0 (Plus v) o) st.edges)) (sym first) h, reference_works 0 (Plus v) answer origin used st w makes)
+touch_sound (Minus v) answer origin used change st later w makes first live can h =
+    (subst (λ (o : Option ℕ). Holds later (bindings_by (Minus v) o ++ st.frame.bindings) (run (operations_of 0 (Minus v) o) st.edges)) (sym first) h, reference_works 0 (Minus v) answer origin used st w makes)
 
 -- the frame goes on by one statement
-step_number : (touch : Touch) (answer : Answer) (source : Source) (used : Option ℕ) (change : Change) (st : State) → (touch_step 0 touch answer source used change st).number ≡ st.frame.number + 1
-step_number Nothing answer source used change st = refl
-step_number (Binds v) answer source used change st = refl
-step_number (Plus v) answer source used change st = refl
-step_number (Minus v) answer source used change st = refl
+step_number : (touch : Touch) (answer : Answer) (origin : Origin) (used : Option ℕ) (change : Change) (st : State) → (touch_step 0 touch answer origin used change st).number ≡ st.frame.number + 1
+step_number Nothing answer origin used change st = refl
+step_number (Binds v) answer origin used change st = refl
+step_number (Plus v) answer origin used change st = refl
+step_number (Minus v) answer origin used change st = refl
 
 statement_sound : (s : Script) (st : State) (x : Statement) (body : Option ℕ) → Owned s → IsSound s st → slice_get (setup s) st.frame.number ≡ Some x → MayUseAll st 0 body (used_objects st.frame.bindings x) → IsSound s (state_after (statement_step s.classes 0 x (used_objects st.frame.bindings x) st) st)
 statement_sound s st x body own h e uses =
     let used = used_objects st.frame.bindings x in
     let step = statement_step s.classes 0 x used st in
     let deed = deed_at s.classes st.objects x used in
-    let change = resolved used deed.change in
+    let change = deed.change in
     let live = live_if st 0 body used uses in
-    let enters = λ (o : ℕ) (some : 0 < times o (taken_in (object_of st.objects (first_of used)) change)). taken_live st 0 body used uses o (object_of st.objects (first_of used)) deed.change some in
+    let enters = λ (o : ℕ) (some : 0 < times o (taken_in (object_of st.objects (first_of used)) change)). taken_live s.classes x st 0 body used uses o (object_of st.objects (first_of used)) some in
     let earlier = take st.frame.number (setup s) in
     let fit : is_fit earlier x ≡ true = fit_at [] (setup s) st.frame.number x (owned_blocks s.blocks own) e in
     let parts = fit_parts earlier x fit in
-    let holds = touch_holds x earlier st.frame.bindings st.edges h.holds (touch_of x) (found st deed.source) refl parts.0 (use_first earlier (touched (touch_of x)) (read_by x) parts.1) in
+    let holds = touch_holds x earlier st.frame.bindings st.edges h.holds (touch_of x) (found st deed.origin) refl parts.0 (use_first earlier (touched (touch_of x)) (read_by x) parts.1) in
     let can = can_used (first_of used) change st h.kept live enters in
-    let both = touch_sound (touch_of x) deed.answer deed.source (first_of used) change st (earlier ++ x ∷ []) h.worked (form_fits s.classes x _ _ _).makes (first_used (touch_of x) (read_by x) st.frame.bindings) (λ b q. live_used st (first_of used) b live q) can holds in
+    let both = touch_sound (touch_of x) deed.answer deed.origin (first_of used) change st (earlier ++ x ∷ []) h.worked (form_fits s.classes x _ _ _).makes (first_used (touch_of x) (read_by x) st.frame.bindings) (λ b q. live_used st (first_of used) b live q) can holds in
     record {
       block = h.block;
-      holds = rw (step_number (touch_of x) deed.answer deed.source (first_of used) change st, take_next (setup s) st.frame.number x e) both.0;
+      holds = rw (step_number (touch_of x) deed.answer deed.origin (first_of used) change st, take_next (setup s) st.frame.number x e) both.0;
       kept = kept_after st step h.kept (statement_kept s.classes 0 body x used st h.kept uses);
       worked = worked_after st step both.1;
-      others = λ r f. touch_quiet (touch_of x) deed.answer deed.source (first_of used) change st can r f ∙ h.others r f;
+      others = λ r f. touch_quiet (touch_of x) deed.answer deed.origin (first_of used) change st can r f ∙ h.others r f;
     }
 
 -- the step of each demanded action

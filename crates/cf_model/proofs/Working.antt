@@ -11,7 +11,7 @@ use Rattle.cf_graph.proofs.Counts.{weigh-without}
 use Rattle.cf_syntax.specs.declared.statement.Touch.{Touch}
 use Rattle.cf_syntax.specs.declared.statement.Touch.TheVariants.{Nothing, Binds, Plus, Minus}
 use Rattle.cf_contents.specs.Contents.{Object, times, slots_at}
-use Rattle.cf_contents.specs.Deeds.{Source, nowhere, fresh, there, Change, taken_in, given_out}
+use Rattle.cf_contents.specs.Deeds.{Origin, nowhere, fresh, there, Change, taken_in, given_out}
 use Rattle.cf_contents.proofs.SlotLaws.{times-append, MakesEmpty, slots-more, others_keep}
 use Rattle.cf_model.specs.State.{State, Work, release_of, slots_of, left_of, trimmed}
 use Rattle.cf_model.specs.Steps.{Step, reference, owed_reference, slot_reference, operations_of, made_by, finals_of, edges_after, state_after, reference_step, change_step, done_step, owed_step, drop_step}
@@ -117,18 +117,18 @@ operations_quiet t (Binds v) (Some o) r es h = omega (arith, h v o)
 operations_quiet t (Plus v) (Some o) r es h = omega (arith, h v o)
 operations_quiet t (Minus v) (Some o) r es h = weigh-without-other (one r) (reference t v o) es (h v o)
 
-pub made_slots : (touch : Touch) (source : Source) (objects : List Object) (b : ℕ) → MakesEmpty source → slots_at (slice_get (objects ++ made_by touch source) b) ≡ slots_at (slice_get objects b)
-made_slots Nothing source objects b h = rw (append-nil objects) refl
+pub made_slots : (touch : Touch) (origin : Origin) (objects : List Object) (b : ℕ) → MakesEmpty origin → slots_at (slice_get (objects ++ made_by touch origin) b) ≡ slots_at (slice_get objects b)
+made_slots Nothing origin objects b h = rw (append-nil objects) refl
 made_slots (Binds v) nowhere objects b h = rw (append-nil objects) refl
 made_slots (Binds v) (fresh ob) objects b h = slots-more objects ob b h
 made_slots (Binds v) (there o) objects b h = rw (append-nil objects) refl
-made_slots (Plus v) source objects b h = rw (append-nil objects) refl
-made_slots (Minus v) source objects b h = rw (append-nil objects) refl
+made_slots (Plus v) origin objects b h = rw (append-nil objects) refl
+made_slots (Minus v) origin objects b h = rw (append-nil objects) refl
 
-pub reference_works : (t : ℕ) (touch : Touch) (answer : Answer) (source : Source) (object : Option ℕ) (st : State) → IsWorked st → MakesEmpty source → WorksStep st (reference_step t touch answer source object st)
-reference_works t touch answer source object st h makes = record {
+pub reference_works : (t : ℕ) (touch : Touch) (answer : Answer) (origin : Origin) (object : Option ℕ) (st : State) → IsWorked st → MakesEmpty origin → WorksStep st (reference_step t touch answer origin object st)
+reference_works t touch answer origin object st h makes = record {
   owed = λ o. operations_quiet t touch object (owed_reference 0 o) st.edges (λ v p. one_of_kinds (owed_reference 0 o) (reference t v p) refl) ∙ h.owed o;
-  given_up = λ b some none. ap (drop (times b st.dropped)) (made_slots touch source st.objects b makes) ∙ h.given_up b some none;
+  given_up = λ b some none. ap (drop (times b st.dropped)) (made_slots touch origin st.objects b makes) ∙ h.given_up b some none;
 }
 
 pub done_works : (st : State) → IsWorked st → WorksStep st (done_step st)

@@ -15,7 +15,7 @@ use Rattle.cf_graph.specs.Holders.{Holder, variable, owed, slot}
 use Rattle.cf_graph.specs.Edges.{Reference}
 use Rattle.cf_graph.specs.Operations.{Operation, add, move, cut, run}
 use Rattle.cf_contents.specs.Contents.{Object}
-use Rattle.cf_contents.specs.Deeds.{Source, nowhere, fresh, there, Change, first_of, object_of, deed_at, resolved, changed_by, taken_in, given_out}
+use Rattle.cf_contents.specs.Deeds.{Origin, nowhere, fresh, there, Change, first_of, object_of, deed_at, changed_by, taken_in, given_out}
 use Rattle.cf_model.specs.declared.action.Action.{Action}
 use Rattle.cf_model.specs.declared.action.Action.TheVariants as actions
 use Rattle.cf_model.specs.State.{Binding, Work, release_of, slots_of, State, trimmed, is_live, degree}
@@ -102,8 +102,8 @@ gained_by (cut r ∷ ops) = gained_by ops
 
 -- ---- the step of a statement
 
--- the object that a source gives: the next one, or one that is there, where it is live
-abbrev pub found : State → Source → Option ℕ
+-- the object that a origin gives: the next one, or one that is there, where it is live
+abbrev pub found : State → Origin → Option ℕ
 found st nowhere = None
 found st (fresh ob) = Some (length st.objects)
 found st (there o) = if is_live st o then Some o else None
@@ -126,17 +126,17 @@ cut_by (Binds v) object = None
 cut_by (Plus v) object = None
 cut_by (Minus v) object = object
 
--- the object that a source makes, which is bound
-abbrev pub made_from : Source → List Object
+-- the object that a origin makes, which is bound
+abbrev pub made_from : Origin → List Object
 made_from nowhere = []
 made_from (fresh ob) = ob ∷ []
 made_from (there o) = []
 
-abbrev pub made_by : Touch → Source → List Object
-made_by Nothing source = []
-made_by (Binds v) source = made_from source
-made_by (Plus v) source = []
-made_by (Minus v) source = []
+abbrev pub made_by : Touch → Origin → List Object
+made_by Nothing origin = []
+made_by (Binds v) origin = made_from origin
+made_by (Plus v) origin = []
+made_by (Minus v) origin = []
 
 -- a touch may bind a variable
 abbrev pub bindings_by : Touch → Option ℕ → List Binding
@@ -170,12 +170,12 @@ change_operations t (Some b) ob change =
     map (λ o. add (slot_reference b o)) (taken_in ob change) ++ map (λ o. move (slot_reference b o) (owed t)) (given_out ob change)
 
 -- the step of a touch that takes or binds a reference to an object, which may be new
-abbrev pub reference_step : ℕ → Touch → Answer → Source → Option ℕ → State → Step
-reference_step t touch answer source object st = record {
+abbrev pub reference_step : ℕ → Touch → Answer → Origin → Option ℕ → State → Step
+reference_step t touch answer origin object st = record {
   answer = answer_of touch object answer;
   operations = operations_of t touch object;
   cuts = cut_by touch object;
-  objects = st.objects ++ made_by touch source;
+  objects = st.objects ++ made_by touch origin;
   bindings = bindings_by touch object;
   number = st.frame.number + 1;
   drops = [];
@@ -199,16 +199,16 @@ change_step t answer used change st = record {
 
 -- a statement takes a reference to the first object that it uses, or binds one to what is found, or else it may change
 -- an object
-abbrev pub touch_step : ℕ → Touch → Answer → Source → Option ℕ → Change → State → Step
-touch_step t Nothing answer source used change st = change_step t answer used change st
-touch_step t (Binds v) answer source used change st = reference_step t (Binds v) answer source (found st source) st
-touch_step t (Plus v) answer source used change st = reference_step t (Plus v) answer source used st
-touch_step t (Minus v) answer source used change st = reference_step t (Minus v) answer source used st
+abbrev pub touch_step : ℕ → Touch → Answer → Origin → Option ℕ → Change → State → Step
+touch_step t Nothing answer origin used change st = change_step t answer used change st
+touch_step t (Binds v) answer origin used change st = reference_step t (Binds v) answer origin (found st origin) st
+touch_step t (Plus v) answer origin used change st = reference_step t (Plus v) answer origin used st
+touch_step t (Minus v) answer origin used change st = reference_step t (Minus v) answer origin used st
 
 abbrev pub statement_step : List ClassLine → ℕ → Statement → List (Option ℕ) → State → Step
 statement_step classes t s used st =
     let deed = deed_at classes st.objects s used in
-    touch_step t (touch_of s) deed.answer deed.source (first_of used) (resolved used deed.change) st
+    touch_step t (touch_of s) deed.answer deed.origin (first_of used) deed.change st
 
 -- ---- the steps that no statement writes
 

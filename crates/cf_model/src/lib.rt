@@ -9,5 +9,5 @@ mod rows;
 
 pub use action::{Action, Entry};
 pub use ending::Ending;
-pub use laws::finals_of_legal_journals;
+pub use laws::{finals_of_legal_journals, variables_hold_what_they_own};
 pub use rows::a_script_and_its_lines;

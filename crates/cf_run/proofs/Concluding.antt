@@ -2,7 +2,6 @@
 use Rattle.std.proofs.Common.{◌≡◌, false, ℕ, ◌<◌, ◌≤◌, List, [], ◌∷◌, length, Option, Some, None, refl, sym, ap, ◌∙◌, subst, arith, inl, inr, ◌⊎◌}
 use Rattle.std.specs.Prelude.{Result, Ok, Err, IsSome, IsSomeAnd, IfSome, Contains}
 use Rattle.std.proofs.lemmas.Bool.{false≢true}
-use Rattle.cf_fault.specs.Fault.{HasRisen}
 use Rattle.cf_io.specs.Bytes.{then_bytes}
 use Rattle.cf_io.specs.Files.{File, content_of}
 use Rattle.cf_syntax.specs.declared.script.Script.{Script}
@@ -16,14 +15,15 @@ use Rattle.cf_model.specs.Serial.{IsSerial}
 use Rattle.cf_model.proofs.Finality.{finals_fit}
 use Rattle.cf_model.proofs.Sizes.{few_made}
 use Rattle.cf_run.specs.declared.serial.Over.{Over}
-use Rattle.cf_run.specs.declared.output.Unwritten.{Unwritten}
+use Rattle.cf_run.specs.declared.output.Unwritten.{Unwritten as WriteError}
 use Rattle.cf_run.specs.declared.output.Unwritten.TheVariants.{Fault, NoMemory}
 use Rattle.cf_run.specs.declared.settle.Settled.{Settled}
 use Rattle.cf_run.specs.declared.settle.Settled.TheVariants as settled
+use Rattle.cf_run.specs.Calls.{SourceState, Call, status_is, SourceFailed, SinkFailed}
 use Rattle.cf_run.specs.Commands.{file_of}
 use Rattle.cf_run.specs.Written.{WritesAll}
-use Rattle.cf_run.specs.Outcomes.{script_bytes, IsContent, IsRead, IsAccepted, IsUnfit, IsRefused, IsRefusedText, IsJournal, IsDue, usage_due, refusal_due, fault_due, run_due, Ran, Misused, Rejected, Unreadable, Shortened, Silent, Outcome, done, limited, full, misused, rejected, unreadable, unwritten, no_memory}
-use Rattle.cf_run.specs.Settled.{Settles, HasFew, due_of, entries_of, status_by, status_after}
+use Rattle.cf_run.specs.Outcomes.{script_bytes, IsContent, IsRead, IsAccepted, IsUnfit, IsRefused, IsRefusedText, IsJournal, IsDue, usage_due, refusal_due, fault_due, run_due, Ran, Misused, Rejected, Unreadable, Unwritten, Shortened, Silent, Outcome, done, limited, full, misused, rejected, unreadable, unwritten, no_memory, Reads, ReadsScript, Tells}
+use Rattle.cf_run.specs.Settled.{Accepted, Settles, HasFew, due_of, entries_of, status_by, status_after}
 use Rattle.cf_run.specs.Tally.{IsOver}
 use Rattle.cf_run.specs.Lines.{entries_in, run_text}
 use Rattle.cf_model.specs.Journals.{After, IsWhole}
@@ -36,8 +36,8 @@ begun None P h = absurd h
 begun (Some s) P h = (s, (refl, h))
 
 -- a run that is over, of an accepted script
-abbrev RanBy : List (List ℕ) → Option (List File) → Over → Script → Type 0
-RanBy words files over s = IsAccepted words files s × IsOver s over.world over.ending over.tallies.items over.finals
+abbrev RanBy : List (List ℕ) → (before after : SourceState) → Over → Script → Type 0
+RanBy words before after over s = Accepted words before after s × IsOver s over.world over.ending over.tallies.items over.finals
 
 abbrev journal_is : (s : Script) (over : Over) → IsOver s over.world over.ending over.tallies.items over.finals → IsJournal s over.ending over.world.journal
 journal_is s over h = record { legal = h.legal; ends = h.ends; finals = finals_fit s over.world.journal h.legal }
@@ -45,56 +45,69 @@ journal_is s over h = record { legal = h.legal; ends = h.ends; finals = finals_f
 abbrev serial_is : (s : Script) (over : Over) → IsOver s over.world over.ending over.tallies.items over.finals → IsSerial s over.world.journal
 serial_is s over h = record { legal = h.legal; order = h.order }
 
-few_tallies : (words : List (List ℕ)) (files : Option (List File)) (over : Over) → (s : Script) × ((over.world.script ≡ Some s) × RanBy words files over s) → length over.tallies.items ≤ 65536
-few_tallies words files over (s, (e, h)) = omega (arith, h.1.tallied.size, few_made s over.world.journal h.1.legal)
+few_tallies : (words : List (List ℕ)) (before after : SourceState) (over : Over) → (s : Script) × ((over.world.script ≡ Some s) × RanBy words before after over s)
+    → length over.tallies.items ≤ 65536
+few_tallies words before after over (s, (e, h)) = omega (arith, h.1.tallied.size, few_made s over.world.journal h.1.legal)
 
-pub has_few : (words : List (List ℕ)) (files : Option (List File)) (faults faults' : ℕ) (s : Settled) → Settles words files faults faults' s → HasFew s
-has_few words files faults faults' settled.Usage h = tt
-has_few words files faults faults' settled.ReadFault h = tt
-has_few words files faults faults' (settled.Refused r) h = tt
-has_few words files faults faults' (settled.Ran over) h = few_tallies words files over (begun over.world.script (RanBy words files over) h)
+pub has_few : (words : List (List ℕ)) (before after : SourceState) (s : Settled) → Settles words before after s → HasFew s
+has_few words before after settled.Usage h = tt
+has_few words before after settled.ReadFault h = tt
+has_few words before after (settled.Refused r) h = tt
+has_few words before after (settled.Ran over) h = few_tallies words before after over (begun over.world.script (RanBy words before after over) h)
 
-ran_due : (words : List (List ℕ)) (files : Option (List File)) (faults faults' : ℕ) (over : Over) → (s : Script) × ((over.world.script ≡ Some s) × RanBy words files over s) → IsDue words files faults faults' (entries_in over.world.script over.world.journal) (run_text over.world over.ending over.tallies.items over.finals)
-ran_due words files faults faults' over (s, (e, h)) =
-    subst (λ (o : Option Script). IsDue words files faults faults' (entries_in o over.world.journal) (run_text over.world over.ending over.tallies.items over.finals)) (sym e)
-    (run_due s over.ending h.0 (journal_is s over h.1) (serial_is s over h.1) (run_stops s over.world over.ending over.tallies.items over.finals h.1) (run_text-rendering s over.world over.ending over.tallies.items over.finals h.1))
+module _ (call : Call) where
+  -- a run, in a call with its journal
+  ran_due : (over : Over) → (s : Script) × ((over.world.script ≡ Some s) × RanBy call.words call.source call.source_after over s)
+      → call.journal ≡ entries_in over.world.script over.world.journal → IsDue call (run_text over.world over.ending over.tallies.items over.finals)
+  ran_due over (s, (e, h)) is =
+      let same : call.journal ≡ over.world.journal = is ∙ ap (λ (o : Option Script). entries_in o over.world.journal) e in
+      run_due s over.ending h.0.read (rw same (journal_is s over h.1)) (rw same (serial_is s over h.1))
+      (rw same (run_stops s over.world over.ending over.tallies.items over.finals h.1))
+      (rw same (run_text-rendering s over.world over.ending over.tallies.items over.finals h.1))
 
--- what is due of what a command came to
-pub due_is : (words : List (List ℕ)) (files : Option (List File)) (faults faults' : ℕ) (s : Settled) → Settles words files faults faults' s → IsDue words files faults faults' (entries_of s) (due_of s)
-due_is words files faults faults' settled.Usage h = usage_due h refl refl
-due_is words files faults faults' settled.ReadFault h = fault_due h.0 h.1 refl refl
-due_is words files faults faults' (settled.Refused r) h = refusal_due r h refl refl
-due_is words files faults faults' (settled.Ran over) h = ran_due words files faults faults' over (begun over.world.script (RanBy words files over) h)
+  -- what is due of what a command came to
+  due_is : (s : Settled) → Settles call.words call.source call.source_after s → call.journal ≡ entries_of s → IsDue call (due_of s)
+  due_is settled.Usage h is = usage_due h.0 is refl
+  due_is settled.ReadFault h is = fault_due h.0 h.1 is refl
+  due_is (settled.Refused r) h is = refusal_due r h.0 is refl
+  due_is (settled.Ran over) h is = ran_due over (begun over.world.script (RanBy call.words call.source call.source_after over) h) is
 
-module _ (words : List (List ℕ)) (files : Option (List File)) (source source' sink sink' : ℕ) (old new : Option (List ℕ)) where
   -- the status of each ending
-  ended_so : (ending : Ending) (status : ℕ) (entries : List Entry) → status ≡ status_by ending → Ran ending words files entries old new → Outcome words files source source' sink sink' old new status entries
-  ended_so endings.Done status entries st x = done st x
-  ended_so endings.Limit status entries st x = limited st x
-  ended_so endings.Full status entries st x = full st x
-  ended_so endings.Stalled status entries st x = absurd x.journal.ends
+  ended_so : (ending : Ending) → call.status ≡ status_by ending → Ran ending call → Outcome call
+  ended_so endings.Done st x = done st x
+  ended_so endings.Limit st x = limited st x
+  ended_so endings.Full st x = full st x
+  ended_so endings.Stalled st x = absurd x.journal.ends
 
-  ran_whole : (over : Over) (entries : List Entry) → (s : Script) × ((over.world.script ≡ Some s) × RanBy words files over s) → entries ≡ entries_in over.world.script over.world.journal → new ≡ then_bytes old (run_text over.world over.ending over.tallies.items over.finals) → Ran over.ending words files entries old new
-  ran_whole over entries (s, (e, h)) is w =
-      subst (λ (es : List Entry). Ran over.ending words files es old new) (sym (is ∙ ap (λ (o : Option Script). entries_in o over.world.journal) e)) (record {
+  ran_whole : (over : Over) → (s : Script) × ((over.world.script ≡ Some s) × RanBy call.words call.source call.source_after over s)
+      → call.journal ≡ entries_in over.world.script over.world.journal
+      → call.sink_after.taken ≡ then_bytes call.sink.taken (run_text over.world over.ending over.tallies.items over.finals) → Ran over.ending call
+  ran_whole over (s, (e, h)) is w =
+      let same : call.journal ≡ over.world.journal = is ∙ ap (λ (o : Option Script). entries_in o over.world.journal) e in
+      record {
         script = s;
-        read = h.0;
-        journal = journal_is s over h.1;
-        written = w ∙ ap (then_bytes old) (run_text-rendering s over.world over.ending over.tallies.items over.finals h.1);
-        serial = serial_is s over h.1;
-        stops = run_stops s over.world over.ending over.tallies.items over.finals h.1;
-      })
+        read = h.0.read;
+        at_end = h.0.at_end;
+        quiet = h.0.quiet;
+        journal = rw same (journal_is s over h.1);
+        written = rw same (w ∙ ap (then_bytes call.sink.taken) (run_text-rendering s over.world over.ending over.tallies.items over.finals h.1));
+        serial = rw same (serial_is s over h.1);
+        stops = rw same (run_stops s over.world over.ending over.tallies.items over.finals h.1);
+      }
 
-  all_written : (s : Settled) (status : ℕ) (entries : List Entry) → Settles words files source source' s → status ≡ status_after (Ok tt) s → entries ≡ entries_of s → new ≡ then_bytes old (due_of s) → Outcome words files source source' sink sink' old new status entries
-  all_written settled.Usage status entries h st e w = misused st (record { words_are = h; empty = e; written = w })
-  all_written settled.ReadFault status entries h st e w = unreadable st (record { words_are = h.0; risen = h.1; empty = e; written = w })
-  all_written (settled.Refused r) status entries h st e w = rejected st (record { refusal = r; refused = h; empty = e; written = w })
-  all_written (settled.Ran over) status entries h st e w = ended_so over.ending status entries st (ran_whole over entries (begun over.world.script (RanBy words files over) h) e w)
+  all_written : (s : Settled) → Settles call.words call.source call.source_after s → call.status ≡ status_after (Ok tt) s → call.journal ≡ entries_of s
+      → call.sink_after.taken ≡ then_bytes call.sink.taken (due_of s) → Outcome call
+  all_written settled.Usage h st e w = misused st (record { words_are = h.0; untouched = h.1; empty = e; written = w })
+  all_written settled.ReadFault h st e w = unreadable st (record { words_are = h.0; risen = h.1; empty = e; written = w })
+  all_written (settled.Refused r) h st e w = rejected st (record { refusal = r; refused = h.0; quiet = h.1; empty = e; written = w })
+  all_written (settled.Ran over) h st e w =
+      ended_so over.ending st (ran_whole over (begun over.world.script (RanBy call.words call.source call.source_after over) h) e w)
 
-  pub concluded : (r : Result (Unit {0}) Unwritten) (s : Settled) (status : ℕ) (entries : List Entry) → Settles words files source source' s → status ≡ status_after r s → entries ≡ entries_of s → WritesAll r (due_of s) old new sink sink' → Outcome words files source source' sink sink' old new status entries
-  concluded (Ok u) s status entries h st e w = all_written s status entries h st e w.0
-  concluded (Err Fault) s status entries h st e w = unwritten st w.1 (record { due = due_of s; is_due = rw e (due_is words files source source' s h); cut = w.0 })
-  concluded (Err NoMemory) s status entries h st e w = no_memory st (inr (record { due = due_of s; is_due = rw e (due_is words files source source' s h); cut = w.0 }))
+  pub concluded : (r : Result (Unit {0}) WriteError) (s : Settled) → Settles call.words call.source call.source_after s → call.status ≡ status_after r s
+      → call.journal ≡ entries_of s → WritesAll r (due_of s) call.sink.taken call.sink_after.taken call.sink.faults call.sink_after.faults → Outcome call
+  concluded (Ok u) s h st e w = all_written s h st e w.0
+  concluded (Err Fault) s h st e w = unwritten st (record { risen = w.1; shortened = record { due = due_of s; is_due = due_is s h e; cut = w.0 } })
+  concluded (Err NoMemory) s h st e w = no_memory st (inr (record { due = due_of s; is_due = due_is s h e; cut = w.0 }))
 
 -- ---- accepted and refused bytes are apart
 
@@ -133,8 +146,8 @@ not_both bytes script r t o (inr u) = owned_unfit bytes script r t o u
 
 accepted_refused : (words : List (List ℕ)) (files : Option (List File)) (told : List File) (file bytes : List ℕ) (script : Script) (r : Refusal) → files ≡ Some told → file_of words ≡ Some file → content_of told file ≡ Some bytes → length bytes ≤ script_bytes → Text bytes script → Owned script → IsRefused words files r → ⊥
 accepted_refused words files told file bytes script r f n c w t o (inl x) =
-    let long = subst (λ (fs : Option (List File)). IfSome fs (λ ts. IfSome (content_of ts x.file) (λ bs. script_bytes < length bs))) f x.long in
-    let over : script_bytes < length bytes = subst (λ (o : Option (List ℕ)). IfSome o (λ bs. script_bytes < length bs)) (ap (content_of told) (same_file words x.file file x.named n) ∙ c) long in
+    let long = subst (λ (fs : Option (List File)). IfSome fs (λ ts. IsSomeAnd (content_of ts x.file) (λ bs. script_bytes < length bs))) f x.long in
+    let over : script_bytes < length bytes = subst (λ (o : Option (List ℕ)). IsSomeAnd o (λ bs. script_bytes < length bs)) (ap (content_of told) (same_file words x.file file x.named n) ∙ c) long in
     omega (arith, w, over)
 accepted_refused words files told file bytes script r f n c w t o (inr x) =
     let same = same_bytes words files told file bytes x.bytes f n c x.read in
@@ -159,138 +172,169 @@ unfinished words files told file bytes script other entries f n c t a going whol
 
 -- ---- what each status tells
 
-module _ (words : List (List ℕ)) (files : Option (List File)) (source source' sink sink' : ℕ) (old new : Option (List ℕ)) (status : ℕ) (entries : List Entry) where
-  pub when_done : Outcome words files source source' sink sink' old new status entries → status ≡ 0 → Ran endings.Done words files entries old new
+module _ (call : Call) where
+  when_done : Outcome call → status_is 0 call → Ran endings.Done call
   when_done (done st x) e = x
   when_done (limited st x) e = absurd (omega arith)
   when_done (full st x) e = absurd (omega arith)
   when_done (misused st x) e = absurd (omega arith)
   when_done (rejected st x) e = absurd (omega arith)
   when_done (unreadable st x) e = absurd (omega arith)
-  when_done (unwritten st r x) e = absurd (omega arith)
+  when_done (unwritten st x) e = absurd (omega arith)
   when_done (no_memory st x) e = absurd (omega arith)
 
-  pub when_limited : Outcome words files source source' sink sink' old new status entries → status ≡ 7 → Ran endings.Limit words files entries old new
+  when_limited : Outcome call → status_is 7 call → Ran endings.Limit call
   when_limited (done st x) e = absurd (omega arith)
   when_limited (limited st x) e = x
   when_limited (full st x) e = absurd (omega arith)
   when_limited (misused st x) e = absurd (omega arith)
   when_limited (rejected st x) e = absurd (omega arith)
   when_limited (unreadable st x) e = absurd (omega arith)
-  when_limited (unwritten st r x) e = absurd (omega arith)
+  when_limited (unwritten st x) e = absurd (omega arith)
   when_limited (no_memory st x) e = absurd (omega arith)
 
-  pub when_full : Outcome words files source source' sink sink' old new status entries → status ≡ 8 → Ran endings.Full words files entries old new
+  when_full : Outcome call → status_is 8 call → Ran endings.Full call
   when_full (done st x) e = absurd (omega arith)
   when_full (limited st x) e = absurd (omega arith)
   when_full (full st x) e = x
   when_full (misused st x) e = absurd (omega arith)
   when_full (rejected st x) e = absurd (omega arith)
   when_full (unreadable st x) e = absurd (omega arith)
-  when_full (unwritten st r x) e = absurd (omega arith)
+  when_full (unwritten st x) e = absurd (omega arith)
   when_full (no_memory st x) e = absurd (omega arith)
 
-  pub when_misused : Outcome words files source source' sink sink' old new status entries → status ≡ 2 → Misused words entries old new
+  when_misused : Outcome call → status_is 2 call → Misused call
   when_misused (done st x) e = absurd (omega arith)
   when_misused (limited st x) e = absurd (omega arith)
   when_misused (full st x) e = absurd (omega arith)
   when_misused (misused st x) e = x
   when_misused (rejected st x) e = absurd (omega arith)
   when_misused (unreadable st x) e = absurd (omega arith)
-  when_misused (unwritten st r x) e = absurd (omega arith)
+  when_misused (unwritten st x) e = absurd (omega arith)
   when_misused (no_memory st x) e = absurd (omega arith)
 
-  pub when_rejected : Outcome words files source source' sink sink' old new status entries → status ≡ 3 → Rejected words files entries old new
+  when_rejected : Outcome call → status_is 3 call → Rejected call
   when_rejected (done st x) e = absurd (omega arith)
   when_rejected (limited st x) e = absurd (omega arith)
   when_rejected (full st x) e = absurd (omega arith)
   when_rejected (misused st x) e = absurd (omega arith)
   when_rejected (rejected st x) e = x
   when_rejected (unreadable st x) e = absurd (omega arith)
-  when_rejected (unwritten st r x) e = absurd (omega arith)
+  when_rejected (unwritten st x) e = absurd (omega arith)
   when_rejected (no_memory st x) e = absurd (omega arith)
 
-  pub when_unreadable : Outcome words files source source' sink sink' old new status entries → status ≡ 4 → Unreadable words source source' entries old new
+  when_unreadable : Outcome call → status_is 4 call → Unreadable call
   when_unreadable (done st x) e = absurd (omega arith)
   when_unreadable (limited st x) e = absurd (omega arith)
   when_unreadable (full st x) e = absurd (omega arith)
   when_unreadable (misused st x) e = absurd (omega arith)
   when_unreadable (rejected st x) e = absurd (omega arith)
   when_unreadable (unreadable st x) e = x
-  when_unreadable (unwritten st r x) e = absurd (omega arith)
+  when_unreadable (unwritten st x) e = absurd (omega arith)
   when_unreadable (no_memory st x) e = absurd (omega arith)
 
-  pub when_unwritten : Outcome words files source source' sink sink' old new status entries → status ≡ 5 → HasRisen sink sink' × Shortened words files source source' entries old new
+  when_unwritten : Outcome call → status_is 5 call → Unwritten call
   when_unwritten (done st x) e = absurd (omega arith)
   when_unwritten (limited st x) e = absurd (omega arith)
   when_unwritten (full st x) e = absurd (omega arith)
   when_unwritten (misused st x) e = absurd (omega arith)
   when_unwritten (rejected st x) e = absurd (omega arith)
   when_unwritten (unreadable st x) e = absurd (omega arith)
-  when_unwritten (unwritten st r x) e = (r, x)
+  when_unwritten (unwritten st x) e = x
   when_unwritten (no_memory st x) e = absurd (omega arith)
 
-  pub when_no_memory : Outcome words files source source' sink sink' old new status entries → status ≡ 6 → Silent entries old new ⊎ Shortened words files source source' entries old new
+  when_no_memory : Outcome call → status_is 6 call → Silent call ⊎ Shortened call
   when_no_memory (done st x) e = absurd (omega arith)
   when_no_memory (limited st x) e = absurd (omega arith)
   when_no_memory (full st x) e = absurd (omega arith)
   when_no_memory (misused st x) e = absurd (omega arith)
   when_no_memory (rejected st x) e = absurd (omega arith)
   when_no_memory (unreadable st x) e = absurd (omega arith)
-  when_no_memory (unwritten st r x) e = absurd (omega arith)
+  when_no_memory (unwritten st x) e = absurd (omega arith)
   when_no_memory (no_memory st x) e = x
 
   -- there are no other statuses
-  pub one_of_eight : Outcome words files source source' sink sink' old new status entries → Contains (0 ∷ 2 ∷ 3 ∷ 4 ∷ 5 ∷ 6 ∷ 7 ∷ 8 ∷ []) status
+  one_of_eight : Outcome call → Contains (0 ∷ 2 ∷ 3 ∷ 4 ∷ 5 ∷ 6 ∷ 7 ∷ 8 ∷ []) call.status
   one_of_eight (done st x) = (0, omega arith, sym st)
   one_of_eight (limited st x) = (6, omega arith, sym st)
   one_of_eight (full st x) = (7, omega arith, sym st)
   one_of_eight (misused st x) = (1, omega arith, sym st)
   one_of_eight (rejected st x) = (2, omega arith, sym st)
   one_of_eight (unreadable st x) = (3, omega arith, sym st)
-  one_of_eight (unwritten st r x) = (4, omega arith, sym st)
+  one_of_eight (unwritten st x) = (4, omega arith, sym st)
   one_of_eight (no_memory st x) = (5, omega arith, sym st)
 
   -- faulty words and no fault
-  pub misused_or_memory : Outcome words files source source' sink sink' old new status entries → file_of words ≡ None → (HasRisen sink sink' → ⊥) → (status ≡ 2) ⊎ (status ≡ 6)
-  misused_or_memory (done st x) n q = absurd (no_file words x.read.read.file x.read.read.named n)
-  misused_or_memory (limited st x) n q = absurd (no_file words x.read.read.file x.read.read.named n)
-  misused_or_memory (full st x) n q = absurd (no_file words x.read.read.file x.read.read.named n)
+  misused_or_memory : Outcome call → file_of call.words ≡ None → (SinkFailed call → ⊥) → status_is 2 call ⊎ status_is 6 call
+  misused_or_memory (done st x) n q = absurd (no_file call.words x.read.read.file x.read.read.named n)
+  misused_or_memory (limited st x) n q = absurd (no_file call.words x.read.read.file x.read.read.named n)
+  misused_or_memory (full st x) n q = absurd (no_file call.words x.read.read.file x.read.read.named n)
   misused_or_memory (misused st x) n q = inl st
-  misused_or_memory (rejected st x) n q = absurd (rejected_file words files x.refusal x.refused n)
-  misused_or_memory (unreadable st x) n q = absurd (taken_file words x.words_are n)
-  misused_or_memory (unwritten st r x) n q = absurd (q r)
+  misused_or_memory (rejected st x) n q = absurd (rejected_file call.words call.source.files x.refusal x.refused n)
+  misused_or_memory (unreadable st x) n q = absurd (taken_file call.words x.words_are n)
+  misused_or_memory (unwritten st x) n q = absurd (q x.risen)
   misused_or_memory (no_memory st x) n q = inr st
 
   -- an accepted script and no fault
-  pub runs_or_memory : Outcome words files source source' sink sink' old new status entries → (told : List File) (file bytes : List ℕ) (script : Script) → files ≡ Some told → file_of words ≡ Some file → content_of told file ≡ Some bytes → length bytes ≤ script_bytes → Text bytes script → Owned script → (HasRisen source source' → ⊥) → (HasRisen sink sink' → ⊥) → Contains (0 ∷ 6 ∷ 7 ∷ 8 ∷ []) status
-  runs_or_memory (done st x) told file bytes script f n c w t o q r = (0, omega arith, sym st)
-  runs_or_memory (limited st x) told file bytes script f n c w t o q r = (2, omega arith, sym st)
-  runs_or_memory (full st x) told file bytes script f n c w t o q r = (3, omega arith, sym st)
-  runs_or_memory (misused st x) told file bytes script f n c w t o q r = absurd (no_file words file n x.words_are)
-  runs_or_memory (rejected st x) told file bytes script f n c w t o q r = absurd (accepted_refused words files told file bytes script x.refusal f n c w t o x.refused)
-  runs_or_memory (unreadable st x) told file bytes script f n c w t o q r = absurd (q x.risen)
-  runs_or_memory (unwritten st u x) told file bytes script f n c w t o q r = absurd (r u)
-  runs_or_memory (no_memory st x) told file bytes script f n c w t o q r = (1, omega arith, sym st)
+  runs_or_memory : Outcome call → (script : Script) → ReadsScript call script → Contains (0 ∷ 6 ∷ 7 ∷ 8 ∷ []) call.status
+  runs_or_memory (done st x) script h = (0, omega arith, sym st)
+  runs_or_memory (limited st x) script h = (2, omega arith, sym st)
+  runs_or_memory (full st x) script h = (3, omega arith, sym st)
+  runs_or_memory (misused st x) script h = absurd (no_file call.words h.reads.file h.reads.named x.words_are)
+  runs_or_memory (rejected st x) script h = absurd (accepted_refused call.words call.source.files h.reads.told h.reads.file h.bytes script x.refusal
+      h.reads.tells h.reads.named h.reads.content h.within h.text h.owned x.refused)
+  runs_or_memory (unreadable st x) script h = absurd (h.reads.source_holds x.risen)
+  runs_or_memory (unwritten st x) script h = absurd (h.reads.sink_holds x.risen)
+  runs_or_memory (no_memory st x) script h = (1, omega arith, sym st)
+
+  -- a journal whose thread is not done is not whole
+  stopped : (ending : Ending) (script : Script) (h : ReadsScript call script) (x : Ran ending call) → (After x.script call.journal).frame.is_done ≡ false
+      → IsWhole script call.journal → ⊥
+  stopped ending script h x going whole = unfinished call.words call.source.files h.reads.told h.reads.file h.bytes script x.script call.journal
+      h.reads.tells h.reads.named h.reads.content h.text x.read going whole
 
   -- an accepted script whose journal is whole, and no fault
-  pub done_or_memory : Outcome words files source source' sink sink' old new status entries → (told : List File) (file bytes : List ℕ) (script : Script) → files ≡ Some told → file_of words ≡ Some file → content_of told file ≡ Some bytes → length bytes ≤ script_bytes → Text bytes script → Owned script → (HasRisen source source' → ⊥) → (HasRisen sink sink' → ⊥) → IsWhole script entries → (status ≡ 0) ⊎ (status ≡ 6)
-  done_or_memory (done st x) told file bytes script f n c w t o q r whole = inl st
-  done_or_memory (limited st x) told file bytes script f n c w t o q r whole = absurd (unfinished words files told file bytes script x.script entries f n c t x.read x.journal.ends.1 whole)
-  done_or_memory (full st x) told file bytes script f n c w t o q r whole = absurd (unfinished words files told file bytes script x.script entries f n c t x.read (full_going x.script (After x.script entries) x.journal.ends.1) whole)
-  done_or_memory (misused st x) told file bytes script f n c w t o q r whole = absurd (no_file words file n x.words_are)
-  done_or_memory (rejected st x) told file bytes script f n c w t o q r whole = absurd (accepted_refused words files told file bytes script x.refusal f n c w t o x.refused)
-  done_or_memory (unreadable st x) told file bytes script f n c w t o q r whole = absurd (q x.risen)
-  done_or_memory (unwritten st u x) told file bytes script f n c w t o q r whole = absurd (r u)
-  done_or_memory (no_memory st x) told file bytes script f n c w t o q r whole = inr st
+  done_or_memory : Outcome call → (script : Script) → ReadsScript call script → IsWhole script call.journal → status_is 0 call ⊎ status_is 6 call
+  done_or_memory (done st x) script h whole = inl st
+  done_or_memory (limited st x) script h whole = absurd (stopped endings.Limit script h x x.journal.ends.1 whole)
+  done_or_memory (full st x) script h whole =
+      absurd (stopped endings.Full script h x (full_going x.script (After x.script call.journal) x.journal.ends.1) whole)
+  done_or_memory (misused st x) script h whole = absurd (no_file call.words h.reads.file h.reads.named x.words_are)
+  done_or_memory (rejected st x) script h whole = absurd (accepted_refused call.words call.source.files h.reads.told h.reads.file h.bytes script x.refusal
+      h.reads.tells h.reads.named h.reads.content h.within h.text h.owned x.refused)
+  done_or_memory (unreadable st x) script h whole = absurd (h.reads.source_holds x.risen)
+  done_or_memory (unwritten st x) script h whole = absurd (h.reads.sink_holds x.risen)
+  done_or_memory (no_memory st x) script h whole = inr st
 
   -- refused bytes and no fault
-  pub rejected_or_memory : Outcome words files source source' sink sink' old new status entries → (told : List File) (file bytes : List ℕ) (refusal : Refusal) → files ≡ Some told → file_of words ≡ Some file → content_of told file ≡ Some bytes → IsRefusedText bytes refusal → (HasRisen source source' → ⊥) → (HasRisen sink sink' → ⊥) → (status ≡ 3) ⊎ (status ≡ 6)
-  rejected_or_memory (done st x) told file bytes refusal f n c t q r = absurd (refused_accepted words files told file bytes x.script refusal f n c t x.read)
-  rejected_or_memory (limited st x) told file bytes refusal f n c t q r = absurd (refused_accepted words files told file bytes x.script refusal f n c t x.read)
-  rejected_or_memory (full st x) told file bytes refusal f n c t q r = absurd (refused_accepted words files told file bytes x.script refusal f n c t x.read)
-  rejected_or_memory (misused st x) told file bytes refusal f n c t q r = absurd (no_file words file n x.words_are)
-  rejected_or_memory (rejected st x) told file bytes refusal f n c t q r = inl st
-  rejected_or_memory (unreadable st x) told file bytes refusal f n c t q r = absurd (q x.risen)
-  rejected_or_memory (unwritten st u x) told file bytes refusal f n c t q r = absurd (r u)
-  rejected_or_memory (no_memory st x) told file bytes refusal f n c t q r = inr st
+  ran_refused : (ending : Ending) (bytes : List ℕ) (r : Refusal) (h : Reads call bytes) (refused : IsRefusedText bytes r) → Ran ending call → ⊥
+  ran_refused ending bytes r h refused x =
+      refused_accepted call.words call.source.files h.told h.file bytes x.script r h.tells h.named h.content refused x.read
+
+  rejected_or_memory : Outcome call → (bytes : List ℕ) (r : Refusal) → Reads call bytes → IsRefusedText bytes r → status_is 3 call ⊎ status_is 6 call
+  rejected_or_memory (done st x) bytes r h refused = absurd (ran_refused endings.Done bytes r h refused x)
+  rejected_or_memory (limited st x) bytes r h refused = absurd (ran_refused endings.Limit bytes r h refused x)
+  rejected_or_memory (full st x) bytes r h refused = absurd (ran_refused endings.Full bytes r h refused x)
+  rejected_or_memory (misused st x) bytes r h refused = absurd (no_file call.words h.file h.named x.words_are)
+  rejected_or_memory (rejected st x) bytes r h refused = inl st
+  rejected_or_memory (unreadable st x) bytes r h refused = absurd (h.source_holds x.risen)
+  rejected_or_memory (unwritten st x) bytes r h refused = absurd (h.sink_holds x.risen)
+  rejected_or_memory (no_memory st x) bytes r h refused = inr st
+
+  -- all that is said of a call follows from its outcome
+  pub tells_all : Outcome call → Tells call
+  tells_all o = record {
+    ran = when_done o;
+    limited = when_limited o;
+    full = when_full o;
+    misused = when_misused o;
+    rejected = when_rejected o;
+    unreadable = when_unreadable o;
+    unwritten = when_unwritten o;
+    no_memory = when_no_memory o;
+    statuses = one_of_eight o;
+    misuse_is_told = misused_or_memory o;
+    accepted_runs = runs_or_memory o;
+    whole_runs = done_or_memory o;
+    refused_is_told = rejected_or_memory o;
+  }

@@ -14,7 +14,7 @@ use Rattle.cf_syntax.specs.Owned.{Owned}
 use Rattle.cf_ids.specs.declared.answer.Answer.{Answer}
 use Rattle.cf_graph.specs.Edges.{counted}
 use Rattle.cf_contents.specs.Contents.{times}
-use Rattle.cf_contents.specs.Deeds.{Source, Change, first_of, deed_at, resolved}
+use Rattle.cf_contents.specs.Deeds.{Origin, Change, first_of, deed_at}
 use Rattle.cf_model.specs.declared.action.Action.{Action}
 use Rattle.cf_model.specs.declared.action.Entry.{Entry}
 use Rattle.cf_model.specs.State.{State, start, degree}
@@ -53,19 +53,19 @@ plus_no_cut : (v : ℕ) (o : Option ℕ) (p : ℕ) → cut_by (Plus v) o ≡ Som
 plus_no_cut v None p e = cc
 plus_no_cut v (Some o) p e = cc
 
-touch_cuts : (t : ℕ) (touch : Touch) (answer : Answer) (source : Source) (used : Option ℕ) (change : Change) (st : State) (o : ℕ) → cut_by touch used ≡ Some o → IsCut st (touch_step t touch answer source used change st)
-touch_cuts t Nothing answer source used change st o e = absurd (no_cut used o e)
-touch_cuts t (Binds v) answer source used change st o e = absurd (bound_no_cut v used o e)
-touch_cuts t (Plus v) answer source used change st o e = absurd (plus_no_cut v used o e)
-touch_cuts t (Minus v) answer source None change st o e = absurd (let none : ◌≡◌ {A = Option ℕ} None (Some o) = e in cc)
-touch_cuts t (Minus v) answer source (Some p) change st o e = record { gains = refl; makes = ap length (append-nil st.objects) }
+touch_cuts : (t : ℕ) (touch : Touch) (answer : Answer) (origin : Origin) (used : Option ℕ) (change : Change) (st : State) (o : ℕ) → cut_by touch used ≡ Some o → IsCut st (touch_step t touch answer origin used change st)
+touch_cuts t Nothing answer origin used change st o e = absurd (no_cut used o e)
+touch_cuts t (Binds v) answer origin used change st o e = absurd (bound_no_cut v used o e)
+touch_cuts t (Plus v) answer origin used change st o e = absurd (plus_no_cut v used o e)
+touch_cuts t (Minus v) answer origin None change st o e = absurd (let none : ◌≡◌ {A = Option ℕ} None (Some o) = e in cc)
+touch_cuts t (Minus v) answer origin (Some p) change st o e = record { gains = refl; makes = ap length (append-nil st.objects) }
 
 frame_cuts : (s : Script) (t : ℕ) (st : State) (x : Option Statement) (o : ℕ) → (frame_step s.classes t st x).cuts ≡ Some o → IsCut st (frame_step s.classes t st x)
 frame_cuts s t st None o e = absurd (let none : ◌≡◌ {A = Option ℕ} None (Some o) = e in cc)
 frame_cuts s t st (Some x) o e =
     let site = site_in st.frame x in
     let deed = deed_at s.classes st.objects x site.used in
-    touch_cuts t (touch_of x) deed.answer deed.source (first_of site.used) (resolved site.used deed.change) st o (sym (touch_cut t (touch_of x) deed.answer deed.source (first_of site.used) (resolved site.used deed.change) st) ∙ e)
+    touch_cuts t (touch_of x) deed.answer deed.origin (first_of site.used) deed.change st o (sym (touch_cut t (touch_of x) deed.answer deed.origin (first_of site.used) deed.change st) ∙ e)
 
 demand_cuts : (s : Script) (t : ℕ) (st : State) (a : Action) (o : ℕ) → Demand s st st.frame.work a → (step_for s t st a).cuts ≡ Some o → IsCut st (step_for s t st a)
 demand_cuts s t st a o (of_frame w e) cut =

@@ -3,5 +3,6 @@ pub mod Counted
 pub mod Lines
 pub mod Written
 pub mod Commands
+pub mod Calls
 pub mod Outcomes
 pub mod Settled

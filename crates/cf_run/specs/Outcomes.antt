@@ -1,9 +1,8 @@
 -- What a command comes to: the lines that are due, what is said of them, and what each status tells. This
 -- project's own.
-use Rattle.std.specs.Prelude.{◌≡◌, ℕ, ◌<◌, ◌≤◌, ◌⊎◌, List, [], ◌++◌, length, codes, Option, Some, None, IfSome, IsSomeAnd, IsTrue}
+use Rattle.std.specs.Prelude.{◌≡◌, ℕ, ◌<◌, ◌≤◌, ◌⊎◌, List, [], ◌∷◌, ◌++◌, length, codes, Contains, Option, Some, None, IfSome, IsSomeAnd, IsTrue}
 use Rattle.std.specs.Fmt.{decimal}
-use Rattle.cf_fault.specs.Fault.{HasRisen}
-use Rattle.cf_io.specs.Bytes.{then_bytes}
+use Rattle.cf_io.specs.Bytes.{IsAtEnd}
 use Rattle.cf_io.specs.Files.{File, content_of}
 use Rattle.cf_syntax.specs.declared.refusal.Refusal.{Refusal}
 use Rattle.cf_syntax.specs.declared.refusal.Reason.{Reason}
@@ -15,11 +14,12 @@ use Rattle.cf_model.specs.declared.action.Entry.{Entry}
 use Rattle.cf_model.specs.declared.ending.Ending.{Ending}
 use Rattle.cf_model.specs.declared.ending.Ending.TheVariants.{Done, Limit, Full}
 use Rattle.cf_model.specs.Steps.{makes}
-use Rattle.cf_model.specs.Journals.{Next, After, IsLegal}
+use Rattle.cf_model.specs.Journals.{Next, After, IsLegal, IsWhole}
 use Rattle.cf_model.specs.Endings.{Ends}
 use Rattle.cf_model.specs.Finals.{FinalsFit}
 use Rattle.cf_model.specs.Serial.{picked, IsSerial, pointer_after}
 use Rattle.cf_model.specs.Rendering.{rendering}
+use Rattle.cf_run.specs.Calls.{Call, status_is, SourceFailed, SinkFailed, Wrote}
 use Rattle.cf_run.specs.Commands.{file_of, TakesWords}
 use Rattle.cf_run.specs.Tally.{default_limit}
 use Rattle.cf_run.specs.Written.{Cut}
@@ -63,7 +63,7 @@ pub record IsUnread (words : List (List ℕ)) (files : Option (List File)) (r : 
 pub record IsTooLong (words : List (List ℕ)) (files : Option (List File)) (r : Refusal) : Type 0 where
   pub file : List ℕ
   pub named : file_of words ≡ Some file
-  pub long : IfSome files (λ told. IfSome (content_of told file) (λ bytes. script_bytes < length bytes))
+  pub long : IfSome files (λ told. IsSomeAnd (content_of told file) (λ bytes. script_bytes < length bytes))
   pub reason : r ≡ record { line = 0; reason = TooLong }
 
 abbrev pub IsRefused : List (List ℕ) → Option (List File) → Refusal → Type 0
@@ -99,59 +99,112 @@ StopsSerially s Full es = IsSomeAnd (picked s (After s es) (pointer_after 0 es))
 StopsSerially s _ es = Unit {0}
 
 -- the lines that are due: by the words, the file and the source's count of faults
-pub data IsDue (words : List (List ℕ)) (files : Option (List File)) (faults faults' : ℕ) (journal : List Entry) (due : List ℕ) : Type 0 where
-  usage_due : file_of words ≡ None → journal ≡ [] → due ≡ usage_text → IsDue words files faults faults' journal due
-  refusal_due : (r : Refusal) → IsRefused words files r → journal ≡ [] → due ≡ refusal_text r → IsDue words files faults faults' journal due
-  fault_due : TakesWords words → HasRisen faults faults' → journal ≡ [] → due ≡ fault_text → IsDue words files faults faults' journal due
-  run_due : (script : Script) (ending : Ending) → IsAccepted words files script → IsJournal script ending journal → IsSerial script journal → StopsSerially script ending journal → due ≡ rendering script journal ending → IsDue words files faults faults' journal due
+pub data IsDue (call : Call) (due : List ℕ) : Type 0 where
+  usage_due : file_of call.words ≡ None → call.journal ≡ [] → due ≡ usage_text → IsDue call due
+  refusal_due : (r : Refusal) → IsRefused call.words call.source.files r → call.journal ≡ [] → due ≡ refusal_text r → IsDue call due
+  fault_due : TakesWords call.words → SourceFailed call → call.journal ≡ [] → due ≡ fault_text → IsDue call due
+  run_due : (script : Script) (ending : Ending) → IsAccepted call.words call.source.files script → IsJournal script ending call.journal
+      → IsSerial script call.journal → StopsSerially script ending call.journal → due ≡ rendering script call.journal ending → IsDue call due
 
--- statuses 0, 7 and 8: an accepted script has run to this ending, and the bytes written are the rendering of its journal
-pub record Ran (ending : Ending) (words : List (List ℕ)) (files : Option (List File)) (entries : List Entry) (old new : Option (List ℕ)) : Type 0 where
+-- statuses 0, 7 and 8: an accepted script has run to this ending, and the bytes written are the rendering of its journal;
+-- the source stands at the end of the file, and its count of faults is as it was
+pub record Ran (ending : Ending) (call : Call) : Type 0 where
   pub script : Script
-  pub read : IsAccepted words files script
-  pub journal : IsJournal script ending entries
-  pub written : new ≡ then_bytes old (rendering script entries ending)
-  pub serial : IsSerial script entries
-  pub stops : StopsSerially script ending entries
+  pub read : IsAccepted call.words call.source.files script
+  pub at_end : IsAtEnd call.source_after.left
+  pub quiet : call.source_after.faults ≡ call.source.faults
+  pub journal : IsJournal script ending call.journal
+  pub written : Wrote (rendering script call.journal ending) call
+  pub serial : IsSerial script call.journal
+  pub stops : StopsSerially script ending call.journal
 
--- status 2: the words are not of the two forms
-pub record Misused (words : List (List ℕ)) (entries : List Entry) (old new : Option (List ℕ)) : Type 0 where
-  pub words_are : file_of words ≡ None
-  pub empty : entries ≡ []
-  pub written : new ≡ then_bytes old usage_text
+-- status 2: the words are not of the two forms, and the source was not asked
+pub record Misused (call : Call) : Type 0 where
+  pub words_are : file_of call.words ≡ None
+  pub untouched : call.source_after ≡ call.source
+  pub empty : call.journal ≡ []
+  pub written : Wrote usage_text call
 
--- status 3: a file was read, and its bytes are refused
-pub record Rejected (words : List (List ℕ)) (files : Option (List File)) (entries : List Entry) (old new : Option (List ℕ)) : Type 0 where
+-- status 3: a file was read, its bytes are refused, and the source's count of faults is as it was
+pub record Rejected (call : Call) : Type 0 where
   pub refusal : Refusal
-  pub refused : IsRefused words files refusal
-  pub empty : entries ≡ []
-  pub written : new ≡ then_bytes old (refusal_text refusal)
+  pub refused : IsRefused call.words call.source.files refusal
+  pub quiet : call.source_after.faults ≡ call.source.faults
+  pub empty : call.journal ≡ []
+  pub written : Wrote (refusal_text refusal) call
 
 -- status 4: the source's count of faults rose
-pub record Unreadable (words : List (List ℕ)) (faults faults' : ℕ) (entries : List Entry) (old new : Option (List ℕ)) : Type 0 where
-  pub words_are : TakesWords words
-  pub risen : HasRisen faults faults'
-  pub empty : entries ≡ []
-  pub written : new ≡ then_bytes old fault_text
+pub record Unreadable (call : Call) : Type 0 where
+  pub words_are : TakesWords call.words
+  pub risen : SourceFailed call
+  pub empty : call.journal ≡ []
+  pub written : Wrote fault_text call
 
 -- a part of the lines due was taken, and not all of them
-pub record Shortened (words : List (List ℕ)) (files : Option (List File)) (faults faults' : ℕ) (entries : List Entry) (old new : Option (List ℕ)) : Type 0 where
+pub record Shortened (call : Call) : Type 0 where
   pub due : List ℕ
-  pub is_due : IsDue words files faults faults' entries due
-  pub cut : Cut due old new
+  pub is_due : IsDue call due
+  pub cut : Cut due call.sink.taken call.sink_after.taken
 
 -- nothing was written, and no script has run
-pub record Silent (entries : List Entry) (old new : Option (List ℕ)) : Type 0 where
-  pub empty : entries ≡ []
-  pub written : new ≡ old
+pub record Silent (call : Call) : Type 0 where
+  pub empty : call.journal ≡ []
+  pub written : call.sink_after.taken ≡ call.sink.taken
 
--- what a status tells of a command. 5: the sink's count of faults rose; 6: memory ran out
-pub data Outcome (words : List (List ℕ)) (files : Option (List File)) (source source' sink sink' : ℕ) (old new : Option (List ℕ)) (status : ℕ) (entries : List Entry) : Type 0 where
-  done : status ≡ 0 → Ran Done words files entries old new → Outcome words files source source' sink sink' old new status entries
-  limited : status ≡ 7 → Ran Limit words files entries old new → Outcome words files source source' sink sink' old new status entries
-  full : status ≡ 8 → Ran Full words files entries old new → Outcome words files source source' sink sink' old new status entries
-  misused : status ≡ 2 → Misused words entries old new → Outcome words files source source' sink sink' old new status entries
-  rejected : status ≡ 3 → Rejected words files entries old new → Outcome words files source source' sink sink' old new status entries
-  unreadable : status ≡ 4 → Unreadable words source source' entries old new → Outcome words files source source' sink sink' old new status entries
-  unwritten : status ≡ 5 → HasRisen sink sink' → Shortened words files source source' entries old new → Outcome words files source source' sink sink' old new status entries
-  no_memory : status ≡ 6 → Silent entries old new ⊎ Shortened words files source source' entries old new → Outcome words files source source' sink sink' old new status entries
+-- status 5: the sink's count of faults rose
+pub record Unwritten (call : Call) : Type 0 where
+  pub risen : SinkFailed call
+  pub shortened : Shortened call
+
+-- what a status tells of a call; with 6 memory ran out
+pub data Outcome (call : Call) : Type 0 where
+  done : status_is 0 call → Ran Done call → Outcome call
+  limited : status_is 7 call → Ran Limit call → Outcome call
+  full : status_is 8 call → Ran Full call → Outcome call
+  misused : status_is 2 call → Misused call → Outcome call
+  rejected : status_is 3 call → Rejected call → Outcome call
+  unreadable : status_is 4 call → Unreadable call → Outcome call
+  unwritten : status_is 5 call → Unwritten call → Outcome call
+  no_memory : status_is 6 call → Silent call ⊎ Shortened call → Outcome call
+
+-- ---- what is said of every call
+
+-- the words name a file that the source tells, with these bytes, and no count of faults rose
+pub record Reads (call : Call) (bytes : List ℕ) : Type 0 where
+  pub told : List File
+  pub file : List ℕ
+  pub tells : call.source.files ≡ Some told
+  pub named : file_of call.words ≡ Some file
+  pub content : content_of told file ≡ Some bytes
+  pub source_holds : ¬ (SourceFailed call)
+  pub sink_holds : ¬ (SinkFailed call)
+
+-- and the bytes are those of a script that is accepted
+pub record ReadsScript (call : Call) (script : Script) : Type 0 where
+  pub bytes : List ℕ
+  pub reads : Reads call bytes
+  pub within : length bytes ≤ script_bytes
+  pub text : Text bytes script
+  pub owned : Owned script
+
+pub record Tells (call : Call) : Type 0 where
+  -- the script ran to its end
+  pub ran : status_is 0 call → Ran Done call
+  -- the journal was at its limit before the script's end
+  pub limited : status_is 7 call → Ran Limit call
+  -- the next action makes an object, and as many were made as a run may make
+  pub full : status_is 8 call → Ran Full call
+  -- the causes of the other statuses, and what is written with each
+  pub misused : status_is 2 call → Misused call
+  pub rejected : status_is 3 call → Rejected call
+  pub unreadable : status_is 4 call → Unreadable call
+  pub unwritten : status_is 5 call → Unwritten call
+  pub no_memory : status_is 6 call → Silent call ⊎ Shortened call
+  -- there are no others
+  pub statuses : Contains (0 ∷ 2 ∷ 3 ∷ 4 ∷ 5 ∷ 6 ∷ 7 ∷ 8 ∷ []) call.status
+  -- faulty words give 2, unless a count rose or memory ran out
+  pub misuse_is_told : file_of call.words ≡ None → ¬ (SinkFailed call) → status_is 2 call ⊎ status_is 6 call
+  -- of a source that tells its files: an accepted script runs, one whose journal is whole gives 0, and a refused one 3
+  pub accepted_runs : (script : Script) → ReadsScript call script → Contains (0 ∷ 6 ∷ 7 ∷ 8 ∷ []) call.status
+  pub whole_runs : (script : Script) → ReadsScript call script → IsWhole script call.journal → status_is 0 call ⊎ status_is 6 call
+  pub refused_is_told : (bytes : List ℕ) (r : Refusal) → Reads call bytes → IsRefusedText bytes r → status_is 3 call ⊎ status_is 6 call

@@ -1,8 +1,9 @@
 -- What a command came to before a line of it is written.
 use Rattle.std.specs.Prelude.{◌≡◌, ℕ, ◌≤◌, ⊤, ◌⊎◌, List, [], length, Option, None, Result, Ok, Err, IsSomeAnd}
 use Rattle.cf_fault.specs.Fault.{HasRisen}
-use Rattle.cf_io.specs.Files.{File}
+use Rattle.cf_io.specs.Bytes.{IsAtEnd}
 use Rattle.cf_syntax.specs.Text.{Text, Refused}
+use Rattle.cf_syntax.specs.declared.script.Script.{Script}
 use Rattle.cf_syntax.specs.Owned.{Owned}
 use Rattle.cf_script.specs.declared.checked.Checked.{Checked}
 use Rattle.cf_script.specs.declared.fault.ScriptFault.{ScriptFault}
@@ -14,6 +15,7 @@ use Rattle.cf_run.specs.declared.output.Unwritten.{Unwritten}
 use Rattle.cf_run.specs.declared.output.Unwritten.TheVariants as unwritten
 use Rattle.cf_run.specs.declared.settle.Settled.{Settled}
 use Rattle.cf_run.specs.declared.settle.Settled.TheVariants as settled
+use Rattle.cf_run.specs.Calls.{SourceState}
 use Rattle.cf_run.specs.Commands.{file_of, TakesWords}
 use Rattle.cf_run.specs.Tally.{IsOver}
 use Rattle.cf_run.specs.Lines.{run_text, entries_in}
@@ -33,12 +35,18 @@ SettlesBytes bytes settled.ReadFault = ⊥
 SettlesBytes bytes (settled.Refused r) = Refused bytes r ⊎ IsUnfit bytes r
 SettlesBytes bytes (settled.Ran over) = IsSomeAnd over.world.script (λ s. Text bytes s × IsOver s over.world over.ending over.tallies.items over.finals)
 
--- what it came to, and the source's count of faults
-abbrev pub Settles : List (List ℕ) → Option (List File) → (faults faults' : ℕ) → Settled → Type 0
-Settles words files faults faults' settled.Usage = file_of words ≡ None
-Settles words files faults faults' settled.ReadFault = TakesWords words × HasRisen faults faults'
-Settles words files faults faults' (settled.Refused r) = IsRefused words files r
-Settles words files faults faults' (settled.Ran over) = IsSomeAnd over.world.script (λ s. IsAccepted words files s × IsOver s over.world over.ending over.tallies.items over.finals)
+-- what it came to, and what that says of the source
+pub record Accepted (words : List (List ℕ)) (before after : SourceState) (s : Script) : Type 0 where
+  pub read : IsAccepted words before.files s
+  pub at_end : IsAtEnd after.left
+  pub quiet : after.faults ≡ before.faults
+
+abbrev pub Settles : List (List ℕ) → (before after : SourceState) → Settled → Type 0
+Settles words before after settled.Usage = (file_of words ≡ None) × (after ≡ before)
+Settles words before after settled.ReadFault = TakesWords words × HasRisen before.faults after.faults
+Settles words before after (settled.Refused r) = IsRefused words before.files r × (after.faults ≡ before.faults)
+Settles words before after (settled.Ran over) =
+    IsSomeAnd over.world.script (λ s. Accepted words before after s × IsOver s over.world over.ending over.tallies.items over.finals)
 
 -- the text that is due, and the journal
 abbrev pub due_of : Settled → List ℕ

@@ -2,6 +2,7 @@
 //! journal.
 #![tactic(auto)]
 
+mod call;
 mod command;
 mod lines;
 mod output;
@@ -10,5 +11,6 @@ mod serial;
 mod settle;
 mod tally;
 
+pub use call::cfrun_serial;
 pub use cf_model::{Action, Ending, Entry};
-pub use report::{Report, cfrun_serial};
+pub use report::Report;

@@ -1,6 +1,6 @@
 //! The serial run: the one thread makes an entry after another, and each object has one plain number, of the references
 //! that lead to it.
-ghost use Rattle.std.specs.Prelude.{◌≡◌, ◌==◌, if◌then◌else◌, ℕ, ◌+◌, ◌*◌, ◌^◌, ◌<◌, ◌≤◌, length, OnOk, IfOk, IsSome, IsSomeAnd, IsTrue, Some, None, slice_index, Contains};
+ghost use Rattle.std.specs.Prelude.{◌≡◌, ◌==◌, if◌then◌else◌, ℕ, ◌+◌, ◌*◌, ◌^◌, ◌<◌, ◌≤◌, length, vec_len, vec_capacity, OnOk, OnErr, IfOk, IsSomeAnd, IsTrue, Some, None, slice_index, Contains};
 ghost use Rattle.cf_contents.specs.Contents.{times};
 ghost use Rattle.cf_model.specs.Finals.{cut_of};
 ghost use Rattle.cf_world.specs.Worlds.{next_in, acting, ended_at};
@@ -43,14 +43,14 @@ pub struct Over {
     pub finals: usize,
 }
 
-// The numbers of so many objects, of which the last may be new.
-fn grow(references: &mut Vec<usize>, made: usize) -> Result<(), NoMemory>
-    ensures { OnOk result (references.new.items ≡ grown made references.old.items) }
+// The numbers of so many objects, of which the last may be new. There is room for it.
+fn grow(references: &mut Vec<usize>, made: usize)
+    requires { vec_len references.old < vec_capacity references.old }
+    ensures { references.new.items ≡ grown made references.old.items }
 {
     if references.len() < made {
-        references.push(0)?;
+        references.push_reserved(0);
     }
-    Ok(())
 }
 
 // One more reference to an object.
@@ -177,22 +177,22 @@ impl Run {
         self.finals += finals(ended);
     }
 
-    // Does an action that takes no reference away.
-    fn apply(&mut self) -> Result<(), NoMemory>
+    // Does an action that takes no reference away. There is room for the number of an object that it makes.
+    fn apply(&mut self)
+        requires grows { vec_len self.old.references < vec_capacity self.old.references }
         requires run { IsRun self.old.world self.old.references.items self.old.finals }
         requires room { self.old.world.room ≡ Some 0 }
         requires acts { IsSomeAnd (acting self.old.world 0) (λ a. cut_of a ≡ None) }
-        ensures run { OnOk result (IsRun self.new.world self.new.references.items self.new.finals) }
+        ensures run { IsRun self.new.world self.new.references.items self.new.finals }
         ensures script { self.new.world.script ≡ self.old.world.script }
         ensures more { length self.new.world.journal ≡ length self.old.world.journal + 1 }
     {
         self.world.apply(ThreadId::SETUP);
-        grow(&mut self.references, self.world.made())?;
+        grow(&mut self.references, self.world.made());
         raise_all(&mut self.references, self.world.gained());
-        Ok(())
     }
 
-    // Does the next action. Want of memory leaves the run where no one may go on with it.
+    // Does the next action. All that it needs is reserved before, so want of memory makes no entry and leaves the run.
     fn step(&mut self, alloc: Global, turn: Turn) -> Result<(), NoMemory>
         requires run { IsRun self.old.world self.old.references.items self.old.finals }
         requires turn { turn ≡ turn_of (next_in self.old.world 0) }
@@ -200,16 +200,16 @@ impl Run {
         ensures run { OnOk result (IsRun self.new.world self.new.references.items self.new.finals) }
         ensures script { OnOk result (self.new.world.script ≡ self.old.world.script) }
         ensures more { OnOk result (length self.new.world.journal ≡ length self.old.world.journal + 1) }
+        ensures refused { OnErr result (self.new.world ≡ self.old.world) }
     {
+        self.references.reserve(1)?;
         self.world.reserve(alloc, ThreadId::SETUP)?;
         match turn {
-            Turn::Release(o) => {
-                self.release(o);
-                Ok(())
-            }
+            Turn::Release(o) => self.release(o),
             Turn::Apply => self.apply(),
-            Turn::Over(_) => Ok(()),
+            Turn::Over(_) => {}
         }
+        Ok(())
     }
 }
 

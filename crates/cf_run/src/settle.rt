@@ -1,8 +1,10 @@
 //! What a command comes to before a line of it is written: the file is read, and its script is run.
-ghost use Rattle.std.specs.Prelude.{◌≡◌, ◌≤◌, ◌<◌, map, length, IfOk, IfSome, IsErrOf};
+ghost use Rattle.std.specs.Prelude.{◌≡◌, ◌≤◌, ◌<◌, map, length, IfOk, OnOk, IfSome, IsSomeAnd, IsErrOf};
 ghost use Rattle.cf_fault.specs.Fault.{HasRisen};
 ghost use Rattle.cf_io.specs.Whole.{UnlessReadFault};
+ghost use Rattle.cf_io.specs.Bytes.{IsAtEnd};
 ghost use Rattle.cf_io.specs.Files.{content_of};
+ghost use Rattle.cf_run.specs.Calls.{told_by};
 ghost use Rattle.cf_run.specs.Lines.{entries_in};
 ghost use Rattle.cf_run.specs.Outcomes.{IsContent};
 ghost use Rattle.cf_run.specs.Settled.{Accepts, SettlesBytes, Settles, status_by, status_of, entries_of};
@@ -33,7 +35,10 @@ pub enum Settled {
 fn read_file<S: Source>(alloc: Global, source: &mut S, name: &str) -> Result<Vec<u8>, ReadAll>
     ensures whole { IfOk result (λ all. IsContent (S.files source.old) name.now all.items) }
     ensures fits { IfOk result (λ all. length all.items ≤ 1048576) }
-    ensures too_long { IsErrOf result ReadAll.TooLong → IfSome (S.files source.old) (λ told. IfSome (content_of told name.now) (λ bytes. 1048576 < length bytes)) }
+    ensures at_end { OnOk result (IsAtEnd (S.left source.new)) }
+    ensures quiet { UnlessReadFault result (S.faults source.new ≡ S.faults source.old) }
+    ensures too_long { IsErrOf result ReadAll.TooLong →
+        IfSome (S.files source.old) (λ told. IsSomeAnd (content_of told name.now) (λ bytes. 1048576 < length bytes)) }
     ensures fault { IsErrOf result ReadAll.ReadFault → HasRisen (S.faults source.old) (S.faults source.new) }
 {
     source.open(name).map_err(|_| ReadAll::ReadFault)?;
@@ -78,7 +83,8 @@ pub fn settle<S: Source>(
     words: &[&str],
     source: &mut S,
 ) -> Result<Settled, AllocError>
-    ensures { IfOk result (λ s. Settles (map (λ w. w.now) words.now) (S.files source.old) (S.faults source.old) (S.faults source.new) s) }
+    ensures { IfOk result (λ s. Settles (map (λ w. w.now) words.now)
+        (told_by S.files S.left S.faults source.old) (told_by S.files S.left S.faults source.new) s) }
 {
     let Some(name) = file_of(words) else {
         return Ok(Settled::Usage);

@@ -5,16 +5,16 @@ use Rattle.cf_ids.specs.declared.answer.Answer.{Answer}
 use Rattle.cf_ids.specs.declared.answer.Answer.TheVariants as answers
 use Rattle.cf_types.specs.declared.cells.Cell.{Cell}
 use Rattle.cf_contents.specs.Contents.{Content, text_content, data_content, number_content, instance_content, array_content, dictionary_content}
-use Rattle.cf_contents.specs.Keys.{Numbered, numbered, with_number_of}
+use Rattle.cf_contents.specs.Keys.{Numbered, number_of, numbered, with_number_of}
 use Rattle.cf_contents.specs.Deeds as deeds
 use Rattle.cf_body.specs.Bodies.{BodyView, object_in, held_of}
-use Rattle.cf_store.specs.Seen.{number_of, read_in, units_in, mutable_units_in}
+use Rattle.cf_store.specs.Seen.{read_in, units_in, mutable_units_in}
 use Rattle.cf_contents.specs.Stores.{objects_of}
 use Rattle.cf_body.specs.Changes.{CanBe}
 use Rattle.cf_store.specs.Applies.{CanBeAt, Does, body_at}
 use Rattle.cf_body.specs.declared.change.Change.{Change}
-use Rattle.cf_body.specs.declared.change.Change.TheVariants.{Put, Take}
-use Rattle.cf_store.specs.declared.deed.Source.TheVariants.{Nowhere}
+use Rattle.cf_body.specs.declared.change.Change.TheVariants.{PutPair, RemovePair}
+use Rattle.cf_store.specs.declared.deed.Origin.TheVariants.{Nowhere}
 use Rattle.cf_store.specs.declared.deed.Deed.{Deed}
 use Rattle.cf_store.proofs.Setting.{object_at}
 
@@ -47,28 +47,32 @@ text_of : (a : Option Numbered) (units : List ℕ) (deed other : List ℕ → de
 text_of None units deed other is same = absurd cc
 text_of (Some u) units deed other is same = units_of u.object.content units deed other is same
 
-pub appended : (a b c : Option Numbered) (d : Deed) (units more other : List ℕ) (at : ℕ) → Some units ≡ read_in mutable_units_in a → Some more ≡ read_in units_in b
-    → other ≡ more → at ≡ length units → Does (deeds.with_mutable_text a (λ us. deeds.edited_text us at 0 other)) a b c d
-    → Does (deeds.with_mutable_text a (λ us. deeds.with_text b (λ m. deeds.edited_text us (length us) 0 m))) a b c d
-appended a b c d units more other at first second copied end does =
+pub appended : (a b : Option Numbered) (d : Deed) (units more other : List ℕ) (at : ℕ) → Some units ≡ read_in mutable_units_in a
+    → Some more ≡ read_in units_in b → other ≡ more → at ≡ length units
+    → Does (deeds.with_mutable_text a (λ us. deeds.edited_text us at 0 other)) a d
+    → Does (deeds.with_mutable_text a (λ us. deeds.with_text b (λ m. deeds.edited_text us (length us) 0 m))) a d
+appended a b d units more other at first second copied end does =
     let deed = λ (us : List ℕ). deeds.with_text b (λ m. deeds.edited_text us (length us) 0 m) in
     let given = λ (us : List ℕ). deeds.edited_text us at 0 other in
     let same : deed units ≡ given units = more_of b more (λ m. deeds.edited_text units (length units) 0 m) second
     ∙ ap (λ (m : List ℕ). deeds.edited_text units (length units) 0 m) (sym copied) ∙ ap (λ (n : ℕ). deeds.edited_text units n 0 other) (sym end) in
     let whole : deeds.with_mutable_text a deed ≡ deeds.with_mutable_text a given = text_of a units deed given first same in
-    record { is = does.is ∙ sym whole; can = does.can; named = does.named }
+    record { is = does.is ∙ sym whole; new = does.new; can = does.can }
 
 -- ---- pairs
 
-pub put_does : (a b c : Option Numbered) (key : Cell) (value : ℕ) (answer : Answer) (d : Deed) → number_of b ≡ Some key.id
-    → ((k : Cell) (v : ℕ) → CanBeAt (Put k v) a) → Some value ≡ number_of c → d ≡ record { answer = answer; source = Nowhere; change = Put key value }
-    → Does (deeds.with_object c (λ ob. deeds.put answer key)) a b c d
-put_does a b None key value answer d named puts is same = absurd cc
-put_does a b (Some u) key value answer d named puts is same = rw same (record { is = refl; can = puts key value; named = (named, sym is) })
+pub put_does : (a c : Option Numbered) (key : Cell) (value : ℕ) (answer : Answer) (d : Deed)
+    → ((k : Cell) (v : ℕ) → CanBeAt (PutPair k v) a) → Some value ≡ number_of c
+    → d ≡ record { answer = answer; origin = Nowhere; change = PutPair key value }
+    → Does (deeds.with_object c (λ u. deeds.putting answer key u.number)) a d
+put_does a None key value answer d puts is same = absurd cc
+put_does a (Some u) key value answer d puts is same =
+    let named : value ≡ u.number = cc in
+    rw same (record { is = ap (λ (n : ℕ). deeds.putting answer key n) named; new = tt; can = puts key value })
 
-pub take_does : (a b c : Option Numbered) (key : Cell) (d : Deed) → ((k : Cell) → CanBeAt (Take k) a)
-    → d ≡ record { answer = answers.Ok; source = Nowhere; change = Take key } → Does (deeds.changing answers.Ok (deeds.take_pair key)) a b c d
-take_does a b c key d takes same = rw same (record { is = refl; can = takes key; named = tt })
+pub remove_does : (a : Option Numbered) (key : Cell) (d : Deed) → ((k : Cell) → CanBeAt (RemovePair k) a)
+    → d ≡ record { answer = answers.Ok; origin = Nowhere; change = RemovePair key } → Does (deeds.changing answers.Ok (deeds.remove_pair key)) a d
+remove_does a key d removes same = rw same (record { is = refl; new = tt; can = removes key })
 
 -- ---- what can be done to an object can be done to its body
 

@@ -1,16 +1,17 @@
 -- What is done to one body is done among the bodies.
-use Rattle.std.proofs.Common.{arith, ◌≡◌, ℕ, zero, suc, ◌<◌, ◌≤◌, List, [], ◌∷◌, map, length, get_or, Option, Some, None, Result, Ok, Err, IfSome, OnOk, OnSome, true, refl, sym, ap, ◌∙◌, slice_get, slice_set}
+use Rattle.std.proofs.Common.{arith, ◌≡◌, ℕ, zero, suc, ◌+◌, ◌<◌, ◌≤◌, List, [], ◌∷◌, map, length, get_or, Option, Some, None, Result, Ok, Err, IfSome, OnOk, OnSome, true, refl, sym, ap, ◌∙◌, slice_get, slice_set}
 use Rattle.std.specs.Option.{option_map}
 use Rattle.std.proofs.lemmas.Option.{slice_get_read, slice_get_past, slice_get-map}
-use Rattle.cf_contents.specs.Contents.{Object}
+use Rattle.cf_contents.specs.Contents.{Object, size_of, member_limit}
 use Rattle.cf_contents.specs.Keys.{numbered, with_number_of}
 use Rattle.cf_contents.specs.Deeds as deeds
 use Rattle.cf_body.specs.Bodies.{BodyView, object_in, held_of}
-use Rattle.cf_contents.specs.Stores.{Held, objects_of, with_body, body_changed, body_dropped, bodies_changed, is_live_in, given_up_in, left_to, left_in}
-use Rattle.cf_body.specs.Changes.{CanBe, HasRoom, done_of}
+use Rattle.cf_contents.specs.Stores.{Held, MayGrow, objects_of, with_body, body_changed, body_dropped, bodies_changed, is_live_in, given_up_in, left_to, left_in}
+use Rattle.cf_body.specs.Changes.{CanBe, HasRoom, done_of, members_for}
 use Rattle.cf_store.specs.Applies.{IsReadyAt, body_at, IsReadyIn}
 use Rattle.cf_store.specs.declared.deed.ReadyDeed.{ReadyDeed}
 use Rattle.cf_body.specs.declared.change.Change.{Change}
+use Rattle.cf_body.specs.declared.change.Change.TheVariants.{Nothing, Text, Data, Insert, Replace, Remove, Fill, Clear, PutPair, RemovePair}
 
 -- the object of a body
 pub object_at : (bodies : List BodyView) (o : ℕ) → slice_get (objects_of (map held_of bodies)) o ≡ option_map object_in (slice_get bodies o)
@@ -130,7 +131,7 @@ pub ready_stays : (ready : Option ReadyDeed) (bodies : List BodyView) (o : ℕ) 
     → new.content ≡ old.content → new.room ≡ old.room → IsReadyIn bodies ready → IsReadyIn (slice_set bodies o new) ready
 ready_stays None bodies o old new within is content room h = tt
 ready_stays (Some r) bodies o old new within is content room h =
-    stays_ready r.deed.change bodies r.object o old new (slice_get_read bodies (length bodies) o old refl within is) content room h
+    (h.0, stays_ready r.deed.change bodies r.object o old new (slice_get_read bodies (length bodies) o old refl within is) content room h.1)
 
 -- a live object has a body
 pub live_within : (bodies : List BodyView) (o : ℕ) → is_live_in (map held_of bodies) o ≡ true → o < length bodies
@@ -151,3 +152,22 @@ pub dropped_at : (bodies : List BodyView) (o : ℕ) (old new : BodyView) (result
     → OnSome result (held_of new ≡ body_dropped (held_of old)) → OnSome result (map held_of (slice_set bodies o new) ≡ with_body body_dropped o (map held_of bodies))
 dropped_at bodies o old new None within is h = tt
 dropped_at bodies o old new (Some slot) within is h = set_at body_dropped bodies o old new within is h
+
+-- a change has room for its members
+grows_one : (change : Change) → members_for change ≤ 1
+grows_one Nothing = omega arith
+grows_one (Text at len text) = omega arith
+grows_one (Data at len bytes) = omega arith
+grows_one (Insert at element) = omega arith
+grows_one (Replace at element) = omega arith
+grows_one (Remove at) = omega arith
+grows_one (Fill at element) = omega arith
+grows_one (Clear at) = omega arith
+grows_one (PutPair key value) = omega arith
+grows_one (RemovePair key) = omega arith
+
+pub few_at : (change : Change) (bodies : List BodyView) (object : Option ℕ) (o : ℕ) (old : BodyView) → (object ≡ Some o) × (o < length bodies)
+    → old ≡ get_or bodies o old → MayGrow (map held_of bodies) → size_of old.content + members_for change < member_limit
+few_at change bodies object o old made is grows =
+    let few = rw (object_at bodies o ∙ ap (option_map object_in) (slice_get_read bodies (length bodies) o old refl made.1 is)) at (grows o) in
+    omega (arith, few, grows_one change)

@@ -2,11 +2,10 @@
 use Rattle.std.specs.Prelude.{◌≡◌, ℕ, List, Option, Some, None, IfSome}
 use Rattle.cf_types.specs.declared.cells.Cell.{Cell}
 use Rattle.cf_syntax.specs.declared.script.ClassLine.{ClassLine}
-use Rattle.cf_contents.specs.Keys.{Numbered}
+use Rattle.cf_contents.specs.Keys.{Numbered, number_of}
 use Rattle.cf_contents.specs.Deeds as deeds
 use Rattle.cf_store.specs.Applies.{CanBeAt}
-use Rattle.cf_store.specs.Seen.{number_of}
-use Rattle.cf_body.specs.declared.change.Change.TheVariants.{Put, Take}
+use Rattle.cf_body.specs.declared.change.Change.TheVariants.{PutPair, RemovePair}
 use Rattle.cf_store.specs.declared.pair_deeds.Entry.{Entry}
 
 -- a deed by what is found
@@ -17,8 +16,8 @@ deed_with (Some e) deed = deed e.key e.value
 -- the key is that of the second object, and the first one can be changed by it
 pub record IsEntry (a b : Option Numbered) (e : Entry) : Type 0 where
   pub named : number_of b ≡ Some e.key.id
-  pub puts : (key : Cell) (value : ℕ) → CanBeAt (Put key value) a
-  pub takes : (key : Cell) → CanBeAt (Take key) a
+  pub puts : (key : Cell) (value : ℕ) → CanBeAt (PutPair key value) a
+  pub removes : (key : Cell) → CanBeAt (RemovePair key) a
 
 -- what is found decides each deed on a pair
 pub record IsFound (classes : List ClassLine) (a b : Option Numbered) (found : Option Entry) : Type 0 where

@@ -33,7 +33,3 @@ elements_in _ = None
 abbrev pub read_in : {A : Type 0} → (Content → Option A) → Option Numbered → Option A
 read_in read None = None
 read_in read (Some u) = read u.object.content
-
-abbrev pub number_of : Option Numbered → Option ℕ
-number_of None = None
-number_of (Some u) = Some u.number

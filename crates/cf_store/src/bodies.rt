@@ -1,14 +1,13 @@
 //! The bodies among which a statement acts.
-ghost use Rattle.std.specs.Prelude.{◌≡◌, ◌<◌, map, length, Some, None, vec_len, vec_capacity, IfOk, IfSome, IfNone, OnOk};
-ghost use Rattle.std.specs.Option.{option_map};
+ghost use Rattle.std.specs.Prelude.{◌≡◌, ◌<◌, map, length, Some, None, vec_len, vec_capacity, IfOk, IfSome, IfNone, OnOk, OnErr};
 ghost use Rattle.cf_contents.specs.Contents.{present};
 ghost use Rattle.cf_contents.specs.Deeds.{object_of, taken_in, given_out};
 ghost use Rattle.cf_body.specs.Bodies.{held_of};
 ghost use Rattle.cf_body.specs.Changes.{done_of, CanBe};
-ghost use Rattle.cf_store.specs.Applies.{IsReadyAt, body_at, ready_by, source_of, fresh_in, there_in};
-ghost use Rattle.cf_contents.specs.Stores.{live, objects_of, readied, bodies_changed};
+ghost use Rattle.cf_store.specs.Applies.{IsNew, IsReadyAt, body_at, ready_by};
+ghost use Rattle.cf_contents.specs.Stores.{MayGrow, objects_of, readied, bodies_changed};
 
-use crate::deed::{ReadyDeed, Source};
+use crate::deed::ReadyDeed;
 use crate::deeds::deed;
 use crate::seen::{Found, see};
 use cf_body::{Body, Change, Moved};
@@ -25,6 +24,7 @@ pub(crate) fn deed_among(
     used: &[Option<ObjId>; 3],
 ) -> Result<ReadyDeed, NoMemory>
     ensures ready { IfOk result (λ r. ready_by r ≡ readied classes.now (map held_of bodies.now) statement.now used.now) }
+    ensures new { IfOk result (λ r. IsNew r.deed.origin) }
     ensures can { IfOk result (λ r. IfSome (body_at bodies.now r.object) (λ b. CanBe r.deed.change b.content)) }
 {
     let found = Found {
@@ -58,9 +58,11 @@ pub(crate) fn make_room(
     object: Option<ObjId>,
     change: &Change,
 ) -> Result<(), NoMemory>
-    requires { IfSome (body_at bodies.old.items object) (λ b. CanBe change.now b.content) }
+    requires can { IfSome (body_at bodies.old.items object) (λ b. CanBe change.now b.content) }
+    requires few { MayGrow (map held_of bodies.old.items) }
     ensures held { map held_of bodies.new.items ≡ map held_of bodies.old.items }
     ensures ready { OnOk result (IsReadyAt change.now (body_at bodies.new.items object)) }
+    ensures refused { OnErr result (bodies.new.items ≡ bodies.old.items) }
     ensures len { vec_len bodies.new ≡ vec_len bodies.old }
     ensures capacity { vec_capacity bodies.new ≡ vec_capacity bodies.old }
 {
@@ -84,17 +86,5 @@ pub(crate) fn change_body(bodies: &mut Vec<Body>, object: Option<ObjId>, change:
     match place_of(bodies, object) {
         Some(place) => bodies[place].change(change),
         None => Moved::nothing(),
-    }
-}
-
-/// The object that is bound: a new body, or one that is there.
-pub(crate) fn bound(source: Source) -> (Option<Body>, Option<ObjId>)
-    ensures fresh { option_map held_of result.0 ≡ option_map live (fresh_in (source_of source)) }
-    ensures there { result.1 ≡ there_in (source_of source) }
-{
-    match source {
-        Source::Nowhere => (None, None),
-        Source::Fresh(made) => (Some(Body::of(made)), None),
-        Source::There(object) => (None, Some(object)),
     }
 }

@@ -26,7 +26,7 @@ pub(crate) fn content_deed(
 ) -> Result<Deed, NoMemory>
     requires { acts_on_content statement.now ≡ true }
     ensures { let deed = deed_of classes.now statement.now used.now.first used.now.second used.now.third in
-        IfOk result (λ d. Does deed used.now.first used.now.second used.now.third d) }
+        IfOk result (λ d. Does deed used.now.first d) }
 {
     match statement {
         Statement::Show { .. } => show(alloc, classes, used),
@@ -53,8 +53,8 @@ pub(crate) fn content_deed(
 
 /// Describes an object.
 fn show(alloc: Global, classes: &[ClassLine], used: &Found) -> Result<Deed, NoMemory>
-    ensures { let deed = with_object used.now.first (λ ob. answered (answers.Shown (description classes.now ob))) in
-        IfOk result (λ d. Does deed used.now.first used.now.second used.now.third d) }
+    ensures { let deed = with_object used.now.first (λ u. answered (answers.Shown (description classes.now u.object))) in
+        IfOk result (λ d. Does deed used.now.first d) }
 {
     let Some(seen) = &used.first else {
         return Ok(Deed::skipped());
@@ -65,7 +65,7 @@ fn show(alloc: Global, classes: &[ClassLine], used: &Found) -> Result<Deed, NoMe
 
 /// Reads a number as one of a kind.
 fn read_as(used: &Found, kind: NumKind) -> Deed
-    ensures { Does (with_number used.now.first (as_kind kind)) used.now.first used.now.second used.now.third result }
+    ensures { Does (with_number used.now.first (as_kind kind)) used.now.first result }
 {
     let Some(number) = number_in(&used.first) else {
         return Deed::skipped();
@@ -79,7 +79,7 @@ fn read_as(used: &Found, kind: NumKind) -> Deed
 /// Makes a string of a part of a text.
 fn take_part(alloc: Global, used: &Found, at: u32, len: u32) -> Result<Deed, NoMemory>
     ensures { let deed = with_text used.now.first (λ units. part_of units at len) in
-        IfOk result (λ d. Does deed used.now.first used.now.second used.now.third d) }
+        IfOk result (λ d. Does deed used.now.first d) }
 {
     match text_in(&used.first) {
         Some(text) => part(alloc, text, at as usize, len as usize),
@@ -104,11 +104,11 @@ fn part(alloc: Global, text: &Str, at: usize, len: usize) -> Result<Deed, NoMemo
     }
 }
 
-/// Puts the text of another object behind that of a mutable string. The two may be one object.
+/// Puts the text of another object after that of a mutable string. The two may be one object.
 fn append_text(alloc: Global, used: &Found) -> Result<Deed, NoMemory>
     ensures { let deed = with_mutable_text used.now.first
         (λ units. with_text used.now.second (λ more. edited_text units (length units) 0 more)) in
-        IfOk result (λ d. Does deed used.now.first used.now.second used.now.third d) }
+        IfOk result (λ d. Does deed used.now.first d) }
 {
     let Some(text) = mutable_text_in(&used.first) else {
         return Ok(Deed::skipped());
@@ -123,7 +123,7 @@ fn append_text(alloc: Global, used: &Found) -> Result<Deed, NoMemory>
 /// Puts a copy of a text in place of the `len` units from `at` on in a mutable string.
 fn put_text(alloc: Global, used: &Found, at: u32, len: u32, other: &Str) -> Result<Deed, NoMemory>
     ensures { let deed = with_mutable_text used.now.first (λ units. edited_text units at len other.now.units) in
-        IfOk result (λ d. Does deed used.now.first used.now.second used.now.third d) }
+        IfOk result (λ d. Does deed used.now.first d) }
 {
     let other = other.copy(alloc)?;
     Ok(edit_text(used, at as usize, len as usize, other))
@@ -132,7 +132,7 @@ fn put_text(alloc: Global, used: &Found, at: u32, len: u32, other: &Str) -> Resu
 /// Puts a text in place of the `len` units from `at` on in a mutable string.
 fn edit_text(used: &Found, at: usize, len: usize, text: Str) -> Deed
     ensures { let deed = with_mutable_text used.now.first (λ units. edited_text units at len text.units) in
-        Does deed used.now.first used.now.second used.now.third result }
+        Does deed used.now.first result }
 {
     let Some(old) = mutable_text_in(&used.first) else {
         return Deed::skipped();
@@ -143,10 +143,10 @@ fn edit_text(used: &Found, at: usize, len: usize, text: Str) -> Deed
     }
 }
 
-/// Puts bytes behind those of mutable data.
+/// Puts bytes after those of mutable data.
 fn append_bytes(alloc: Global, used: &Found, other: &[u8]) -> Result<Deed, NoMemory>
     ensures { let deed = with_mutable_data used.now.first (λ old. edited_data old (length old) 0 other.now) in
-        IfOk result (λ d. Does deed used.now.first used.now.second used.now.third d) }
+        IfOk result (λ d. Does deed used.now.first d) }
 {
     let Some(old) = mutable_bytes_in(&used.first) else {
         return Ok(Deed::skipped());
@@ -158,7 +158,7 @@ fn append_bytes(alloc: Global, used: &Found, other: &[u8]) -> Result<Deed, NoMem
 /// Puts a copy of bytes in place of the `len` bytes from `at` on in mutable data.
 fn put_bytes(alloc: Global, used: &Found, at: u32, len: u32, other: &[u8]) -> Result<Deed, NoMemory>
     ensures { let deed = with_mutable_data used.now.first (λ old. edited_data old at len other.now) in
-        IfOk result (λ d. Does deed used.now.first used.now.second used.now.third d) }
+        IfOk result (λ d. Does deed used.now.first d) }
 {
     let other = copy_bytes(alloc, other)?;
     Ok(edit_bytes(used, at as usize, len as usize, other))
@@ -167,7 +167,7 @@ fn put_bytes(alloc: Global, used: &Found, at: u32, len: u32, other: &[u8]) -> Re
 /// Puts bytes in place of the `len` bytes from `at` on in mutable data.
 fn edit_bytes(used: &Found, at: usize, len: usize, bytes: Bytes) -> Deed
     ensures { let deed = with_mutable_data used.now.first (λ old. edited_data old at len bytes.items) in
-        Does deed used.now.first used.now.second used.now.third result }
+        Does deed used.now.first result }
 {
     let Some(old) = mutable_bytes_in(&used.first) else {
         return Deed::skipped();

@@ -1,23 +1,24 @@
 //! What a statement does, as data.
-ghost use Rattle.std.specs.Prelude.{◌≡◌, ◌<◌, None};
-ghost use Rattle.cf_contents.specs.Contents.{Object};
-ghost use Rattle.cf_contents.specs.Deeds.{binding};
-ghost use Rattle.cf_body.specs.Bodies.{content_of, members_in, member_limit};
-ghost use Rattle.cf_store.specs.Applies.{deed_by};
-ghost use Rattle.cf_store.specs.declared.deed.Source.TheVariants.{Nowhere, Fresh};
+ghost use Rattle.std.specs.Prelude.{◌≡◌, ◌<◌};
+ghost use Rattle.cf_contents.specs.Contents.{member_limit};
+ghost use Rattle.cf_contents.specs.Deeds.{binding, made};
+ghost use Rattle.cf_body.specs.Bodies.{content_of, members_in};
+ghost use Rattle.cf_store.specs.Applies.{deed_by, IsNew};
+ghost use Rattle.cf_store.specs.declared.deed.Origin.TheVariants.{Nowhere};
 ghost use Rattle.cf_body.specs.declared.change.Change.TheVariants.{Nothing};
 ghost use Rattle.cf_ids.specs.declared.answer.Answer.TheVariants.{Skip, Ok};
 
-use cf_body::{Change, Kind, Made};
+use cf_body::{Body, Change, Kind};
 use cf_ids::{Answer, ObjId, TypeId};
 
 /// Where the object comes from that a statement binds.
 #[derive(Drop)]
-pub(crate) enum Source {
+pub enum Origin {
+    /// There is none, and the variable is empty.
     Nowhere,
-    /// It is new.
-    Fresh(Made),
-    /// It is there.
+    /// It is new, and has this body.
+    Fresh(Body),
+    /// It is there already; it may be finalised.
     There(ObjId),
 }
 
@@ -25,7 +26,7 @@ pub(crate) enum Source {
 #[derive(Drop)]
 pub(crate) struct Deed {
     pub(crate) answer: Answer,
-    pub(crate) source: Source,
+    pub(crate) origin: Origin,
     pub(crate) change: Change,
 }
 
@@ -39,18 +40,18 @@ pub(crate) struct ReadyDeed {
 impl Deed {
     /// It answers, and does nothing else.
     pub(crate) fn answered(answer: Answer) -> Deed
-        ensures { result ≡ record { answer = answer; source = Nowhere; change = Nothing } }
+        ensures { result ≡ record { answer = answer; origin = Nowhere; change = Nothing } }
     {
         Deed {
             answer,
-            source: Source::Nowhere,
+            origin: Origin::Nowhere,
             change: Change::Nothing,
         }
     }
 
     /// The statement is skipped.
     pub(crate) fn skipped() -> Deed
-        ensures { result ≡ record { answer = Skip; source = Nowhere; change = Nothing } }
+        ensures { result ≡ record { answer = Skip; origin = Nowhere; change = Nothing } }
     {
         Deed::answered(Answer::Skip)
     }
@@ -58,23 +59,24 @@ impl Deed {
     /// It makes an object.
     pub(crate) fn made(class: TypeId, kind: Kind) -> Deed
         requires { members_in (content_of kind) < member_limit }
-        ensures { let ob : Object = record { class = class; content = content_of kind } in
-            result ≡ record { answer = Skip; source = Fresh ob; change = Nothing } }
+        ensures is { deed_by result ≡ made class (content_of kind) }
+        ensures change { result.change ≡ Nothing }
+        ensures new { IsNew result.origin }
     {
         Deed {
             answer: Answer::Skip,
-            source: Source::Fresh(Made::new(class, kind)),
+            origin: Origin::Fresh(Body::new(class, kind)),
             change: Change::Nothing,
         }
     }
 
     /// It changes the first object that is used.
     pub(crate) fn changing(answer: Answer, change: Change) -> Deed
-        ensures { result ≡ record { answer = answer; source = Nowhere; change = change } }
+        ensures { result ≡ record { answer = answer; origin = Nowhere; change = change } }
     {
         Deed {
             answer,
-            source: Source::Nowhere,
+            origin: Origin::Nowhere,
             change,
         }
     }
@@ -83,11 +85,12 @@ impl Deed {
     pub(crate) fn binding(object: Option<ObjId>) -> Deed
         ensures is { deed_by result ≡ binding object }
         ensures change { result.change ≡ Nothing }
+        ensures new { IsNew result.origin }
     {
         match object {
             Some(object) => Deed {
                 answer: Answer::Nil,
-                source: Source::There(object),
+                origin: Origin::There(object),
                 change: Change::Nothing,
             },
             None => Deed::answered(Answer::Nil),
@@ -95,9 +98,9 @@ impl Deed {
     }
 }
 
-/// Lets nothing be ready.
-pub(crate) fn clear(ready: &mut Option<ReadyDeed>)
-    ensures { ready.new ≡ None }
+/// Lets a deed be ready, or none.
+pub(crate) fn set_ready(ready: &mut Option<ReadyDeed>, deed: Option<ReadyDeed>)
+    ensures { ready.new ≡ deed }
 {
-    *ready = None;
+    *ready = deed;
 }

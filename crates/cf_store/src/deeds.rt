@@ -20,7 +20,7 @@ pub(crate) fn deed(
     used: &Found,
 ) -> Result<Deed, NoMemory>
     ensures { let deed = deed_of classes.now statement.now used.now.first used.now.second used.now.third in
-        IfOk result (λ d. Does deed used.now.first used.now.second used.now.third d) }
+        IfOk result (λ d. Does deed used.now.first d) }
 {
     match statement {
         Statement::Show { .. }

@@ -11,5 +11,6 @@ mod place_deeds;
 mod seen;
 mod store;
 
+pub use deed::Origin;
 pub use std::alloc::AllocError as NoMemory;
 pub use store::{Edited, Store};

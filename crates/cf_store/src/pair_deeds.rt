@@ -1,6 +1,6 @@
 //! What statements do to dictionaries.
 ghost use Rattle.std.specs.Prelude.{◌≡◌, true, IfOk};
-ghost use Rattle.cf_contents.specs.Deeds.{with_object, add_pair, set_pair, replace_pair, remove_pair, deed_of};
+ghost use Rattle.cf_contents.specs.Deeds.{with_object, adding_pair, setting_pair, replacing_pair, removing_pair, deed_of};
 ghost use Rattle.cf_store.specs.Applies.{Does};
 ghost use Rattle.cf_store.specs.Finds.{IsEntry, IsFound};
 ghost use Rattle.cf_store.specs.Groups.{acts_on_pairs};
@@ -29,7 +29,7 @@ pub(crate) fn pair_deed(
 ) -> Result<Deed, NoMemory>
     requires { acts_on_pairs statement.now ≡ true }
     ensures { let deed = deed_of classes.now statement.now used.now.first used.now.second used.now.third in
-        IfOk result (λ d. Does deed used.now.first used.now.second used.now.third d) }
+        IfOk result (λ d. Does deed used.now.first d) }
 {
     let Some(entry) = find(alloc, classes, used)? else {
         return Ok(Deed::skipped());
@@ -66,15 +66,15 @@ fn find(alloc: Global, classes: &[ClassLine], used: &Found) -> Result<Option<Ent
 /// Adds a pair, unless its key is there.
 fn add_pair(used: &Found, entry: Entry) -> Deed
     requires { IsEntry used.now.first used.now.second entry }
-    ensures { let deed = with_object used.now.third (λ ob. add_pair entry.key entry.value) in
-        Does deed used.now.first used.now.second used.now.third result }
+    ensures { let deed = with_object used.now.third (λ u. adding_pair entry.key u.number entry.value) in
+        Does deed used.now.first result }
 {
     let Some(value) = number_of(&used.third) else {
         return Deed::skipped();
     };
     let Entry { key, value: old } = entry;
     match old {
-        None => Deed::changing(Answer::Ok, Change::Put { key, value }),
+        None => Deed::changing(Answer::Ok, Change::PutPair { key, value }),
         Some(_) => Deed::answered(Answer::Present),
     }
 }
@@ -82,24 +82,24 @@ fn add_pair(used: &Found, entry: Entry) -> Deed
 /// Puts a pair in, its value alone where its key is there.
 fn set_pair(used: &Found, entry: Entry) -> Deed
     requires { IsEntry used.now.first used.now.second entry }
-    ensures { let deed = with_object used.now.third (λ ob. set_pair entry.key entry.value) in
-        Does deed used.now.first used.now.second used.now.third result }
+    ensures { let deed = with_object used.now.third (λ u. setting_pair entry.key u.number entry.value) in
+        Does deed used.now.first result }
 {
     let Some(value) = number_of(&used.third) else {
         return Deed::skipped();
     };
     let Entry { key, value: old } = entry;
     match old {
-        None => Deed::changing(Answer::Added, Change::Put { key, value }),
-        Some(_) => Deed::changing(Answer::Changed, Change::Put { key, value }),
+        None => Deed::changing(Answer::Added, Change::PutPair { key, value }),
+        Some(_) => Deed::changing(Answer::Changed, Change::PutPair { key, value }),
     }
 }
 
 /// Lets an object be the value of a key that is there.
 fn replace_pair(used: &Found, entry: Entry) -> Deed
     requires { IsEntry used.now.first used.now.second entry }
-    ensures { let deed = with_object used.now.third (λ ob. replace_pair entry.key entry.value) in
-        Does deed used.now.first used.now.second used.now.third result }
+    ensures { let deed = with_object used.now.third (λ u. replacing_pair entry.key u.number entry.value) in
+        Does deed used.now.first result }
 {
     let Some(value) = number_of(&used.third) else {
         return Deed::skipped();
@@ -107,18 +107,18 @@ fn replace_pair(used: &Found, entry: Entry) -> Deed
     let Entry { key, value: old } = entry;
     match old {
         None => Deed::answered(Answer::Absent),
-        Some(_) => Deed::changing(Answer::Ok, Change::Put { key, value }),
+        Some(_) => Deed::changing(Answer::Ok, Change::PutPair { key, value }),
     }
 }
 
-/// Takes out a pair, where its key is there.
+/// Removes a pair, if its key is there.
 fn remove_pair(used: &Found, entry: Entry) -> Deed
     requires { IsEntry used.now.first used.now.second entry }
-    ensures { Does (remove_pair entry.key entry.value) used.now.first used.now.second used.now.third result }
+    ensures { Does (removing_pair entry.key entry.value) used.now.first result }
 {
     let Entry { key, value: old } = entry;
     match old {
         None => Deed::answered(Answer::Absent),
-        Some(_) => Deed::changing(Answer::Ok, Change::Take { key }),
+        Some(_) => Deed::changing(Answer::Ok, Change::RemovePair { key }),
     }
 }

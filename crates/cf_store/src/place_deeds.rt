@@ -14,7 +14,7 @@ use cf_syntax::Statement;
 pub(crate) fn place_deed(statement: &Statement, used: &Found) -> Deed
     requires { acts_on_places statement.now ≡ true }
     ensures { let deed = deed_of [] statement.now used.now.first used.now.second used.now.third in
-        Does deed used.now.first used.now.second used.now.third result }
+        Does deed used.now.first result }
 {
     match statement {
         Statement::ArrAppend { .. } => append_element(used),
@@ -29,11 +29,11 @@ pub(crate) fn place_deed(statement: &Statement, used: &Found) -> Deed
     }
 }
 
-/// Puts an element behind the last one.
+/// Puts an element after the last one.
 fn append_element(used: &Found) -> Deed
     ensures { let deed = with_elements used.now.first
-        (λ os. with_object used.now.second (λ ob. edited_places (length os) 0 (Some 1 ∷ []))) in
-        Does deed used.now.first used.now.second used.now.third result }
+        (λ os. with_object used.now.second (λ u. edited_places (length os) 0 (Some u.number ∷ []))) in
+        Does deed used.now.first result }
 {
     let Some(elements) = elements_in(&used.first) else {
         return Deed::skipped();
@@ -48,8 +48,8 @@ fn append_element(used: &Found) -> Deed
 /// Puts an element in before the one at a place.
 fn insert_element(used: &Found, at: u32) -> Deed
     ensures { let deed = with_elements used.now.first
-        (λ os. with_object used.now.second (λ ob. within (nat_le at (length os)) (edited_places at 0 (Some 1 ∷ [])))) in
-        Does deed used.now.first used.now.second used.now.third result }
+        (λ os. with_object used.now.second (λ u. within (nat_le at (length os)) (edited_places at 0 (Some u.number ∷ [])))) in
+        Does deed used.now.first result }
 {
     let at = at as usize;
     let Some(elements) = elements_in(&used.first) else {
@@ -64,11 +64,11 @@ fn insert_element(used: &Found, at: u32) -> Deed
     Deed::changing(Answer::Ok, Change::Insert { at, element })
 }
 
-/// Puts an element in place of the one at a place, or behind the last one.
+/// Puts an element in place of the one at a place, or after the last one.
 fn replace_element(used: &Found, at: u32) -> Deed
     ensures { let deed = with_elements used.now.first
-        (λ os. with_object used.now.second (λ ob. within (nat_le at (length os)) (edited_places at 1 (Some 1 ∷ [])))) in
-        Does deed used.now.first used.now.second used.now.third result }
+        (λ os. with_object used.now.second (λ u. within (nat_le at (length os)) (edited_places at 1 (Some u.number ∷ [])))) in
+        Does deed used.now.first result }
 {
     let at = at as usize;
     let Some(elements) = elements_in(&used.first) else {
@@ -83,10 +83,10 @@ fn replace_element(used: &Found, at: u32) -> Deed
     Deed::changing(Answer::Ok, Change::Replace { at, element })
 }
 
-/// Takes out the element at a place.
+/// Removes the element at a place.
 fn remove_element(used: &Found, at: u32) -> Deed
     ensures { let deed = with_elements used.now.first (λ os. within (nat_lt at (length os)) (edited_places at 1 [])) in
-        Does deed used.now.first used.now.second used.now.third result }
+        Does deed used.now.first result }
 {
     let at = at as usize;
     let Some(elements) = elements_in(&used.first) else {
@@ -101,7 +101,7 @@ fn remove_element(used: &Found, at: u32) -> Deed
 /// Binds the element at a place, where there is one.
 fn take_element(used: &Found, at: u32) -> Deed
     ensures { let deed = with_elements used.now.first (λ os. binding (slice_get os at)) in
-        Does deed used.now.first used.now.second used.now.third result }
+        Does deed used.now.first result }
 {
     let Some(elements) = elements_in(&used.first) else {
         return Deed::skipped();
@@ -112,8 +112,8 @@ fn take_element(used: &Found, at: u32) -> Deed
 /// Puts an object in a field.
 fn fill_field(used: &Found, at: u32) -> Deed
     ensures { let deed = with_fields used.now.first
-        (λ fields. with_object used.now.second (λ ob. within (nat_lt at (length fields)) (edited_places at 1 (Some 1 ∷ [])))) in
-        Does deed used.now.first used.now.second used.now.third result }
+        (λ fields. with_object used.now.second (λ u. within (nat_lt at (length fields)) (edited_places at 1 (Some u.number ∷ [])))) in
+        Does deed used.now.first result }
 {
     let at = at as usize;
     let Some(fields) = fields_in(&used.first) else {
@@ -132,7 +132,7 @@ fn fill_field(used: &Found, at: u32) -> Deed
 fn clear_field(used: &Found, at: u32) -> Deed
     ensures { let deed = with_fields used.now.first
         (λ fields. within (nat_lt at (length fields)) (edited_places at 1 (None ∷ []))) in
-        Does deed used.now.first used.now.second used.now.third result }
+        Does deed used.now.first result }
 {
     let at = at as usize;
     let Some(fields) = fields_in(&used.first) else {
@@ -147,7 +147,7 @@ fn clear_field(used: &Found, at: u32) -> Deed
 /// Binds the object in a field, where there is one.
 fn take_field(used: &Found, at: u32) -> Deed
     ensures { let deed = with_fields used.now.first (λ fields. binding (in_field (slice_get fields at))) in
-        Does deed used.now.first used.now.second used.now.third result }
+        Does deed used.now.first result }
 {
     let Some(fields) = fields_in(&used.first) else {
         return Deed::skipped();

@@ -6,10 +6,10 @@ ghost use Rattle.cf_contents.specs.Deeds.{object_of, coming_in, going_out, taken
 ghost use Rattle.cf_body.specs.Bodies.{held_of};
 ghost use Rattle.cf_body.specs.Changes.{done_of};
 ghost use Rattle.cf_store.specs.Applies.{IsReadyAt, IsDeed, body_at, ready_by};
-ghost use Rattle.cf_contents.specs.Stores.{Held, live, objects_of, readied, with_body, body_retired, body_dropped, bodies_changed, is_live_in, given_up_in, left_in};
+ghost use Rattle.cf_contents.specs.Stores.{Held, MayGrow, objects_of, readied, with_body, body_retired, body_dropped, bodies_changed, is_live_in, given_up_in, left_in};
 
-use crate::bodies::{bound, change_body, deed_among, make_room};
-use crate::deed::{Deed, ReadyDeed, clear};
+use crate::bodies::{change_body, deed_among, make_room};
+use crate::deed::{Deed, Origin, ReadyDeed, set_ready};
 use cf_body::{Body, Moved};
 use cf_ids::{Answer, ObjId, TypeId};
 use cf_syntax::{ClassLine, Statement};
@@ -21,10 +21,8 @@ use std::marker::Model;
 pub struct Edited {
     /// What the statement answers where nothing else decides its answer.
     pub answer: Answer,
-    /// The body of the object that is bound, where that is new.
-    pub fresh: Option<Body>,
-    /// The object that is bound, where it is there already; it may be finalised.
-    pub there: Option<ObjId>,
+    /// Where the object comes from that is bound.
+    pub origin: Origin,
     /// The objects that came into the body, one for each slot more.
     pub took: [Option<ObjId>; 2],
     /// The objects that went out of it, in order.
@@ -154,13 +152,14 @@ impl Store {
         ensures room { self.new.room + 1 ≡ self.old.room }
     {
         let number = self.bodies.len() as u32;
-        clear(&mut self.ready);
+        set_ready(&mut self.ready, None);
         self.bodies.push_reserved(body);
         ObjId(number)
     }
 
     /// Makes room for what a statement does: `used` are the objects of the variables that it uses, and `classes`
-    /// those of its script. A refusal changes no body.
+    /// those of its script. It is refused only for want of memory; that leaves the bodies and what was ready, and at
+    /// most more room.
     pub fn reserve_for(
         &mut self,
         alloc: Global,
@@ -168,16 +167,17 @@ impl Store {
         statement: &Statement,
         used: &[Option<ObjId>; 3],
     ) -> Result<(), NoMemory>
+        requires { MayGrow self.old.bodies }
         ensures bodies { self.new.bodies ≡ self.old.bodies }
         ensures ready { OnOk result (self.new.ready ≡ Some (readied classes.now self.old.bodies statement.now used.now)) }
         ensures room { OnOk result (0 < self.new.room) }
-        ensures refused { OnErr result (self.new.ready ≡ None) }
+        ensures kept { self.old.room ≤ self.new.room }
+        ensures refused { OnErr result (self.new.ready ≡ self.old.ready) }
     {
-        clear(&mut self.ready);
         self.bodies.reserve(1)?;
         let ready = deed_among(alloc, classes, &self.bodies, statement, used)?;
         make_room(&mut self.bodies, ready.object, &ready.deed.change)?;
-        self.ready = Some(ready);
+        set_ready(&mut self.ready, Some(ready));
         Ok(())
     }
 
@@ -198,15 +198,13 @@ impl Store {
         };
         let Deed {
             answer,
-            source,
+            origin,
             change,
         } = deed;
         let Moved { took, gave } = change_body(&mut self.bodies, object, change);
-        let (fresh, there) = bound(source);
         Edited {
             answer,
-            fresh,
-            there,
+            origin,
             took,
             gave,
         }

@@ -8,7 +8,7 @@ use Rattle.cf_syntax.specs.declared.statement.Statement.{Statement}
 use Rattle.cf_syntax.specs.Forms.{touch_of, used_by, padded}
 use Rattle.cf_syntax.specs.Owned.{Owned}
 use Rattle.cf_contents.specs.Contents.{Object, times}
-use Rattle.cf_contents.specs.Deeds.{first_of, object_of, deed_at, resolved, taken_in, given_out}
+use Rattle.cf_contents.specs.Deeds.{first_of, object_of, deed_at, taken_in, given_out}
 use Rattle.cf_contents.specs.Stores.{Held, Ready, objects_of, readied, given_up_in, left_in}
 use Rattle.cf_contents.proofs.FormLaws.{form_fits}
 use Rattle.cf_model.specs.declared.action.Action.{Action}
@@ -26,7 +26,7 @@ use Rattle.cf_model.proofs.Legality.{legal_demanded, effect-demanded, answer-dem
 use Rattle.cf_world.specs.Mirrors.{Follows, used_in, trimmed_by, object_bound, bodies_after, table_after, BindsWithin, gained_after, statement_action, slot_action, first_work, action_by}
 use Rattle.cf_world.specs.Worlds.{entry_of}
 use Rattle.cf_world.proofs.Mirroring.{left-mirrors}
-use Rattle.cf_world.proofs.Stepping.{resolved_fits, touch_gains, touch_answers, follows_touch}
+use Rattle.cf_world.proofs.Stepping.{touch_gains, touch_answers, follows_touch}
 use Rattle.cf_world.proofs.Tables.{objects_same}
 
 -- the journal with one entry more, and the state that it leaves
@@ -75,7 +75,7 @@ module _ (s : Script) (journal : List Entry) (bodies : List Held) (table : List 
   ready = readied s.classes bodies x (used_in table x)
 
   abbrev object : Option ℕ
-  object = object_bound bodies (touch_of x) ready.deed.source ready.object
+  object = object_bound bodies (touch_of x) ready.deed.origin ready.object
 
   abbrev entry : Entry
   entry = record { thread = 0; action = statement_action table number (Some x); answer = answer_of (touch_of x) object ready.deed.answer }
@@ -97,14 +97,14 @@ module _ (s : Script) (journal : List Entry) (bodies : List Held) (table : List 
 
   -- the step by the objects of the table, among those of the bodies
   abbrev step_by : List Object → List (Option ℕ) → Step
-  step_by objects used = let deed = deed_at s.classes objects x used in touch_step 0 (touch_of x) deed.answer deed.source (first_of used) (resolved used deed.change) st
+  step_by objects used = let deed = deed_at s.classes objects x used in touch_step 0 (touch_of x) deed.answer deed.origin (first_of used) (deed.change) st
 
   step_same : step_by (objects_of bodies) (used_in table x) ≡ step
   step_same = ap (λ (os : List Object). step_by os (used_in table x)) h.mirrors.objects_are ∙ ap (step_by st.objects) (used_same s st bodies table [] number false here h x)
 
   answer_same : entry.answer ≡ answer_to s 0 st entry.action
   answer_same =
-      sym (touch_answers 0 (touch_of x) ready.deed.answer ready.deed.source ready.object ready.deed.change st bodies h.mirrors uncut)
+      sym (touch_answers 0 (touch_of x) ready.deed.answer ready.deed.origin ready.object ready.deed.change st bodies h.mirrors uncut)
       ∙ ap (λ (t : Step). step_answer t st) step_same
       ∙ sym (answer-demanded s st x entry.action here at action_is)
 
@@ -122,14 +122,14 @@ module _ (s : Script) (journal : List Entry) (bodies : List Held) (table : List 
 
   pub statement_follows : Follows (After s (journal ++ entry ∷ [])) new_bodies (table_after (touch_of x) object table) (trimmed_by new_bodies new_work) (number + 1) false
   statement_follows =
-      let fits = resolved_fits (touch_of x) (used_in table x) (deed_at s.classes (objects_of bodies) x (used_in table x)).change (form_fits s.classes x _ _ _).changes in
+      let fits = (form_fits s.classes x _ _ _).changes in
       rw (After-more s journal entry, effect_same)
-      (follows_touch 0 (touch_of x) ready.deed.answer ready.deed.source ready.object ready.deed.change st bodies table [] number false h (unmade s st here) undropped fits within uncut)
+      (follows_touch 0 (touch_of x) ready.deed.answer ready.deed.origin ready.object ready.deed.change st bodies table [] number false h (unmade s st here) undropped fits within uncut)
 
   pub statement_gains : gained s 0 st entry.action ≡ gained_after (touch_of x) object (taken_in (object_of (objects_of bodies) ready.object) ready.deed.change)
   statement_gains =
       ap (λ (t : Step). gained_by t.operations) (step-demanded s st (Some x) entry.action here at action_is ∙ sym step_same)
-      ∙ touch_gains 0 (touch_of x) ready.deed.answer ready.deed.source ready.object ready.deed.change st bodies h.mirrors
+      ∙ touch_gains 0 (touch_of x) ready.deed.answer ready.deed.origin ready.object ready.deed.change st bodies h.mirrors
 
   -- the entry is the one of the state
   pub statement_entry : entry ≡ entry_of s 0 st entry.action

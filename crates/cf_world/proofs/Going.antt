@@ -11,9 +11,8 @@ use Rattle.cf_syntax.specs.declared.statement.Touch.{Touch}
 use Rattle.cf_syntax.specs.declared.statement.Touch.TheVariants.{Nothing, Binds, Plus, Minus}
 use Rattle.cf_syntax.specs.Forms.{touch_of, makes_object}
 use Rattle.cf_contents.specs.Contents.{Object, times}
-use Rattle.cf_contents.specs.Deeds.{Source, nowhere, fresh, there, first_of, deed_at}
+use Rattle.cf_contents.specs.Deeds.{Origin, nowhere, fresh, there, first_of, deed_at}
 use Rattle.cf_contents.proofs.FormLaws.{MakesOnly, form_fits}
-use Rattle.cf_store.specs.Applies.{fresh_in}
 use Rattle.cf_contents.specs.Stores.{Held, Ready, objects_of, readied, with_body, body_dropped, is_live_in, given_up_in, left_to, left_in}
 use Rattle.cf_contents.proofs.BodyLaws.{length-objects, length-with_body, objects-kept}
 use Rattle.cf_model.specs.declared.action.Action.{Action}
@@ -29,7 +28,7 @@ use Rattle.cf_model.proofs.Kept.{AllFinal}
 use Rattle.cf_model.proofs.Holding.{some_is}
 use Rattle.cf_model.proofs.Sizes.{makes-demanded}
 use Rattle.cf_model.proofs.Soundness.{sound, frame_statement}
-use Rattle.cf_world.specs.Mirrors.{MirrorsState, used_in, trimmed_by, BindsWithin, statement_action, slot_action, first_work, action_by, retired_if, waits_if, answer_if}
+use Rattle.cf_world.specs.Mirrors.{is_fresh, MirrorsState, used_in, trimmed_by, BindsWithin, statement_action, slot_action, first_work, action_by, retired_if, waits_if, answer_if}
 use Rattle.cf_world.specs.declared.work.Item.{Item}
 use Rattle.cf_world.specs.Works.{works, IsStated}
 use Rattle.cf_world.specs.Worlds.{entry_of, ended_at}
@@ -249,16 +248,16 @@ module _ (s : Script) (journal : List Entry) (bodies : List Held) (table : List 
 
 -- a statement that makes an object does so where one may be made
 pub fresh_few : (s : Script) (journal : List Entry) (bodies : List Held) (table : List (Option ℕ)) (number : ℕ) (x : Statement) (ready : Option Ready) → IsAt s journal bodies table [] number false → slice_get (setup s) number ≡ Some x → IsPlainNext s journal table number (Some x) → ready ≡ Some (readied s.classes bodies x (used_in table x))
-    → IfSome ready (λ r. IsSome (fresh_in r.deed.source) → length bodies < 65536)
+    → IfSome ready (λ r. is_fresh r.deed.origin ≡ true → length bodies < 65536)
 fresh_few s journal bodies table number x ready at next plain is = rw is (λ some.
-    let making : makes_object x ≡ true = made_only (makes_object x) (deed_at s.classes (objects_of bodies) x (used_in table x)).source (form_fits s.classes x _ _ _).only some in
+    let making : makes_object x ≡ true = made_only (makes_object x) (deed_at s.classes (objects_of bodies) x (used_in table x)).origin (form_fits s.classes x _ _ _).only some in
     let here = sound s journal at.owned at.legal in
     let action : statement_action table number (Some x) ≡ next_of (After s journal).frame (Some x) = statement_same s (After s journal) bodies table [] number false here at.follows (Some x) next ∙ ap (next_of (After s journal).frame) (frame_statement s (After s journal) here ∙ ap (slice_get (setup s)) (sym at.follows.stands.number_is) ∙ next) in
     let statement : statement_in s (After s journal).frame.block (After s journal).frame.number ≡ Some x = frame_statement s (After s journal) here ∙ ap (slice_get (setup s)) (sym at.follows.stands.number_is) ∙ next in
     omega (arith, plain.1 (ap (makes s) action ∙ makes-demanded s (After s journal) x statement ∙ making), length-objects bodies, ap length at.follows.mirrors.objects_are))
   where
-    made_only : (making : Bool) (source : Source) → MakesOnly making source → IsSome (fresh_in source) → making ≡ true
-    made_only true source only some = refl
+    made_only : (making : Bool) (origin : Origin) → MakesOnly making origin → is_fresh origin ≡ true → making ≡ true
+    made_only true origin only some = refl
     made_only false nowhere only some = absurd cc
     made_only false (fresh ob) only some = absurd only
     made_only false (there o) only some = absurd cc

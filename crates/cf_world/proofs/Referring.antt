@@ -14,7 +14,7 @@ use Rattle.cf_syntax.specs.declared.statement.Statement.{Statement}
 use Rattle.cf_syntax.specs.Counting.{Counted}
 use Rattle.cf_syntax.specs.Owned.{given, taken}
 use Rattle.cf_contents.specs.Contents.{times}
-use Rattle.cf_contents.specs.Stores.{Held, left_in, left_to}
+use Rattle.cf_contents.specs.Stores.{Held, MayGrow, left_in, left_to}
 use Rattle.cf_contents.proofs.BodyLaws.{length-objects}
 use Rattle.cf_model.specs.State.{State, Work, release_of, slots_of, look}
 use Rattle.cf_model.specs.Steps.{held_by, reference, owed_reference, slot_reference}
@@ -23,7 +23,7 @@ use Rattle.cf_model.specs.Journals.{setup, After}
 use Rattle.cf_model.proofs.Slots.{kinds_apart, one_apart, one_own, own_weigh, other_weigh}
 use Rattle.cf_model.proofs.Holding.{some_is}
 use Rattle.cf_model.proofs.Working.{owed_in}
-use Rattle.cf_model.proofs.Sizes.{few_made}
+use Rattle.cf_model.proofs.Sizes.{few_made, few_members}
 use Rattle.cf_model.proofs.Soundness.{IsForeign, IsSound, sound}
 use Rattle.cf_world.specs.declared.work.Item.{Item}
 use Rattle.cf_world.specs.declared.work.Item.TheVariants.{Release, Slots}
@@ -335,6 +335,12 @@ pub few_bodies : (s : Script) (journal : List Entry) (bodies : List Held) (table
 few_bodies s journal bodies table work number is_done at =
     omega (arith, few_made s journal at.legal, length-objects bodies, ap length at.follows.mirrors.objects_are)
 
+-- each collection may have one more member, since a journal is far shorter than a collection may be
+pub may_grow : (s : Script) (journal : List Entry) (bodies : List Held) (table : List (Option ℕ)) (work : List Work) (number : ℕ) (is_done : Bool)
+    → IsAt s journal bodies table work number is_done → length journal ≤ 4000000 → MayGrow bodies
+may_grow s journal bodies table work number is_done at few o =
+    omega (arith, few, rw (← at.follows.mirrors.objects_are) at (few_members s journal o at.legal))
+
 -- the edges of a world are those of the state after its journal
 pub world-edges : (s : Script) (journal : List Entry) (bodies : List Held) (table : List (Option ℕ)) (items : List Item) (number : ℕ) (is_done : Bool) (p : Edge → Bool) (es : List Edge) → IsAt s journal bodies table (works items) number is_done → es ≡ (edges_of (below (variable_references table (take number (setup s))) 256) ++ edges_of (owed_references items)) ++ edges_of (below (slot_references bodies) (length bodies)) → count_by p es ≡ count_by p (edges_of (After s journal).edges)
 world-edges s journal bodies table items number is_done p es at is =
@@ -354,3 +360,9 @@ view-edges w s view p es script inv is here =
     let state_is : state_of (view_of w) ≡ After s w.journal.items = rw script refl in
     world-edges s w.journal.items w.store.bodies w.frame.table w.frame.work.items w.frame.number w.frame.is_done p es (begun_is w s script inv).at here
     ∙ ap (λ (st : State). count_by p (edges_of st.edges)) (sym state_is ∙ ap state_of is)
+
+-- running counts of statements that take no more than they gave
+pub counts_own : (c : Counts) (done earlier : List Statement) → Counted c done → done ≡ earlier → ((v : ℕ) → taken v earlier ≤ given v earlier)
+    → (v : ℕ) → v < 256 → get_or c.taken v 0 ≤ get_or c.given v 0
+counts_own c done earlier counted is owns v small =
+    let most = rw (← is) at (owns v) in omega (arith, counted.gives v small, counted.takes v small, most)

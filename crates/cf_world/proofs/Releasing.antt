@@ -17,7 +17,7 @@ use Rattle.cf_model.specs.declared.action.Action.{Action}
 use Rattle.cf_model.specs.declared.action.Action.TheVariants as actions
 use Rattle.cf_model.specs.declared.action.Entry.{Entry}
 use Rattle.cf_model.specs.State.{State, Work, release_of, slots_of, left_of, degree}
-use Rattle.cf_contents.specs.Deeds.{first_of, deed_at, resolved}
+use Rattle.cf_contents.specs.Deeds.{first_of, deed_at}
 use Rattle.cf_model.specs.State.{look, is_live}
 use Rattle.cf_model.specs.Steps.{Step, gained_by, rest_of, reference_step, touch_step, type_of, owed_step, drop_step, edges_after, step_answer, step_for, answer_to, gained, makes}
 use Rattle.cf_model.specs.Journals.{setup, used_objects, used_of, named_of, next_of, demanded, After, IsLegal, IsLegalEntry, MayUse, MayUseAll}
@@ -131,7 +131,7 @@ module _ (s : Script) (journal : List Entry) (bodies : List Held) (table : List 
     action_is = statement_same s now bodies table [] number false here h (Some x) next
 
     abbrev cut_step : Step
-    cut_step = reference_step 0 (Minus v) (deed_at s.classes now.objects x (used_objects now.frame.bindings x)).answer (deed_at s.classes now.objects x (used_objects now.frame.bindings x)).source (Some o) now
+    cut_step = reference_step 0 (Minus v) (deed_at s.classes now.objects x (used_objects now.frame.bindings x)).answer (deed_at s.classes now.objects x (used_objects now.frame.bindings x)).origin (Some o) now
 
     first_is : first_of (used_objects now.frame.bindings x) ≡ Some o
     first_is = ap first_of (sym (used_same s now bodies table [] number false here h x)) ∙ target
@@ -140,8 +140,8 @@ module _ (s : Script) (journal : List Entry) (bodies : List Held) (table : List 
     step_is =
         step-demanded s now (Some x) action here at action_is
         ∙ (let deed = deed_at s.classes now.objects x (used_objects now.frame.bindings x) in
-        ap (λ (t : Touch). touch_step 0 t deed.answer deed.source (first_of (used_objects now.frame.bindings x)) (resolved (used_objects now.frame.bindings x) deed.change) now) touch
-        ∙ ap (λ (p : Option ℕ). reference_step 0 (Minus v) deed.answer deed.source p now) first_is)
+        ap (λ (t : Touch). touch_step 0 t deed.answer deed.origin (first_of (used_objects now.frame.bindings x)) deed.change now) touch
+        ∙ ap (λ (p : Option ℕ). reference_step 0 (Minus v) deed.answer deed.origin p now) first_is)
 
     no_making : makes s action ≡ true → ⊥
     no_making m = minus_makes x v touch (sym (ap (makes s) action_is ∙ ap (makes s) (ap (next_of now.frame) (frame_statement s now here ∙ at)) ∙ makes-demanded s now x (frame_statement s now here ∙ at)) ∙ m)

@@ -1,5 +1,5 @@
 -- How the parts of a world follow the state after its journal.
-use Rattle.std.specs.Prelude.{◌≡◌, ℕ, ◌<◌, Bool, ◌&&◌, nat_lt, List, [], ◌∷◌, ◌++◌, length, map, Option, Some, None, ◌==◌, slice_set, slice_index_or, if◌then◌else◌}
+use Rattle.std.specs.Prelude.{◌≡◌, ℕ, ◌<◌, Bool, true, false, ◌&&◌, nat_lt, List, [], ◌∷◌, ◌++◌, length, map, Option, Some, None, ◌==◌, slice_set, slice_index_or, if◌then◌else◌}
 use Rattle.cf_ids.specs.declared.answer.Answer.{Answer}
 use Rattle.cf_ids.specs.declared.answer.Answer.TheVariants as answers
 use Rattle.cf_ids.specs.declared.answer.Ended.{Ended}
@@ -9,7 +9,7 @@ use Rattle.cf_syntax.specs.declared.statement.Touch.{Touch}
 use Rattle.cf_syntax.specs.declared.statement.Touch.TheVariants.{Nothing, Binds, Plus, Minus}
 use Rattle.cf_syntax.specs.Forms.{used_by, padded}
 use Rattle.cf_contents.specs.Contents.{Object, times, present}
-use Rattle.cf_contents.specs.Deeds.{Source, nowhere, fresh, there}
+use Rattle.cf_contents.specs.Deeds.{Origin, nowhere, fresh, there}
 use Rattle.cf_contents.specs.Stores.{Held, Ready, live, objects_of, with_body, body_retired, bodies_changed, is_live_in, given_up_in, left_in}
 use Rattle.cf_model.specs.State.{State, Frame, Work, release_of, slots_of, look}
 use Rattle.cf_model.specs.declared.action.Action.{Action}
@@ -59,20 +59,26 @@ trimmed_by bodies (slots_of b ∷ work) = if length (left_in bodies b) == 0 then
 
 -- ---- what a statement does to the parts, by its touch and the deed that is ready
 
+-- a deed may make an object
+abbrev pub is_fresh : Origin → Bool
+is_fresh nowhere = false
+is_fresh (fresh ob) = true
+is_fresh (there o) = false
+
 -- the object that is bound: the next one, or one that is there and live
-abbrev pub found_in : List Held → Source → Option ℕ
+abbrev pub found_in : List Held → Origin → Option ℕ
 found_in bodies nowhere = None
 found_in bodies (fresh ob) = Some (length bodies)
 found_in bodies (there o) = if is_live_in bodies o then Some o else None
 
-abbrev pub object_bound : List Held → Touch → Source → Option ℕ → Option ℕ
-object_bound bodies Nothing source used = None
-object_bound bodies (Binds v) source used = found_in bodies source
-object_bound bodies (Plus v) source used = used
-object_bound bodies (Minus v) source used = used
+abbrev pub object_bound : List Held → Touch → Origin → Option ℕ → Option ℕ
+object_bound bodies Nothing origin used = None
+object_bound bodies (Binds v) origin used = found_in bodies origin
+object_bound bodies (Plus v) origin used = used
+object_bound bodies (Minus v) origin used = used
 
 abbrev pub bodies_after : List Held → Touch → Ready → List Held
-bodies_after bodies touch r = bodies_changed r.object r.deed.change bodies ++ map live (made_by touch r.deed.source)
+bodies_after bodies touch r = bodies_changed r.object r.deed.change bodies ++ map live (made_by touch r.deed.origin)
 
 abbrev pub table_after : Touch → Option ℕ → List (Option ℕ) → List (Option ℕ)
 table_after Nothing object table = table

@@ -1,5 +1,5 @@
 -- The references that there are, by the parts of a world: those of variables, of owed work and of slots.
-use Rattle.std.specs.Prelude.{ℕ, zero, suc, ◌-◌, List, [], ◌∷◌, ◌++◌, map, replicate, Option, Some, None, slice_index}
+use Rattle.std.specs.Prelude.{ℕ, zero, suc, ◌-◌, ◌≤◌, List, [], ◌∷◌, ◌++◌, map, replicate, Option, Some, None, slice_index}
 use Rattle.cf_syntax.specs.declared.counts.Counts.{Counts}
 use Rattle.cf_syntax.specs.declared.statement.Statement.{Statement}
 use Rattle.cf_syntax.specs.Owned.{given, taken}
@@ -32,6 +32,10 @@ counted_references table c v = held_references v (held_at table v) (slice_index 
 
 abbrev pub variable_references : List (Option ℕ) → List Statement → ℕ → List Reference
 variable_references table earlier v = held_references v (held_at table v) (given v earlier - taken v earlier)
+
+-- of no variable do these statements take more than they gave
+abbrev pub OwnsAll : List Statement → Type 0
+OwnsAll earlier = (v : ℕ) → taken v earlier ≤ given v earlier
 
 -- those that the thread was given out
 abbrev pub owed_references : List Item → List Reference

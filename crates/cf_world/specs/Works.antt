@@ -1,6 +1,5 @@
 -- The work of a thread as the program keeps it: the first item stands last.
 use Rattle.std.specs.Prelude.{◌≡◌, ℕ, ◌+◌, Bool, false, List, [], ◌∷◌, ◌++◌, length, map, Option, Some, None, ◌==◌, if◌then◌else◌}
-use Rattle.std.specs.Option.{option_to_list}
 use Rattle.cf_syntax.specs.declared.statement.Statement.{Statement}
 use Rattle.cf_syntax.specs.declared.statement.Touch.{Touch}
 use Rattle.cf_syntax.specs.declared.statement.Touch.TheVariants.{Nothing, Binds, Plus, Minus}
@@ -33,29 +32,10 @@ pub record IsStated (x : Statement) (r : Ready) (bodies : List Held) (table : Li
   pub entry_is : entry ≡ record {
     thread = 0;
     action = statement_action table number (Some x);
-    answer = answer_of (touch_of x) (object_bound bodies (touch_of x) r.deed.source r.object) r.deed.answer;
+    answer = answer_of (touch_of x) (object_bound bodies (touch_of x) r.deed.origin r.object) r.deed.answer;
   }
   pub bodies_are : bodies' ≡ bodies_after bodies (touch_of x) r
-  pub table_is : table' ≡ table_after (touch_of x) (object_bound bodies (touch_of x) r.deed.source r.object) table
+  pub table_is : table' ≡ table_after (touch_of x) (object_bound bodies (touch_of x) r.deed.origin r.object) table
   pub work_is : work' ≡ trimmed_by bodies' (map release_of (given_out (object_of (objects_of bodies) r.object) r.deed.change) ++ [])
   pub number_is : number' ≡ number + 1
-  pub gained_is : gained ≡ gained_after (touch_of x) (object_bound bodies (touch_of x) r.deed.source r.object) (taken_in (object_of (objects_of bodies) r.object) r.deed.change)
-
--- the object that is bound, by the new body and the object that is there, as the store tells them
-abbrev pub bound_to : List Held → Option Held → Option ℕ → Option ℕ
-bound_to bodies (Some h) there = Some (length bodies)
-bound_to bodies None None = None
-bound_to bodies None (Some o) = if is_live_in bodies o then Some o else None
-
--- the object that a touch is about, and the body that it makes
-abbrev pub touched_by : Touch → List Held → Option Held → (there used : Option ℕ) → Option ℕ
-touched_by Nothing bodies fresh there used = None
-touched_by (Binds v) bodies fresh there used = bound_to bodies fresh there
-touched_by (Plus v) bodies fresh there used = used
-touched_by (Minus v) bodies fresh there used = used
-
-abbrev pub body_by : Touch → Option Held → List Held
-body_by Nothing fresh = []
-body_by (Binds v) fresh = option_to_list fresh
-body_by (Plus v) fresh = []
-body_by (Minus v) fresh = []
+  pub gained_is : gained ≡ gained_after (touch_of x) (object_bound bodies (touch_of x) r.deed.origin r.object) (taken_in (object_of (objects_of bodies) r.object) r.deed.change)

@@ -1,5 +1,6 @@
 //! What the one thread does next, and the room for it.
-ghost use Rattle.std.specs.Prelude.{◌≡◌, [], slice_get, OnOk};
+ghost use Rattle.std.specs.Prelude.{◌≡◌, ◌≤◌, [], slice_get, OnOk, OnErr};
+ghost use Rattle.cf_contents.specs.Stores.{MayGrow};
 ghost use Rattle.cf_model.specs.Journals.{setup};
 ghost use Rattle.cf_world.specs.Mirrors.{first_work, action_by};
 ghost use Rattle.cf_world.specs.Works.{works};
@@ -53,7 +54,10 @@ pub(crate) fn reserve_next(
     store: &mut Store,
     frame: &Frame,
 ) -> Result<(), NoMemory>
+    requires { MayGrow store.old.bodies }
     ensures bodies { store.new.bodies ≡ store.old.bodies }
+    ensures kept { store.old.room ≤ store.new.room }
+    ensures refused { OnErr result (store.new.ready ≡ store.old.ready) }
     ensures ready { OnOk result (frame.now.work.items ≡ [] → IsReadyFor script.now store.new.bodies frame.now.table
         (slice_get (setup script.now) frame.now.number) store.new.ready store.new.room) }
 {

@@ -1,10 +1,10 @@
 //! The references that there are.
-ghost use Rattle.std.specs.Prelude.{◌≡◌, ◌≤◌, [], ◌∷◌, ◌++◌, length, take, replicate, OnOk, IfOk};
+ghost use Rattle.std.specs.Prelude.{◌≡◌, ℕ, ◌<◌, ◌≤◌, [], ◌∷◌, ◌++◌, length, take, replicate, slice_index, OnOk, IfOk};
 ghost use Rattle.cf_syntax.specs.Counting.{Counted};
 ghost use Rattle.cf_graph.specs.Edges.{edge_of, edges_of};
 ghost use Rattle.cf_model.specs.Steps.{owed_reference};
 ghost use Rattle.cf_model.specs.Journals.{setup};
-ghost use Rattle.cf_world.specs.Referring.{below, copies, counted_references, variable_references, owed_references, slot_references};
+ghost use Rattle.cf_world.specs.Referring.{OwnsAll, below, copies, counted_references, variable_references, owed_references, slot_references};
 
 use crate::frame::{Frame, Table};
 use crate::work::Item;
@@ -71,14 +71,11 @@ fn add_variable(edges: &mut Vec<Edge>, object: Option<ObjId>, number: usize) -> 
 
 /// Adds the edges of the variables of setup.
 fn add_variables(edges: &mut Vec<Edge>, table: &Table, counts: &Counts) -> Result<(), NoMemory>
+    requires { (v : ℕ) → v < 256 → slice_index counts.now.taken v ≤ slice_index counts.now.given v }
     ensures { OnOk result (edges.new.items ≡ edges.old.items ++ edges_of (below (counted_references table.now counts.now) 256)) }
 {
     for v in 0..VARIABLES {
-        add_variable(
-            edges,
-            table[v],
-            counts.given[v].saturating_sub(counts.taken[v]),
-        )?;
+        add_variable(edges, table[v], counts.given[v] - counts.taken[v])?;
     }
     Ok(())
 }
@@ -136,7 +133,8 @@ pub(crate) fn edges_by(
     store: &Store,
     frame: &Frame,
 ) -> Result<Vec<Edge>, NoMemory>
-    requires { length store.now.bodies ≤ 65536 }
+    requires few { length store.now.bodies ≤ 65536 }
+    requires owns { OwnsAll (take frame.now.number (setup script.now)) }
     ensures { IfOk result (λ es. es.items
         ≡ edges_of (below (variable_references frame.now.table (take frame.now.number (setup script.now))) 256)
         ++ edges_of (owed_references frame.now.work.items)

@@ -1,38 +1,39 @@
 //! The entry of a statement that takes no reference away, and what it does to the parts of a world.
-ghost use Rattle.std.specs.Prelude.{◌≡◌, ◌+◌, ◌<◌, ◌≤◌, ◌^◌, ◌++◌, ◌∷◌, [], None, length, IfSome, IsSome, vec_len, vec_capacity};
-ghost use Rattle.std.specs.Option.{option_map, option_to_list};
-ghost use Rattle.cf_syntax.specs.Forms.{touch_of, makes_object};
+ghost use Rattle.std.specs.Prelude.{◌≡◌, ◌+◌, ◌<◌, ◌≤◌, ◌^◌, ◌++◌, ◌∷◌, [], true, length, map, IfSome, IsSome, vec_len, vec_capacity};
+ghost use Rattle.cf_syntax.specs.Forms.{touch_of};
 ghost use Rattle.cf_contents.specs.Contents.{present};
 ghost use Rattle.cf_contents.specs.Deeds.{first_of};
-ghost use Rattle.cf_store.specs.Applies.{fresh_in};
-ghost use Rattle.cf_body.specs.Bodies.{held_of};
-ghost use Rattle.cf_model.specs.Steps.{answer_of, cut_by};
-ghost use Rattle.cf_world.specs.Mirrors.{used_in, BindsWithin, gained_after};
-ghost use Rattle.cf_world.specs.Works.{works, bound_to, touched_by, body_by, IsStated};
+ghost use Rattle.cf_contents.specs.Stores.{live};
+ghost use Rattle.cf_store.specs.Applies.{IsNew, origin_of};
+ghost use Rattle.cf_model.specs.Steps.{answer_of, made_from, made_by};
+ghost use Rattle.cf_world.specs.Mirrors.{used_in, BindsWithin, is_fresh, found_in, object_bound, gained_after};
+ghost use Rattle.cf_world.specs.Works.{works, IsStated};
 
 use crate::frame::{Frame, bind, used_objects};
 use crate::work::{owe, trim};
-use cf_body::Body;
 use cf_ids::{Answer, ObjId, ThreadId};
 use cf_model::{Action, Entry};
-use cf_store::{Edited, Store};
+use cf_store::{Edited, Origin, Store};
 use cf_syntax::{Statement, Touch};
 
-/// The object that is bound: a new one, or one that is there, where it is live.
-fn found(store: &mut Store, fresh: Option<Body>, there: Option<ObjId>) -> Option<ObjId>
-    requires room { IsSome fresh → 0 < store.old.room }
-    requires few { IsSome fresh → length store.old.bodies < 65536 }
-    ensures object { result ≡ bound_to store.old.bodies (option_map held_of fresh) there }
-    ensures bodies { store.new.bodies ≡ store.old.bodies ++ option_to_list (option_map held_of fresh) }
+/// The object that is bound: a new one, or one that is there, if it is live.
+fn found(store: &mut Store, origin: Origin) -> Option<ObjId>
+    requires new { IsNew origin }
+    requires room { 0 < store.old.room }
+    requires few { is_fresh (origin_of origin) ≡ true → length store.old.bodies < 65536 }
+    ensures object { result ≡ found_in store.old.bodies (origin_of origin) }
+    ensures bodies { store.new.bodies ≡ store.old.bodies ++ map live (made_from (origin_of origin)) }
 {
-    if let Some(body) = fresh {
-        return Some(store.make(body));
-    }
-    let object = there?;
-    if store.is_live(object) {
-        Some(object)
-    } else {
-        None
+    match origin {
+        Origin::Nowhere => None,
+        Origin::Fresh(body) => Some(store.make(body)),
+        Origin::There(object) => {
+            if store.is_live(object) {
+                Some(object)
+            } else {
+                None
+            }
+        }
     }
 }
 
@@ -40,18 +41,18 @@ fn found(store: &mut Store, fresh: Option<Body>, there: Option<ObjId>) -> Option
 fn touched(
     touch: &Touch,
     store: &mut Store,
-    fresh: Option<Body>,
-    there: Option<ObjId>,
+    origin: Origin,
     used: &[Option<ObjId>; 3],
 ) -> Option<ObjId>
-    requires room { IsSome fresh → 0 < store.old.room }
-    requires few { IsSome fresh → length store.old.bodies < 65536 }
-    ensures object { result ≡ touched_by touch.now store.old.bodies (option_map held_of fresh) there (first_of used.now) }
-    ensures bodies { store.new.bodies ≡ store.old.bodies ++ body_by touch.now (option_map held_of fresh) }
+    requires new { IsNew origin }
+    requires room { 0 < store.old.room }
+    requires few { is_fresh (origin_of origin) ≡ true → length store.old.bodies < 65536 }
+    ensures object { result ≡ object_bound store.old.bodies touch.now (origin_of origin) (first_of used.now) }
+    ensures bodies { store.new.bodies ≡ store.old.bodies ++ map live (made_by touch.now (origin_of origin)) }
 {
     match touch {
         Touch::Nothing => None,
-        Touch::Binds(_) => found(store, fresh, there),
+        Touch::Binds(_) => found(store, origin),
         Touch::Plus(_) | Touch::Minus(_) => used[0],
     }
 }
@@ -113,7 +114,7 @@ pub(crate) fn enter_statement(
     requires ready { IsSome store.old.ready }
     requires first { IfSome store.old.ready (λ r. r.object ≡ first_of (used_in frame.old.table statement.now)) }
     requires room { 0 < store.old.room }
-    requires few { IfSome store.old.ready (λ r. IsSome (fresh_in r.deed.source) → length store.old.bodies < 65536) }
+    requires few { IfSome store.old.ready (λ r. is_fresh r.deed.origin ≡ true → length store.old.bodies < 65536) }
     ensures stated { IfSome store.old.ready (λ r. IsStated statement.now r store.old.bodies frame.old.table frame.old.number
         result store.new.bodies frame.new.table (works frame.new.work.items) frame.new.number gained.new.items) }
     ensures within { BindsWithin (touch_of statement.now) }
@@ -126,12 +127,11 @@ pub(crate) fn enter_statement(
     let touch = statement.touch();
     let Edited {
         answer,
-        fresh,
-        there,
+        origin,
         took,
         gave,
     } = store.apply();
-    let object = touched(&touch, store, fresh, there, &used);
+    let object = touched(&touch, store, origin, &used);
     let answer = answer_of(&touch, &object, answer);
     let action = Action::of(statement, 0, frame.number, used);
     bind(&mut frame.table, &touch, &object);

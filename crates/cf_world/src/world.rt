@@ -169,13 +169,13 @@ impl World {
         next_of(script, &self.store, &self.frame, going)
     }
 
-    /// Makes room for the next action of a thread, after which `apply` and `release` take no memory.
+    /// Makes room for the next action of a thread, after which `apply` and `release` take no memory. A refusal changes
+    /// nothing.
     pub fn reserve(&mut self, alloc: Global, t: ThreadId) -> Result<(), NoMemory>
         requires { IsSome (acting self.old t) }
         ensures room { OnOk result (self.new ≡ record self.old { room = Some t }) }
-        ensures refused { OnErr result (self.new ≡ record self.old { room = None }) }
+        ensures refused { OnErr result (self.new ≡ self.old) }
     {
-        self.room = None;
         self.frame.work.reserve(2)?;
         if let Some(checked) = &self.script {
             reserve_next(alloc, checked.script(), &mut self.store, &self.frame)?;

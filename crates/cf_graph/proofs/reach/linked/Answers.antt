@@ -12,7 +12,7 @@ loop-i-preserved c =
     let from : c.place_of-from.result ≡ get_or (sources c.args.edges.now) c.loop-i.i 0 =
     c.place_of-from.ensures.place ∙ ap (λ (e : Edge). source e.owner) c.index-edges-i.is
     ∙ sym (sources-at c.args.edges.now c.loop-i.i c.index-edges-i.result within) in
-    let places : length c.loop-i.latest.items ≡ 65538 = c.loop-i.invariant.places in
+    let places : length c.loop-i.latest.items ≡ 66562 = c.loop-i.invariant.places in
     let read : c.index.result.now ≡ get_or c.loop-i.latest.items c.place_of-from.result 0 =
     get_or_read c.loop-i.latest.items c.place_of-from.result c.index.result.now
     (omega (arith, c.place_of-from.ensures.within)) c.index.ensures 0 in

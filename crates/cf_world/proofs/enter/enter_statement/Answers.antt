@@ -2,7 +2,7 @@ use Rattle.std.proofs.Common.{◌∙◌, ap, ◌++◌, map}
 use Rattle.cf_contents.specs.Contents.{present}
 use Rattle.cf_model.specs.State.{release_of}
 use Rattle.cf_world.specs.Works.{works}
-use Rattle.cf_world.proofs.Stating.{stated, few_told}
+use Rattle.cf_world.proofs.Stating.{stated, few_told, new_told}
 use Rattle.cf_world.proofs.enter.enter_statement.Goals as goal
 
 pub returns-clause-stated : goal.returns-clause-stated
@@ -26,3 +26,6 @@ returns-clause-stated c =
 
 pub touched-object-requires-clause-few : goal.touched-object-requires-clause-few
 touched-object-requires-clause-few c = few_told c.args.store.now.ready c.args.store.now.bodies c.apply-answer.new.self.bodies c.apply-answer.result c.apply-answer.ensures.deed c.apply-answer.ensures.bodies c.requires.few c.requires.ready
+
+pub touched-object-requires-clause-new : goal.touched-object-requires-clause-new
+touched-object-requires-clause-new c = new_told c.args.store.now.ready c.apply-answer.result c.apply-answer.ensures.deed c.requires.ready

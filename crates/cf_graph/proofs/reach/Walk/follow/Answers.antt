@@ -27,8 +27,8 @@ loop-next-preserved c =
     targets-at es (k - 1) c.index-edges-next.result within ∙ sym c.place_of_object-to.ensures.place in
     let size : length c.loop-next.self.marks.items ≡ length c.args.self.now.marks.items =
     c.loop-next.invariant.grows.size in
-    let places : length c.args.self.now.marks.items ≡ 65538 = c.requires.marks in
-    let fits : q < 65538 = c.place_of_object-to.ensures.within in
+    let places : length c.args.self.now.marks.items ≡ 66562 = c.requires.marks in
+    let fits : q < 66562 = c.place_of_object-to.ensures.within in
     let now : Marks q c.loop-next.self.marks.items c.mark.new.self.marks.items c.loop-next.self.stack.items
     c.mark.new.self.stack.items =
     marks_from q _ _ _ _ (omega arith) c.in_ok-mark.ensures.marks c.in_ok-mark.ensures.stack in

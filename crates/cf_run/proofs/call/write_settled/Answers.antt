@@ -2,7 +2,7 @@ use Rattle.std.proofs.Common.{refl, arith}
 use Rattle.std.proofs.lemmas.Result.{err_from_is_err_and}
 use Rattle.cf_run.specs.Outcomes.{refusal_text}
 use Rattle.cf_run.proofs.Writing.{cut_none}
-use Rattle.cf_run.proofs.report.write_settled.Goals as goal
+use Rattle.cf_run.proofs.call.write_settled.Goals as goal
 
 pub returns-in-Usage : goal.returns-in-Usage
 returns-in-Usage g c = rw c.in-Usage.is c.write_text.ensures

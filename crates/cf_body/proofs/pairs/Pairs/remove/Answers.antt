@@ -1,7 +1,7 @@
 use Rattle.std.proofs.Common.{Some, None}
 use Rattle.cf_body.proofs.Pairing.{taken_out, left_in}
-use Rattle.cf_body.proofs.pairs.Pairs.take.Goals as goal
-use Rattle.cf_body.proofs.pairs.Pairs.take.Goals.{in-Some, in-None}
+use Rattle.cf_body.proofs.pairs.Pairs.remove.Goals as goal
+use Rattle.cf_body.proofs.pairs.Pairs.remove.Goals.{in-Some, in-None}
 
 pub returns-clause-out : goal.returns-clause-out
 returns-clause-out c =

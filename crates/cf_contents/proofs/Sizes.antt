@@ -1,0 +1,80 @@
+-- By how many members a collection grows: by no more than a change names.
+use Rattle.std.proofs.Common.{arith, ◌≡◌, ℕ, zero, suc, ◌+◌, ◌≤◌, Bool, true, false, cond, List, [], ◌∷◌, ◌++◌, length, take, drop, Option, Some, None, length-append}
+use Rattle.std.specs.Prelude.{is_some, slice_get}
+use Rattle.std.specs.List.{splice}
+use Rattle.std.specs.Map.{lookup, set_value, remove_entry}
+use Rattle.std.proofs.lemmas.List.{length-take, length-drop}
+use Rattle.std.proofs.lemmas.Map.{length-set_value}
+use Rattle.cf_types.specs.declared.cells.Cell.{Cell}
+use Rattle.cf_contents.specs.Contents.{Content, text_content, data_content, number_content, instance_content, array_content, dictionary_content, Object, size_of, size_at}
+use Rattle.cf_contents.specs.Keys.{equal_to}
+use Rattle.cf_contents.specs.Deeds.{Splice, Change, unchanged, in_text, in_data, in_places, put_pair, remove_pair, elements, text_after, data_after, places_after, put_after, removed_after, content_after, with_change, changed_by}
+use Rattle.cf_contents.proofs.SlotLaws.{named_in}
+
+pub length-splice : {A : Type 0} (xs : List A) (i out : ℕ) (ys : List A) → length (splice xs i (i + out) ys) ≤ length xs + length ys
+length-splice xs i out ys =
+    omega (arith, length-append (take i xs) (ys ++ drop (i + out) xs), length-append ys (drop (i + out) xs), length-take i xs, length-drop (i + out) xs)
+
+pub length-put : (test : Cell → Bool) (key : Cell) (value : ℕ) (pairs : List (Cell × ℕ)) (b : Bool)
+    → length (cond b (set_value test pairs value) (pairs ++ (key, value) ∷ [])) ≤ length pairs + 1
+length-put test key value pairs true = omega (arith, length-set_value test pairs value)
+length-put test key value pairs false = omega (arith, length-append pairs ((key, value) ∷ []))
+
+shorter : (p : Cell × ℕ) (ps rest : List (Cell × ℕ)) (b : Bool) → length rest ≤ length ps → length (cond b ps (p ∷ rest)) ≤ suc (length ps)
+shorter p ps rest true h = omega arith
+shorter p ps rest false h = omega (arith, h)
+
+pub length-removed : (test : Cell → Bool) (pairs : List (Cell × ℕ)) → length (remove_entry test pairs) ≤ length pairs
+length-removed test [] = omega arith
+length-removed test (p ∷ ps) = shorter p ps (remove_entry test ps) (test p.0) (length-removed test ps)
+
+text_size : (e : Splice ℕ) (c : Content) → size_of (text_after e c) ≤ size_of c
+text_size e (text_content true units) = omega arith
+text_size e _ = omega arith
+
+data_size : (e : Splice ℕ) (c : Content) → size_of (data_after e c) ≤ size_of c
+data_size e (data_content true bytes) = omega arith
+data_size e _ = omega arith
+
+places_size : (e : Splice (Option ℕ)) (c : Content) → size_of (places_after e c) ≤ size_of c + length (named_in (in_places e))
+places_size e (instance_content key fields) = omega arith
+places_size e (array_content plain os) = length-splice os e.at e.out (elements e).enter
+places_size e _ = omega arith
+
+put_size : (key : Cell) (value : ℕ) (c : Content) → size_of (put_after key value c) ≤ size_of c + 2
+put_size key value (dictionary_content plain pairs) =
+    omega (arith, length-put (equal_to plain key) key value pairs (is_some (lookup (equal_to plain key) pairs)))
+put_size key value _ = omega arith
+
+removed_size : (key : Cell) (c : Content) → size_of (removed_after key c) ≤ size_of c
+removed_size key (dictionary_content plain pairs) = length-removed (equal_to plain key) pairs
+removed_size key _ = omega arith
+
+content_size : (change : Change) (c : Content) → size_of (content_after change c) ≤ size_of c + length (named_in change)
+content_size unchanged c = omega arith
+content_size (in_text e) c = omega (arith, text_size e c)
+content_size (in_data e) c = omega (arith, data_size e c)
+content_size (in_places e) c = places_size e c
+content_size (put_pair key value) c = put_size key value c
+content_size (remove_pair key) c = omega (arith, removed_size key c)
+
+change_size : (o : ℕ) (change : Change) (objects : List Object) (p : ℕ)
+    → size_at (slice_get (with_change o change objects) p) ≤ size_at (slice_get objects p) + length (named_in change)
+change_size o change [] p = omega arith
+change_size zero change (ob ∷ obs) zero = content_size change ob.content
+change_size zero change (ob ∷ obs) (suc p) = omega arith
+change_size (suc o) change (ob ∷ obs) zero = omega arith
+change_size (suc o) change (ob ∷ obs) (suc p) = change_size o change obs p
+
+-- the size of each object after a change of one of them, and where one is made
+pub size-changed_by : (o : Option ℕ) (change : Change) (objects : List Object) (p : ℕ)
+    → size_at (slice_get (changed_by o change objects) p) ≤ size_at (slice_get objects p) + length (named_in change)
+size-changed_by None change objects p = omega arith
+size-changed_by (Some o) change objects p = change_size o change objects p
+
+pub size-more : (objects : List Object) (ob : Object) (p : ℕ) → size_of ob.content ≡ 0
+    → size_at (slice_get (objects ++ ob ∷ []) p) ≤ size_at (slice_get objects p)
+size-more [] ob zero small = omega (arith, small)
+size-more [] ob (suc p) small = omega arith
+size-more (o ∷ os) ob zero small = omega arith
+size-more (o ∷ os) ob (suc p) small = size-more os ob p small

@@ -1,6 +1,0 @@
-use Rattle.std.proofs.Common.{map}
-use Rattle.cf_run.proofs.Concluding.{has_few}
-use Rattle.cf_run.proofs.report.run_command.Goals as goal
-
-pub conclude-requires : goal.conclude-requires
-conclude-requires g c = has_few (map (λ w. w.now) c.args.words.now) (g.S.Source.files c.args.source.now) (g.S.Source.faults c.args.source.now) (g.S.Source.faults c.settle.new.source) c.in-Ok.settled c.in-Ok.ensures

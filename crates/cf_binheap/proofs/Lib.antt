@@ -1,0 +1,4 @@
+pub mod Arranging
+pub mod DigitLaws
+pub mod Sifting
+pub mod Turns

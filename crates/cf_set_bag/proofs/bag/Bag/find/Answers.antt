@@ -1,0 +1,8 @@
+use Rattle.cf_set_bag.proofs.Membership.{lookup_key-entry}
+use Rattle.cf_set_bag.proofs.bag.Bag.find.Goals as goal
+
+pub returns-in-Some : goal.returns-in-Some
+returns-in-Some g c = rw (← c.self.view_is, lookup_key-entry _ c.self.inside.rows.rows, ← c.in-Some.ensures)
+
+pub returns-in-None : goal.returns-in-None
+returns-in-None g c = rw (← c.self.view_is, lookup_key-entry _ c.self.inside.rows.rows, ← c.in-None.ensures)

@@ -1,6 +1,9 @@
 pub mod ActivitiesLemmas
 pub mod BitsLemmas
+pub mod DateLaws
 pub mod HistoryLemmas
 pub mod NumberedLemmas
+pub mod Orders
+pub mod RankLaws
 pub mod RanksLemmas
 pub mod SignalsLemmas

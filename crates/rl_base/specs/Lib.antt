@@ -1,4 +1,5 @@
 pub mod Activities
+pub mod Dates
 pub mod History
 pub mod Numbered
 pub mod Ranks

@@ -8,7 +8,7 @@ mod places;
 mod registrations;
 mod sources;
 
-pub use laws::{bit_of_observers, bits_of_sources};
+pub use laws::{bit_of_observers, bits_of_sources, date_after_call};
 pub use observers::ObserverState;
 pub use places::Place;
 pub use registrations::{RegId, Registration};

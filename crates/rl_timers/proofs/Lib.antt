@@ -1,0 +1,6 @@
+mod Choosing
+mod Keeping
+pub mod Laws
+mod NextDates
+mod Queueing
+mod Tables

@@ -1,0 +1,3 @@
+pub mod Timings
+pub mod Queues
+pub mod Rows

@@ -1,0 +1,6 @@
+use Rattle.std.proofs.Common.{◌≡◌, sym, ◌∙◌, ap, length, rules}
+use Rattle.rl_modes.proofs.Pairs.{length-paired}
+use Rattle.rl_modes.proofs.holdings.Holdings.count.Goals as goal
+
+pub returns-clause-count : goal.returns-clause-count
+returns-clause-count c = rw (← c.self.view_is) (rw (length-paired _ _ c.self.invariant.1.places_long) (search rules))

@@ -2,10 +2,6 @@
 #![tactic(auto)]
 
 #[cfg(test)]
-mod coins;
-#[cfg(test)]
-mod collections;
-#[cfg(test)]
 mod ids;
 #[cfg(test)]
 mod io;

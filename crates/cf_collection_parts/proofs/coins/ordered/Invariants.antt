@@ -1,4 +1,4 @@
-use Rattle.cf_parts.proofs.coins.ordered.Given as goal
+use Rattle.cf_collection_parts.proofs.coins.ordered.Given as goal
 
 abbrev pub ghosts-orders : goal.ghosts-orders
 ghosts-orders a = record { name = a.blank.name; parts = a.blank.parts }

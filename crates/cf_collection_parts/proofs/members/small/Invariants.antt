@@ -1,0 +1,4 @@
+use Rattle.cf_collection_parts.proofs.members.small.Given as goal
+
+abbrev pub ghosts-small_order : goal.ghosts-small_order
+ghosts-small_order a = record { name = a.blank.name; parts = a.blank.parts }

@@ -3,7 +3,7 @@ use Rattle.std.specs.Prelude.{◌≡◌, ◌+◌, ◌<◌, ◌≤◌, if◌then�
 use Rattle.std.specs.List.{AllPairs, All}
 use Rattle.cf_ids.specs.declared.numbers.Item.{Item}
 use Rattle.rl_base.specs.declared.places.Place.{Place}
-use Rattle.rl_base.specs.declared.places.Place.TheVariants.{Common, Mode}
+use Rattle.rl_base.specs.declared.places.Place.TheVariants.{Mode}
 use Rattle.rl_base.specs.Modes.{rank, keeps_open}
 use Rattle.rl_modes.specs.Loops.{Holding, holds_at, with_one}
 use Rattle.rl_modes.specs.declared.holdings.Seat.{Seat}
@@ -75,7 +75,8 @@ pub record IsKept (held : List Holding) (seats : List Seat) (running : List ℕ)
   pub counted : (m : ℕ) → slice_index running m ≡ length (filter (opens m) held)
 
 -- the lists are as long as each other, and each has memory for so many elements
-pub record HasRoom {Y : Type 0} (places : Vec Place Y) (items : Vec Item Y) (seats : Vec Seat Y) (running : Vec ℕ Y) (capacity : ℕ) : Type 0 where
+pub record HasRoom {Y : Type 0} (places : Vec Place Y) (items : Vec Item Y) (seats : Vec Seat Y) (running : Vec ℕ Y)
+    (capacity : ℕ) : Type 0 where
   pub places_long : length places.items ≡ length items.items
   pub seats_long : length seats.items ≡ length items.items
   pub places_len : vec_len places ≡ vec_len items

@@ -5,7 +5,7 @@ use Rattle.std.specs.List.{list_any}
 use Rattle.cf_ids.specs.declared.numbers.Item.{Item}
 use Rattle.rl_base.specs.declared.places.Place.{Place}
 use Rattle.rl_base.specs.declared.places.Place.TheVariants.{Common, Mode}
-use Rattle.rl_base.specs.Modes.{rank}
+use Rattle.rl_base.specs.Modes.{rank, items_gained}
 
 -- an item in a place
 pub record Holding : Type 0 where
@@ -60,6 +60,10 @@ in_each i = map (λ p. record { place = p; item = i })
 
 abbrev pub each_in : Place → List Item → List Holding
 each_in p = map (λ i. record { place = p; item = i })
+
+-- the common items that a mode gets when it becomes common
+abbrev pub common_gained : ℕ → List Holding → List Item
+common_gained m held = items_gained (λ i. holds_at held i.id (Mode m)) (items_at Common held)
 
 -- the holdings without those of this item in these places
 abbrev pub without : ℕ → List Place → List Holding → List Holding

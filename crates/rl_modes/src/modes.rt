@@ -3,8 +3,8 @@ ghost use Rattle.std.specs.Prelude.{◌≡◌, ◌+◌, ◌-◌, ◌<◌, ◌≤
 ghost use Rattle.std.specs.List.{AllPairs};
 ghost use Rattle.std.specs.List.Sorted.{IsPartitionedBy};
 ghost use Rattle.rl_base.specs.declared.places.Place.TheVariants.{Common, Mode};
-ghost use Rattle.rl_base.specs.Modes.{all_modes, places, places_of, places_entered, items_gained, keeps_open, is_empty};
-ghost use Rattle.rl_modes.specs.Loops.{Holding, holds_at, items_at, is_among, with_one, with_these, in_each, each_in, without, with_mode};
+ghost use Rattle.rl_base.specs.Modes.{all_modes, places, places_of, places_entered, keeps_open, is_empty};
+ghost use Rattle.rl_modes.specs.Loops.{Holding, holds_at, items_at, is_among, with_one, with_these, in_each, each_in, common_gained, without, with_mode};
 ghost use Rattle.rl_modes.specs.Fields.{IsCut, with_new, entered};
 
 use crate::NoMemory;
@@ -242,16 +242,15 @@ impl Modes {
         Ok(())
     }
 
-    /// Makes a mode a common mode, which gets each common item that it does not hold. `Present` comes exactly if it is a
-    /// common mode.
+    /// Makes a mode a common mode, which gets each common item that it does not hold. `Present` comes exactly if it is
+    /// one already.
     pub fn make_common(&mut self, m: ModeId) -> Result<(), Present>
         requires room { 1 + length (items_at Common self.old.held) ≤ self.old.room }
         ensures present { is_err result ≡ is_among m self.old.common_modes }
         ensures held { OnOk result (self.new.held ≡
-            with_these (each_in (Mode m) (items_gained (λ i. holds_at self.old.held i.id (Mode m)) (items_at Common self.old.held))) self.old.held) }
+            with_these (each_in (Mode m) (common_gained m self.old.held)) self.old.held) }
         ensures common_modes { OnOk result (self.new.common_modes ≡ with_mode m self.old.common_modes) }
-        ensures room { OnOk result (self.new.room +
-            (1 + length (items_gained (λ i. holds_at self.old.held i.id (Mode m)) (items_at Common self.old.held))) ≡ self.old.room) }
+        ensures room { OnOk result (self.new.room + (1 + length (common_gained m self.old.held)) ≡ self.old.room) }
         ensures err { OnErr result (self.new ≡ self.old) }
     {
         if self.is_common(m) {
@@ -282,6 +281,20 @@ impl Modes {
         ensures { result ≡ is_among m self.now.common_modes }
     {
         m.0 == 0 || has_mode(self.further.as_slice(), m)
+    }
+
+    /// How many common modes there are, `default` among them.
+    pub fn common_modes(&self) -> usize
+        ensures { result ≡ length self.now.common_modes }
+    {
+        self.further.as_slice().len() + 1
+    }
+
+    /// The common items, by number.
+    pub fn common_items(&self) -> &[Item]
+        ensures { result.now ≡ items_at Common self.now.held }
+    {
+        self.holdings.items(&Place::Common)
     }
 
     /// The items of a mode, by number.

@@ -6,4 +6,7 @@ use Rattle.rl_modes.proofs.modes.enter_each.Given as goal
 
 abbrev pub invariant-loop-mode : goal.invariant-loop-mode
 invariant-loop-mode l =
-    l.holdings ≡ record l.initial.holdings { held = with_new (in_each l.item (map Mode (take l.mode-index l.modes))) l.initial.holdings.held }
+    l.holdings ≡ record l.initial.holdings {
+      held = with_new (in_each l.item (map Mode (take l.mode-index l.modes)))
+          l.initial.holdings.held;
+    }

@@ -5,4 +5,5 @@ use Rattle.rl_modes.proofs.searches.first_item.Goals as goal
 
 pub returns : goal.returns
 returns c = cut_from _ _ _ c.partition_point.ensures.bound
-    (IsPartitionPoint-from_clause (λ i. nat_lt i.id c.args.least) _ _ c.partition_point.ensures.partitioned c.requires (λ a r q k. search rules))
+    (IsPartitionPoint-from_clause (λ i. nat_lt i.id c.args.least) _ _ c.partition_point.ensures.partitioned c.requires
+    (λ a r q k. search rules))

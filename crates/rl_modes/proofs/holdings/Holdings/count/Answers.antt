@@ -1,4 +1,4 @@
-use Rattle.std.proofs.Common.{◌≡◌, sym, ◌∙◌, ap, length, rules}
+use Rattle.std.proofs.Common.{rules}
 use Rattle.rl_modes.proofs.Pairs.{length-paired}
 use Rattle.rl_modes.proofs.holdings.Holdings.count.Goals as goal
 

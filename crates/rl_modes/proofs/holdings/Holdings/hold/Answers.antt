@@ -13,13 +13,35 @@ invariant_of-self-2 c = (
   record {
     places_long = rw (c.in_ok-reserve.ensures.items, c.in_ok-reserve-2.ensures.items) c.self.invariant.1.places_long;
     seats_long = rw (c.in_ok-reserve-3.ensures.items, c.in_ok-reserve-2.ensures.items) c.self.invariant.1.seats_long;
-    places_len = omega (arith, c.in_ok-reserve.ensures.len, c.in_ok-reserve-2.ensures.len, c.self.invariant.1.places_len);
-    seats_len = omega (arith, c.in_ok-reserve-3.ensures.len, c.in_ok-reserve-2.ensures.len, c.self.invariant.1.seats_len);
+    places_len = omega (
+      arith,
+      c.in_ok-reserve.ensures.len,
+      c.in_ok-reserve-2.ensures.len,
+      c.self.invariant.1.places_len,
+    );
+    seats_len = omega (
+      arith,
+      c.in_ok-reserve-3.ensures.len,
+      c.in_ok-reserve-2.ensures.len,
+      c.self.invariant.1.seats_len,
+    );
     within = omega (arith, ap length c.in_ok-reserve-2.ensures.items, c.self.invariant.1.within);
     len_within = omega (arith, c.in_ok-reserve-2.ensures.len, c.self.invariant.1.len_within);
-    places_fit = omega (arith, c.in_ok-reserve.ensures.ok, c.in_ok-reserve.ensures.len, c.self.invariant.1.places_len, c.len.ensures);
+    places_fit = omega (
+      arith,
+      c.in_ok-reserve.ensures.ok,
+      c.in_ok-reserve.ensures.len,
+      c.self.invariant.1.places_len,
+      c.len.ensures,
+    );
     items_fit = omega (arith, c.in_ok-reserve-2.ensures.ok, c.in_ok-reserve-2.ensures.len, c.len.ensures);
-    seats_fit = omega (arith, c.in_ok-reserve-3.ensures.ok, c.in_ok-reserve-3.ensures.len, c.self.invariant.1.seats_len, c.len.ensures);
+    seats_fit = omega (
+      arith,
+      c.in_ok-reserve-3.ensures.ok,
+      c.in_ok-reserve-3.ensures.len,
+      c.self.invariant.1.seats_len,
+      c.len.ensures,
+    );
     table = λ _. omega (arith, c.in_ok-make_counts.ensures.long);
     whole = λ _. c.in_ok-make_counts.ensures.long;
   },

@@ -1,0 +1,6 @@
+pub mod Nexts
+pub mod Steps
+pub mod Chains
+pub mod Numbers
+pub mod Forgetting
+pub mod Collecting

@@ -1,1 +1,2 @@
+-- The files of definitions of cf_array.
 pub mod Arrays

@@ -1,1 +1,2 @@
+-- The files of lemmas of cf_basichash.
 pub mod TablesLemmas

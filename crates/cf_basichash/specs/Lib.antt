@@ -1,2 +1,3 @@
+-- The files of definitions of cf_basichash.
 pub mod Members
 pub mod Tables

@@ -1,3 +1,4 @@
+-- The files of lemmas of cf_binheap.
 pub mod Arranging
 pub mod DigitLaws
 pub mod Sifting

@@ -1,2 +1,3 @@
+-- The files of definitions of cf_binheap.
 pub mod Heaps
 pub mod Trees

@@ -1,3 +1,4 @@
+-- The files of lemmas of cf_body.
 pub mod Showing
 pub mod Pairing
 pub mod Placing

@@ -1,3 +1,4 @@
+-- The files of definitions of cf_body.
 pub mod Bodies
 pub mod Changes
 pub mod Pairs

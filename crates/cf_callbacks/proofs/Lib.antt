@@ -1,1 +1,2 @@
+-- The files of lemmas of cf_callbacks.
 pub mod RankingLaws

@@ -1,1 +1,2 @@
+-- The files of definitions of cf_callbacks.
 pub mod Ranking

@@ -1,3 +1,4 @@
+-- The files of lemmas of cf_contents.
 pub mod ContentLaws
 pub mod OnLiterals
 pub mod SlotLaws

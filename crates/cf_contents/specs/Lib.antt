@@ -1,3 +1,4 @@
+-- The files of definitions of cf_contents.
 pub mod Contents
 pub mod Keys
 pub mod Deeds

@@ -1,1 +1,2 @@
+-- The files of definitions of cf_fault.
 pub mod Fault

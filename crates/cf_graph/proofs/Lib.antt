@@ -1,3 +1,4 @@
+-- The files of lemmas of cf_graph.
 pub mod Same
 pub mod Counts
 pub mod Sides

@@ -1,3 +1,4 @@
+-- The files of definitions of cf_graph.
 pub mod Holders
 pub mod Edges
 pub mod Operations

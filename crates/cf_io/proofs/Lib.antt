@@ -1,2 +1,3 @@
+-- The files of lemmas of cf_io.
 pub mod Places
 pub mod Told

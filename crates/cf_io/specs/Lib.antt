@@ -1,3 +1,4 @@
+-- The files of definitions of cf_io.
 pub mod Bytes
 pub mod Faults
 pub mod Files

@@ -1,3 +1,4 @@
+-- The files of lemmas of cf_links.
 mod Turned
 mod Chains
 mod Edits

@@ -1,3 +1,4 @@
+-- The files of definitions of cf_links.
 pub mod Lists
 pub mod Chain
 pub mod Sides

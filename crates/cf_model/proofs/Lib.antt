@@ -1,3 +1,4 @@
+-- The files of lemmas of cf_model.
 pub mod Growth
 pub mod Balance
 pub mod Slots

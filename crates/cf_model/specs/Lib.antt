@@ -1,3 +1,4 @@
+-- The files of definitions of cf_model.
 pub mod State
 pub mod Actions
 pub mod Steps

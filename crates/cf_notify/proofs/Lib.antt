@@ -1,3 +1,4 @@
+-- The files of lemmas of cf_notify.
 pub mod Nexts
 pub mod Steps
 pub mod Chains

@@ -1,3 +1,4 @@
+-- The files of definitions of cf_notify.
 pub mod Centres
 pub mod Links
 pub mod Registered

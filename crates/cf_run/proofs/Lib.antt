@@ -1,3 +1,4 @@
+-- The files of lemmas of cf_run.
 pub mod Words
 pub mod Writing
 pub mod Rendered

@@ -1,3 +1,4 @@
+-- The files of definitions of cf_run.
 pub mod Tally
 pub mod Counted
 pub mod Lines

@@ -1,3 +1,4 @@
+-- The files of lemmas of cf_script.
 pub mod ClassLaws
 pub mod FitLaws
 pub mod FormLaws

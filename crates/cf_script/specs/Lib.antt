@@ -1,3 +1,4 @@
+-- The files of definitions of cf_script.
 pub mod BlockViews
 pub mod Gives
 pub mod Judges

@@ -1,2 +1,3 @@
+-- The files of definitions of cf_set_bag.
 pub mod Bags
 pub mod Sets

@@ -1,3 +1,4 @@
+-- The files of lemmas of cf_string.
 pub mod Validity
 pub mod Characters
 pub mod Places

@@ -1,2 +1,3 @@
+-- The files of definitions of cf_string.
 pub mod Faults
 pub mod Units

@@ -1,3 +1,4 @@
+-- The files of lemmas of cf_syntax.
 pub mod CountLaws
 pub mod LineLaws
 pub mod OnLiterals

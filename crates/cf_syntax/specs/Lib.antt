@@ -1,3 +1,4 @@
+-- The files of definitions of cf_syntax.
 pub mod Counting
 pub mod Forms
 pub mod Lines

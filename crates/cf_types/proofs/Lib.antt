@@ -1,2 +1,3 @@
+-- The files of lemmas of cf_types.
 pub mod Lossy
 pub mod Utf8

@@ -1,3 +1,4 @@
+-- The files of definitions of cf_types.
 pub mod Cells
 pub mod Faults
 pub mod Forms

@@ -1,3 +1,4 @@
+-- The files of lemmas of cf_world.
 pub mod Mirroring
 pub mod Tables
 pub mod Stepping

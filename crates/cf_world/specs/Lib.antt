@@ -1,3 +1,4 @@
+-- The files of definitions of cf_world.
 pub mod Worlds
 pub mod Mirrors
 pub mod Works

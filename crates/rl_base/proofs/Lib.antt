@@ -1,3 +1,4 @@
+-- The files of lemmas of rl_base.
 pub mod ActivitiesLemmas
 pub mod BitsLemmas
 pub mod DateLaws

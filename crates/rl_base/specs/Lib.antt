@@ -1,3 +1,4 @@
+-- The files of definitions of rl_base.
 pub mod Activities
 pub mod Dates
 pub mod History

@@ -1,3 +1,4 @@
+-- The files of lemmas of rl_modes.
 pub mod Cuts
 pub mod Orders
 pub mod Marks

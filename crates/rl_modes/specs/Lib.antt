@@ -1,2 +1,3 @@
+-- The files of definitions of rl_modes.
 pub mod Loops
 pub mod Fields

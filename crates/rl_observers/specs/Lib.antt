@@ -1,1 +1,2 @@
+-- The files of definitions of rl_observers.
 pub mod Tables

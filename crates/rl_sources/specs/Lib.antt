@@ -1,1 +1,2 @@
+-- The files of definitions of rl_sources.
 pub mod Tables

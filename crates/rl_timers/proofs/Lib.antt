@@ -1,3 +1,4 @@
+-- The files of lemmas of rl_timers.
 mod Choosing
 mod Keeping
 pub mod Laws

@@ -1,3 +1,4 @@
+-- The files of definitions of rl_timers.
 pub mod Timings
 pub mod Queues
 pub mod Rows

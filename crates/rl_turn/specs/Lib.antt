@@ -1,1 +1,2 @@
+-- The files of definitions of rl_turn.
 pub mod Turn

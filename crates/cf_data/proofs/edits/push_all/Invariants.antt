@@ -1,3 +1,4 @@
+-- The loop invariants of `edits::push_all`.
 use Rattle.std.proofs.Common.{◌≡◌, ◌+◌, ◌++◌, take, vec_len, vec_capacity}
 use Rattle.cf_data.proofs.edits.push_all.Given as goal
 

@@ -1,3 +1,4 @@
+-- The loop invariants of `whole::read_all`.
 use Rattle.std.proofs.Common.{◌≡◌, ◌≤◌, ◌<◌, ◌-◌, length, vec_len}
 use Rattle.cf_io.specs.Bytes.{bytes_then}
 use Rattle.cf_io.proofs.whole.read_all.Given as goal

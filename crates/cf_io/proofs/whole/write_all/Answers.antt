@@ -1,3 +1,4 @@
+-- Answers to the goals of `whole::write_all`.
 use Rattle.std.proofs.Common.{rules}
 use Rattle.cf_io.proofs.Told.{then_bytes-take}
 use Rattle.cf_io.proofs.whole.write_all.Goals as goal

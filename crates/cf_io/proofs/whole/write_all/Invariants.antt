@@ -1,3 +1,4 @@
+-- The loop invariants of `whole::write_all`.
 use Rattle.std.proofs.Common.{◌≡◌, ◌≤◌, ◌-◌, length, take}
 use Rattle.cf_io.specs.Bytes.{then_bytes}
 use Rattle.cf_io.proofs.whole.write_all.Given as goal

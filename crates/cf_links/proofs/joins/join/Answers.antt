@@ -1,3 +1,4 @@
+-- Answers to the goals of `joins::join`.
 use Rattle.cf_links.proofs.Steps.{joins_from}
 use Rattle.cf_links.proofs.joins.join.Goals as goal
 

@@ -1,3 +1,4 @@
+-- Answers to the goals of `joins::mark`.
 use Rattle.std.proofs.Common.{refl}
 use Rattle.cf_links.proofs.FieldLemmas.{same_nodes}
 use Rattle.cf_links.proofs.joins.mark.Goals as goal

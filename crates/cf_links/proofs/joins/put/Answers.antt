@@ -1,3 +1,4 @@
+-- Answers to the goals of `joins::put`.
 use Rattle.cf_links.proofs.Steps.{puts_from}
 use Rattle.cf_links.proofs.joins.put.Goals as goal
 

@@ -1,3 +1,4 @@
+-- Answers to the goals of `joins::remove`.
 use Rattle.cf_links.proofs.Steps.{removes_from}
 use Rattle.cf_links.proofs.joins.remove.Goals as goal
 

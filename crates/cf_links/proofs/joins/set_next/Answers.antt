@@ -1,3 +1,4 @@
+-- Answers to the goals of `joins::set_next`.
 use Rattle.std.proofs.Common.{◌≡◌, refl}
 use Rattle.std.proofs.lemmas.Option.{slice_get-get_or}
 use Rattle.cf_links.proofs.FieldLemmas.{same_nodes, leads_first}

@@ -1,3 +1,4 @@
+-- Answers to the goals of `rows::remove_row`.
 use Rattle.std.proofs.Common.{sym, ◌∙◌}
 use Rattle.cf_basichash.proofs.TablesLemmas.{found, missing, row_found}
 use Rattle.cf_set_bag.proofs.rows.remove_row.Goals as goal

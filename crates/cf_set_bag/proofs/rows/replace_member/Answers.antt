@@ -1,3 +1,4 @@
+-- Answers to the goals of `rows::replace_member`.
 use Rattle.std.proofs.Common.{Ok, sym, ◌∙◌, ap}
 use Rattle.std.proofs.lemmas.Option.{same_Some}
 use Rattle.cf_basichash.proofs.TablesLemmas.{found, missing}

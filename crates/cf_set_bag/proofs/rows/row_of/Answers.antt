@@ -1,3 +1,4 @@
+-- Answers to the goals of `rows::row_of`.
 use Rattle.std.proofs.Common.{sym, ◌∙◌}
 use Rattle.cf_basichash.proofs.TablesLemmas.{missing, row_found}
 use Rattle.cf_set_bag.proofs.rows.row_of.Goals as goal

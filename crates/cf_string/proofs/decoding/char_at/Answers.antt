@@ -1,3 +1,4 @@
+-- Answers to the goals of `decoding::char_at`.
 use Rattle.std.proofs.Common.{sym, ◌∙◌, arith}
 use Rattle.cf_string.proofs.Lossy.{apart_at, last_at, pair_at}
 use Rattle.cf_string.proofs.decoding.char_at.Goals as goal

@@ -1,3 +1,4 @@
+-- The loop invariants of `texts::first_place`.
 use Rattle.std.proofs.Common.{ℕ, ◌≤◌, ◌<◌}
 use Rattle.cf_string.specs.Units.{StandsAt}
 use Rattle.cf_string.proofs.texts.first_place.Given as goal

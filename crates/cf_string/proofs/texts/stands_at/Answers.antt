@@ -1,3 +1,4 @@
+-- Answers to the goals of `texts::stands_at`.
 use Rattle.cf_string.proofs.Places.{starts_stand}
 use Rattle.cf_string.proofs.texts.stands_at.Goals as goal
 

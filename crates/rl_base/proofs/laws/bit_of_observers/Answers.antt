@@ -1,3 +1,4 @@
+-- Answers to the goals of `laws::bit_of_observers`.
 use Rattle.rl_base.proofs.ActivitiesLemmas.{observer_bit-after, observer_bit-left}
 use Rattle.rl_base.proofs.laws.bit_of_observers.Goals as goal
 

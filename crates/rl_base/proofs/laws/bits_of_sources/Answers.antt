@@ -1,3 +1,4 @@
+-- Answers to the goals of `laws::bits_of_sources`.
 use Rattle.rl_base.proofs.SignalsLemmas.{valid_bit-after, signal_bit-after, valid_bit-left, signal_bit-left}
 use Rattle.rl_base.proofs.laws.bits_of_sources.Goals as goal
 

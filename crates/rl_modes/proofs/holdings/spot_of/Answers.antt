@@ -1,3 +1,4 @@
+-- Answers to the goals of `holdings::spot_of`.
 use Rattle.rl_modes.proofs.Pairs.{places_parted, items_parted, cut_within}
 use Rattle.rl_modes.proofs.holdings.spot_of.Goals as goal
 

@@ -1,3 +1,4 @@
+-- Answers to the goals of `modes::enter_each`.
 use Rattle.std.proofs.Common.{arith}
 use Rattle.rl_modes.proofs.News.{enters_more, enters_room}
 use Rattle.rl_modes.proofs.modes.enter_each.Goals as goal

@@ -1,3 +1,4 @@
+-- The loop invariants of `modes::enter_each`.
 use Rattle.std.proofs.Common.{◌≡◌, map, take}
 use Rattle.rl_base.specs.declared.places.Place.TheVariants.{Mode}
 use Rattle.rl_modes.specs.Loops.{in_each}

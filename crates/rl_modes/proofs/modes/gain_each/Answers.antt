@@ -1,3 +1,4 @@
+-- Answers to the goals of `modes::gain_each`.
 use Rattle.std.proofs.Common.{◌≡◌, ap, ◌∙◌, length, get_or, take, arith}
 use Rattle.rl_base.specs.declared.places.Place.TheVariants.{Common, Mode}
 use Rattle.std.proofs.lemmas.Bool.{ne_eqb}

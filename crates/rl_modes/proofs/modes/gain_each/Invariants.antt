@@ -1,3 +1,4 @@
+-- The loop invariants of `modes::gain_each`.
 use Rattle.std.proofs.Common.{◌≡◌, take}
 use Rattle.rl_base.specs.declared.places.Place.TheVariants.{Common}
 use Rattle.rl_modes.specs.Loops.{each_in, items_at}

@@ -1,3 +1,4 @@
+-- Answers to the goals of `modes::has_mode`.
 use Rattle.std.proofs.Common.{sym, ◌∙◌, ap, eqb}
 use Rattle.rl_modes.proofs.Sound.{modes_parted, among_at, among_past}
 use Rattle.rl_modes.proofs.modes.has_mode.Goals as goal

@@ -1,3 +1,4 @@
+-- Answers to the goals of `modes::leave`.
 use Rattle.std.proofs.Common.{sym, ◌∙◌, refl}
 use Rattle.rl_modes.proofs.News.{without_none}
 use Rattle.rl_modes.proofs.modes.leave.Goals as goal

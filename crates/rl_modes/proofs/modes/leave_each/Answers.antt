@@ -1,3 +1,4 @@
+-- Answers to the goals of `modes::leave_each`.
 use Rattle.std.proofs.Common.{refl, arith}
 use Rattle.rl_modes.proofs.News.{leaves_more, leaves_none}
 use Rattle.rl_modes.proofs.modes.leave_each.Goals as goal

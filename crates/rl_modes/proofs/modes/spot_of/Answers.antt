@@ -1,3 +1,4 @@
+-- Answers to the goals of `modes::spot_of`.
 use Rattle.std.proofs.Common.{rules, nat_lt}
 use Rattle.std.proofs.lemmas.List.Sorted.{IsPartitionPoint-from_clause}
 use Rattle.rl_modes.proofs.Cuts.{cut_from}

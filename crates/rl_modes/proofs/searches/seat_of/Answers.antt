@@ -1,3 +1,4 @@
+-- Answers to the goals of `searches::seat_of`.
 use Rattle.std.proofs.Common.{rules}
 use Rattle.std.proofs.lemmas.List.Sorted.{IsPartitionPoint-from_clause}
 use Rattle.rl_modes.specs.Fields.{sits_before}

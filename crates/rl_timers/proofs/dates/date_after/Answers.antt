@@ -1,3 +1,4 @@
+-- Answers to the goals of `dates::date_after`.
 use Rattle.std.proofs.Common.{arith}
 use Rattle.std.proofs.lemmas.Bool.Decides.{nat_tests}
 use Rattle.rl_timers.proofs.NextDates.{date_before_first}

@@ -1,3 +1,4 @@
+-- Answers to the goals of `dictionary::Dict::add`.
 use Rattle.cf_basichash.proofs.TablesLemmas.{none_together}
 use Rattle.cf_dictionary.proofs.dictionary.Dict.add.Goals as goal
 

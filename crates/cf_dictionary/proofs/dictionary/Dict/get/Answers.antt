@@ -1,3 +1,4 @@
+-- Answers to the goals of `dictionary::Dict::get`.
 use Rattle.std.proofs.Common.{sym, ◌∙◌, refl}
 use Rattle.std.proofs.lemmas.Option.{none-some}
 use Rattle.cf_basichash.proofs.TablesLemmas.{found, missing, value_found}

@@ -1,3 +1,4 @@
+-- Answers to the goals of `dictionary::Dict::remove`.
 use Rattle.std.proofs.Common.{sym, ◌∙◌}
 use Rattle.cf_basichash.proofs.TablesLemmas.{found, missing, row_found}
 use Rattle.cf_dictionary.proofs.dictionary.Dict.remove.Goals as goal

@@ -1,3 +1,4 @@
+-- Answers to the goals of `dictionary::Dict::replace`.
 use Rattle.std.proofs.Common.{sym, ◌∙◌}
 use Rattle.cf_basichash.proofs.TablesLemmas.{missing, value_found, revalued_found}
 use Rattle.cf_dictionary.proofs.dictionary.Dict.replace.Goals as goal

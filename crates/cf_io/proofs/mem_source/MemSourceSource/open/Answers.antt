@@ -1,3 +1,4 @@
+-- Answers to the goals of `mem_source::MemSourceSource::open`.
 use Rattle.std.proofs.Common.{rules, ◌≡◌, None, Some, refl, inr, ⊎_elim}
 use Rattle.cf_io.specs.Files.{content_of}
 use Rattle.cf_io.specs.MemFiles.{bytes_at}

@@ -1,3 +1,4 @@
+-- Answers to the goals of `links::Links::first`.
 use Rattle.std.proofs.Common.{◌≡◌, Some, length, ap, refl}
 use Rattle.std.specs.List.{slice_get}
 use Rattle.std.proofs.lemmas.Option.{slice_get_read}

@@ -1,3 +1,4 @@
+-- Answers to the goals of `links::Links::free`.
 use Rattle.std.proofs.Common.{◌≡◌, ◌-◌, ◌+◌, None, refl, sym, ◌∙◌, arith}
 use Rattle.slab.specs.Slab.{slab_len}
 use Rattle.cf_links.specs.Lists.{list_of}

@@ -1,3 +1,4 @@
+-- Answers to the goals of `links::Links::insert`.
 use Rattle.std.proofs.Common.{◌≡◌, Some, map, sym}
 use Rattle.cf_links.specs.Lists.{list_of, next_of, prev_of}
 use Rattle.cf_links.specs.Fields.{lists_of}

@@ -1,3 +1,4 @@
+-- Answers to the goals of `links::Links::make`.
 use Rattle.std.proofs.Common.{◌≡◌, ◌-◌, ◌+◌, refl, ap, sym, ◌∙◌, arith}
 use Rattle.std.specs.Option.{option_map}
 use Rattle.slab.specs.Slab.{slab_len}

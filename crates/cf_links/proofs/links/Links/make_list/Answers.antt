@@ -1,3 +1,4 @@
+-- Answers to the goals of `links::Links::make_list`.
 use Rattle.std.proofs.Common.{◌≡◌, ◌-◌, ◌+◌, refl, arith}
 use Rattle.std.specs.Vec.{vec_len, vec_capacity}
 use Rattle.cf_links.proofs.FieldLemmas.{make_list_seen}

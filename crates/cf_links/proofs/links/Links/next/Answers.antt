@@ -1,3 +1,4 @@
+-- Answers to the goals of `links::Links::next`.
 use Rattle.std.proofs.Common.{ap}
 use Rattle.cf_links.proofs.FieldLemmas.{valid_seen}
 use Rattle.cf_links.proofs.links.Links.next.Goals as goal

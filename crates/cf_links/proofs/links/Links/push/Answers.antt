@@ -1,3 +1,4 @@
+-- Answers to the goals of `links::Links::push`.
 use Rattle.std.proofs.Common.{◌≡◌}
 use Rattle.cf_links.specs.Fields.{lists_of}
 use Rattle.cf_links.specs.Sides.{with_end}

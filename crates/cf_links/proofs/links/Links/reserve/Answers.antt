@@ -1,3 +1,4 @@
+-- Answers to the goals of `links::Links::reserve`.
 use Rattle.cf_links.proofs.links.Links.reserve.Goals as goal
 
 pub invariant_of-self : goal.invariant_of-self

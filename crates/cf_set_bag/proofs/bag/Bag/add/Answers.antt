@@ -1,3 +1,4 @@
+-- Answers to the goals of `bag::Bag::add`.
 use Rattle.std.proofs.Common.{◌≡◌, false, ◌==◌, sym, ◌∙◌, ap, add-zero, arith}
 use Rattle.cf_basichash.proofs.TablesLemmas.{missing, revalued_found}
 use Rattle.cf_set_bag.proofs.Counting.{number_found}

@@ -1,3 +1,4 @@
+-- Answers to the goals of `bag::Bag::count_of`.
 use Rattle.cf_set_bag.proofs.Membership.{lookup-entry}
 use Rattle.cf_set_bag.proofs.bag.Bag.count_of.Goals as goal
 

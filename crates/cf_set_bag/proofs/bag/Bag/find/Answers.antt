@@ -1,3 +1,4 @@
+-- Answers to the goals of `bag::Bag::find`.
 use Rattle.cf_set_bag.proofs.Membership.{lookup_key-entry}
 use Rattle.cf_set_bag.proofs.bag.Bag.find.Goals as goal
 

@@ -1,3 +1,4 @@
+-- Answers to the goals of `bag::Bag::remove`.
 use Rattle.std.proofs.Common.{◌≡◌, false, ◌==◌, sym, ◌∙◌, ap, add-zero, arith, ◌<◌, Some}
 use Rattle.std.proofs.lemmas.Option.{none-some, same_Some}
 use Rattle.cf_basichash.proofs.TablesLemmas.{found, missing, revalued_found}

@@ -1,3 +1,4 @@
+-- Answers to the goals of `bag::Bag::replace`.
 use Rattle.cf_set_bag.proofs.Counting.{counted_rekeyed}
 use Rattle.cf_set_bag.proofs.bag.Bag.replace.Goals as goal
 

@@ -1,3 +1,4 @@
+-- Answers to the goals of `bag::Bag::set`.
 use Rattle.cf_set_bag.proofs.Counting.{counted_set}
 use Rattle.cf_set_bag.proofs.bag.Bag.set.Goals as goal
 

@@ -1,3 +1,4 @@
+-- Answers to the goals of `set::Set::add`.
 use Rattle.std.proofs.Common.{refl}
 use Rattle.std.proofs.lemmas.Bool.{false≢true}
 use Rattle.cf_set_bag.proofs.Membership.{none_found}

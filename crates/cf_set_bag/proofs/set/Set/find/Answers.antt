@@ -1,3 +1,4 @@
+-- Answers to the goals of `set::Set::find`.
 use Rattle.cf_set_bag.proofs.Membership.{find-keys_of, lookup_key-entry}
 use Rattle.cf_set_bag.proofs.set.Set.find.Goals as goal
 

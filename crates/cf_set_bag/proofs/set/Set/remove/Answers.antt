@@ -1,3 +1,4 @@
+-- Answers to the goals of `set::Set::remove`.
 use Rattle.cf_set_bag.proofs.Membership.{find-keys_of, lookup_key-entry, members_without-keys_of}
 use Rattle.cf_set_bag.proofs.set.Set.remove.Goals as goal
 use Rattle.cf_set_bag.proofs.set.Set.remove.Goals.{in-Some, in-None}

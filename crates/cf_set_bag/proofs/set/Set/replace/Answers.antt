@@ -1,3 +1,4 @@
+-- Answers to the goals of `set::Set::replace`.
 use Rattle.cf_set_bag.proofs.Membership.{find-keys_of, members_replaced-keys_of}
 use Rattle.cf_set_bag.proofs.set.Set.replace.Goals as goal
 

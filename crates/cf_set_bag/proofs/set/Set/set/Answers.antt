@@ -1,3 +1,4 @@
+-- Answers to the goals of `set::Set::set`.
 use Rattle.cf_set_bag.proofs.Membership.{find-keys_of, is_some-lookup, members_set-keys_of}
 use Rattle.cf_set_bag.proofs.set.Set.set.Goals as goal
 

@@ -1,3 +1,4 @@
+-- Answers to the goals of `texts::Str::append`.
 use Rattle.std.proofs.Common.{◌≡◌, ◌++◌, rules}
 use Rattle.cf_string.proofs.Validity.{IsText-append}
 use Rattle.cf_string.proofs.texts.Str.append.Goals as goal

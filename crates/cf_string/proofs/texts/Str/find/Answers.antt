@@ -1,3 +1,4 @@
+-- Answers to the goals of `texts::Str::find`.
 use Rattle.cf_string.proofs.texts.Str.find.Goals as goal
 
 pub returns-clause-none : goal.returns-clause-none

@@ -1,3 +1,4 @@
+-- Answers to the goals of `texts::Str::has_suffix`.
 use Rattle.cf_string.proofs.Places.{ends_stand}
 use Rattle.cf_string.proofs.texts.Str.has_suffix.Goals as goal
 

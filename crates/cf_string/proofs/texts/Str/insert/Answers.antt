@@ -1,3 +1,4 @@
+-- Answers to the goals of `texts::Str::insert`.
 use Rattle.std.proofs.Common.{◌≡◌, None, rules}
 use Rattle.cf_string.specs.Units.{replaced}
 use Rattle.cf_string.specs.Faults.{cut_fault}

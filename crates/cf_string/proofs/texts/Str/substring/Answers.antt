@@ -1,3 +1,4 @@
+-- Answers to the goals of `texts::Str::substring`.
 use Rattle.std.proofs.Common.{◌≡◌, ◌+◌, ◌-◌, None, take, drop, refl, rules, arith}
 use Rattle.cf_string.specs.Faults.{cut_fault}
 use Rattle.cf_string.proofs.Validity.{IsText-part}

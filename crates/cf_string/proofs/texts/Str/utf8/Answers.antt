@@ -1,3 +1,4 @@
+-- Answers to the goals of `texts::Str::utf8`.
 use Rattle.std.proofs.Common.{◌≡◌, true, false, sym, ◌∙◌}
 use Rattle.std.proofs.lemmas.Bool.{true≢false}
 use Rattle.std.proofs.lemmas.Str.{IsUtf8-string_bytes}

@@ -1,3 +1,4 @@
+-- Answers to the goals of `holdings::Holdings::count`.
 use Rattle.std.proofs.Common.{rules}
 use Rattle.rl_modes.proofs.Pairs.{length-paired}
 use Rattle.rl_modes.proofs.holdings.Holdings.count.Goals as goal

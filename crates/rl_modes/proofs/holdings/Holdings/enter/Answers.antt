@@ -1,3 +1,4 @@
+-- Answers to the goals of `holdings::Holdings::enter`.
 use Rattle.std.proofs.Common.{refl, ◌<◌, ◌≤◌, ◌∙◌, ap, length, arith}
 use Rattle.std.proofs.lemmas.List.Edits.{length-insert}
 use Rattle.rl_base.specs.Modes.{rank}

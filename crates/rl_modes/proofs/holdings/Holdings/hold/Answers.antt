@@ -1,3 +1,4 @@
+-- Answers to the goals of `holdings::Holdings::hold`.
 use Rattle.std.proofs.Common.{◌∙◌, ap, length, arith}
 use Rattle.rl_modes.proofs.holdings.Holdings.hold.Goals as goal
 

@@ -1,3 +1,4 @@
+-- Answers to the goals of `holdings::Holdings::holds`.
 use Rattle.std.proofs.Common.{◌∙◌}
 use Rattle.rl_base.specs.Modes.{rank}
 use Rattle.rl_modes.proofs.Orders.{order_parted}

@@ -1,3 +1,4 @@
+-- Answers to the goals of `holdings::Holdings::is_empty`.
 use Rattle.rl_modes.proofs.Looks.{count_tells}
 use Rattle.rl_modes.proofs.holdings.Holdings.is_empty.Goals as goal
 

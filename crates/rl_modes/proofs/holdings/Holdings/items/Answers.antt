@@ -1,3 +1,4 @@
+-- Answers to the goals of `holdings::Holdings::items`.
 use Rattle.rl_modes.proofs.Pairs.{places_parted, items_between, items_rise}
 use Rattle.rl_modes.proofs.holdings.Holdings.items.Goals as goal
 

@@ -1,3 +1,4 @@
+-- Answers to the goals of `holdings::Holdings::leave`.
 use Rattle.std.proofs.Common.{◌≡◌, ap, refl, length, get_or, arith}
 use Rattle.std.proofs.lemmas.List.Edits.{length-remove}
 use Rattle.rl_base.specs.Modes.{rank}

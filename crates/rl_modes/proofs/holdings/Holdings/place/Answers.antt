@@ -1,3 +1,4 @@
+-- Answers to the goals of `holdings::Holdings::place`.
 use Rattle.std.proofs.Common.{◌≡◌, ◌∙◌, ap, drop, slice_get}
 use Rattle.rl_base.specs.Modes.{rank, places_of, all_modes}
 use Rattle.rl_modes.specs.Loops.{holds_at}

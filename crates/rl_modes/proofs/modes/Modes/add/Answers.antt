@@ -1,3 +1,4 @@
+-- Answers to the goals of `modes::Modes::add`.
 use Rattle.std.proofs.Common.{◌≡◌, ◌+◌, ◌-◌, refl, length, arith, vec_len}
 use Rattle.rl_base.specs.declared.places.Place.TheVariants.{Mode}
 use Rattle.rl_modes.proofs.News.{length-with_one}

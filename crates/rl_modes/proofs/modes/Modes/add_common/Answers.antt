@@ -1,3 +1,4 @@
+-- Answers to the goals of `modes::Modes::add_common`.
 use Rattle.std.proofs.Common.{ap, ◌∙◌, length, arith}
 use Rattle.rl_base.specs.declared.places.Place.TheVariants.{Common, Mode}
 use Rattle.rl_base.specs.Modes.{places_entered}

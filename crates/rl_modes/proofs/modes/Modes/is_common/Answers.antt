@@ -1,3 +1,4 @@
+-- Answers to the goals of `modes::Modes::is_common`.
 use Rattle.std.proofs.Common.{suc, arith}
 use Rattle.rl_modes.proofs.modes.Modes.is_common.Goals as goal
 

@@ -1,3 +1,4 @@
+-- Answers to the goals of `modes::Modes::make_common`.
 use Rattle.std.proofs.Common.{ap, sym, ◌∙◌, ◌∷◌, length, suc, arith}
 use Rattle.rl_base.specs.declared.places.Place.TheVariants.{Common, Mode}
 use Rattle.rl_base.specs.Modes.{items_gained}

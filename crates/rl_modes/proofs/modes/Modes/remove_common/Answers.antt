@@ -1,3 +1,4 @@
+-- Answers to the goals of `modes::Modes::remove_common`.
 use Rattle.std.proofs.Common.{ap, ◌∙◌}
 use Rattle.rl_base.specs.Modes.{places_of}
 use Rattle.rl_modes.specs.Fields.{Held}

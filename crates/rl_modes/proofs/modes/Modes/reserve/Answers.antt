@@ -1,3 +1,4 @@
+-- Answers to the goals of `modes::Modes::reserve`.
 use Rattle.std.proofs.Common.{arith}
 use Rattle.rl_modes.proofs.modes.Modes.reserve.Goals as goal
 

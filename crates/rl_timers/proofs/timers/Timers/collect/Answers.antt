@@ -1,3 +1,4 @@
+-- Answers to the goals of `timers::Timers::collect`.
 use Rattle.std.proofs.Common.{◌≡◌, ◌++◌, false, [], sym, ap, ◌∙◌}
 use Rattle.std.proofs.lemmas.List.{append-nil}
 use Rattle.rl_base.specs.Dates.{has_come}

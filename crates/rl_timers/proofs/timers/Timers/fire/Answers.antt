@@ -1,3 +1,4 @@
+-- Answers to the goals of `timers::Timers::fire`.
 use Rattle.std.proofs.Common.{◌≡◌, set, refl, sym, ap, ◌∙◌, inr, arith}
 use Rattle.rl_timers.specs.declared.rows.Row.{Row}
 use Rattle.rl_timers.specs.Timings.{changed, fired}

@@ -1,3 +1,4 @@
+-- Answers to the goals of `timers::Timers::invalidate`.
 use Rattle.std.proofs.Common.{◌≡◌, false, set, refl, sym, ap, ◌∙◌, inl, inr, arith}
 use Rattle.rl_timers.specs.declared.rows.Row.{Row}
 use Rattle.rl_timers.specs.Timings.{changed, invalidated}

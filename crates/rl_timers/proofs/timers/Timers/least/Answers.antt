@@ -1,3 +1,4 @@
+-- Answers to the goals of `timers::Timers::least`.
 use Rattle.std.proofs.Common.{sym, ap, ◌∙◌}
 use Rattle.rl_timers.specs.Timings.{Timing, least_among, numbers_of}
 use Rattle.rl_timers.proofs.Choosing.{first_of, none_dated, earliest_is_least}

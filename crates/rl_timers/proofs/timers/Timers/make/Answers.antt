@@ -1,3 +1,4 @@
+-- Answers to the goals of `timers::Timers::make`.
 use Rattle.std.proofs.Common.{◌≡◌, ◌-◌, Some, true, sym, ap, ◌∙◌, arith}
 use Rattle.rl_timers.specs.declared.rows.Row.{Row}
 use Rattle.rl_timers.specs.Timings.{Timing, timer_at, with_timer}

@@ -26,7 +26,7 @@ abbrev pub times : ℕ → List ℕ → ℕ
 times n [] = 0
 times n (m ∷ ms) = (if m == n then 1 else 0) + times n ms
 
--- the objects in places of which some are empty, and what an object holds in its slots, in order
+-- the objects in places of which some are empty, in order
 abbrev pub present : List (Option ℕ) → List ℕ
 present [] = []
 present (None ∷ os) = present os
@@ -37,10 +37,11 @@ abbrev pub flat : List (Cell × ℕ) → List ℕ
 flat [] = []
 flat (p ∷ ps) = p.0.id ∷ p.1 ∷ flat ps
 
--- what a collection holds of its members: all, or nothing where it is plain
+-- what a collection holds of its members: all, or nothing if it is plain
 abbrev pub unless_plain : Bool → List ℕ → List ℕ
 unless_plain plain os = if plain then [] else os
 
+-- the objects that a content holds in its slots, in order
 abbrev pub slots_in : Content → List ℕ
 slots_in (text_content mutable units) = []
 slots_in (data_content mutable bytes) = []
@@ -49,11 +50,12 @@ slots_in (instance_content key fields) = present fields
 slots_in (array_content plain elements) = unless_plain plain elements
 slots_in (dictionary_content plain pairs) = unless_plain plain (flat pairs)
 
+-- the objects in the slots of an object, if there is one
 abbrev pub slots_at : Option Object → List ℕ
 slots_at None = []
 slots_at (Some ob) = slots_in ob.content
 
--- how many members a collection has, and the number that all are below. The number of an instance's fields stays
+-- how many members a collection has. The number of an instance's fields stays, so it counts as none
 abbrev pub size_of : Content → ℕ
 size_of (text_content mutable units) = 0
 size_of (data_content mutable bytes) = 0
@@ -62,29 +64,36 @@ size_of (instance_content key fields) = 0
 size_of (array_content plain elements) = length elements
 size_of (dictionary_content plain pairs) = length pairs
 
+-- how many members an object has, if there is one
 abbrev pub size_at : Option Object → ℕ
 size_at None = 0
 size_at (Some ob) = size_of ob.content
 
+-- the number that the members of each collection are below
 abbrev pub member_limit : ℕ
 member_limit = 2147483648
 
--- the numbers of the types, after the reference's names; the first class of a script has the number 14
+-- the type number of strings, after the reference's names
 abbrev pub string_class : ℕ
 string_class = 3
 
+-- the type number of data
 abbrev pub data_class : ℕ
 data_class = 4
 
+-- the type number of numbers
 abbrev pub number_class : ℕ
 number_class = 5
 
+-- the type number of arrays
 abbrev pub array_class : ℕ
 array_class = 6
 
+-- the type number of dictionaries
 abbrev pub dictionary_class : ℕ
 dictionary_class = 7
 
+-- the type number of the first class of a script
 abbrev pub first_class : ℕ
 first_class = 14
 

@@ -44,85 +44,104 @@ pub data Change : Type 0 where
   put_pair : (key : Cell) (value : ℕ) → Change
   remove_pair : (key : Cell) → Change
 
--- what a statement answers where nothing else decides its answer, what it binds, and what it changes
+-- what a statement answers if nothing else decides its answer, what it binds, and what it changes
 pub record Deed : Type 0 where
   pub answer : Answer
   pub origin : Origin
   pub change : Change
 
+-- the deed that answers, and does nothing else
 abbrev pub answered : Answer → Deed
 answered a = record { answer = a; origin = nowhere; change = unchanged }
 
+-- the deed of a statement that found nothing to act on
 abbrev pub skipped : Deed
 skipped = answered answers.Skip
 
+-- the deed that makes an object of a type with this content
 abbrev pub made : ℕ → Content → Deed
 made class content = record { answer = answers.Skip; origin = fresh (record { class = class; content = content }); change = unchanged }
 
+-- the deed that changes the first object that is used
 abbrev pub changing : Answer → Change → Deed
 changing a change = record { answer = a; origin = nowhere; change = change }
 
--- an object is bound where one is found, and stays where it is
+-- the deed that binds an object, if one is found; it stays where it is
 abbrev pub binding : Option ℕ → Deed
 binding None = answered answers.Nil
 binding (Some o) = record { answer = answers.Nil; origin = there o; change = unchanged }
 
--- by an object, where there is one of the kind; else the statement is skipped
+-- a deed by an object; without one the statement is skipped. The words below do the same with what the object is: if
+-- it is of another kind, the statement is skipped
 abbrev pub with_object : Option Numbered → (Numbered → Deed) → Deed
 with_object None deed = skipped
 with_object (Some u) deed = deed u
 
+-- a deed by an object as a key; without an object the statement is skipped
 abbrev pub with_key : List ClassLine → Option Numbered → (Cell → Deed) → Deed
 with_key classes None deed = skipped
 with_key classes (Some u) deed = deed (cell_of classes u)
 
+-- a deed by the units of a text
 abbrev pub text_in : Content → (List ℕ → Deed) → Deed
 text_in (text_content mutable units) deed = deed units
 text_in _ deed = skipped
 
+-- a deed by the units of a mutable text
 abbrev pub mutable_text_in : Content → (List ℕ → Deed) → Deed
 mutable_text_in (text_content true units) deed = deed units
 mutable_text_in _ deed = skipped
 
+-- a deed by the bytes of mutable data
 abbrev pub mutable_data_in : Content → (List ℕ → Deed) → Deed
 mutable_data_in (data_content true bytes) deed = deed bytes
 mutable_data_in _ deed = skipped
 
+-- a deed by a number
 abbrev pub number_in : Content → (Number → Deed) → Deed
 number_in (number_content n) deed = deed n
 number_in _ deed = skipped
 
+-- a deed by the fields of an instance
 abbrev pub fields_in : Content → (List (Option ℕ) → Deed) → Deed
 fields_in (instance_content key fields) deed = deed fields
 fields_in _ deed = skipped
 
+-- a deed by the elements of an array
 abbrev pub elements_in : Content → (List ℕ → Deed) → Deed
 elements_in (array_content plain elements) deed = deed elements
 elements_in _ deed = skipped
 
+-- a deed by the pairs of a dictionary, and by whether it is plain
 abbrev pub pairs_in : Content → (Bool → List (Cell × ℕ) → Deed) → Deed
 pairs_in (dictionary_content plain pairs) deed = deed plain pairs
 pairs_in _ deed = skipped
 
+-- a deed by the text of an object
 abbrev pub with_text : Option Numbered → (List ℕ → Deed) → Deed
 with_text o deed = with_object o (λ u. text_in u.object.content deed)
 
+-- a deed by the text of an object that is mutable
 abbrev pub with_mutable_text : Option Numbered → (List ℕ → Deed) → Deed
 with_mutable_text o deed = with_object o (λ u. mutable_text_in u.object.content deed)
 
+-- a deed by the bytes of an object that is mutable
 abbrev pub with_mutable_data : Option Numbered → (List ℕ → Deed) → Deed
 with_mutable_data o deed = with_object o (λ u. mutable_data_in u.object.content deed)
 
+-- a deed by the number of an object
 abbrev pub with_number : Option Numbered → (Number → Deed) → Deed
 with_number o deed = with_object o (λ u. number_in u.object.content deed)
 
+-- a deed by the fields of an object
 abbrev pub with_fields : Option Numbered → (List (Option ℕ) → Deed) → Deed
 with_fields o deed = with_object o (λ u. fields_in u.object.content deed)
 
+-- a deed by the elements of an object
 abbrev pub with_elements : Option Numbered → (List ℕ → Deed) → Deed
 with_elements o deed = with_object o (λ u. elements_in u.object.content deed)
 
--- by the value of the key that is equal to one, where it is there, and by that key
+-- a deed by a key, and by the value of the one that is equal to it, if it is there
 abbrev pub with_pair : List ClassLine → (dictionary key : Option Numbered) → (Cell → Option ℕ → Deed) → Deed
 with_pair classes dictionary key deed =
     with_object dictionary
@@ -135,53 +154,60 @@ unless_cut (Some Range) deed = answered answers.Range
 unless_cut (Some SplitsPair) deed = answered answers.Split
 unless_cut (Some _) deed = skipped
 
--- a deed where a test holds; else a place or a range passes the length
+-- a deed if a test holds; else a place or a range passes the length
 abbrev pub within : Bool → Deed → Deed
 within test deed = if test then deed else answered answers.Range
 
--- the `len` units from `at` on replaced by others, and the same of bytes
+-- the `len` units from `at` on are replaced by others
 abbrev pub edited_text : List ℕ → ℕ → ℕ → List ℕ → Deed
 edited_text units at len other = unless_cut (cut_fault units at len) (changing answers.Ok (in_text (record { at = at; out = len; enter = other })))
 
+-- the `len` bytes from `at` on are replaced by others
 abbrev pub edited_data : List ℕ → ℕ → ℕ → List ℕ → Deed
 edited_data bytes at len other = within (nat_le (at + len) (length bytes)) (changing answers.Ok (in_data (record { at = at; out = len; enter = other })))
 
--- so many fields or elements from a place on replaced by an object, by nothing in a field, or by no element
+-- so many fields or elements from a place on are replaced by an object, by nothing in a field, or by no element
 abbrev pub edited_places : ℕ → ℕ → List (Option ℕ) → Deed
 edited_places at out enter = changing answers.Ok (in_places (record { at = at; out = out; enter = enter }))
 
--- the units of a range as a new string
+-- the units of a range are made a new string
 abbrev pub part_of : List ℕ → ℕ → ℕ → Deed
 part_of units at len = unless_cut (cut_fault units at len) (made string_class (text_content false (take len (drop at units))))
 
+-- a number is read as one of a kind, or the value does not fit
 abbrev pub as_kind : NumKind → Number → Deed
 as_kind kind n = if fits_kind kind n.value then answered (answers.Number n.value) else answered answers.Lossy
 
+-- an object is made, if there is one to make; else the statement is skipped
 abbrev pub fresh_if : Option Object → Deed
 fresh_if None = skipped
 fresh_if (Some o) = record { answer = answers.Skip; origin = fresh o; change = unchanged }
 
--- a key and an object as a pair, by whether the key is there: it is added, set, replaced or removed
+-- a key and an object are put in as a pair, with this answer
 abbrev pub putting : Answer → Cell → ℕ → Deed
 putting a key value = changing a (put_pair key value)
 
+-- a pair is added, unless its key is there
 abbrev pub adding_pair : Cell → ℕ → Option ℕ → Deed
 adding_pair key value None = putting answers.Ok key value
 adding_pair key value (Some old) = answered answers.Present
 
+-- a pair is set: the answer says whether its key was there
 abbrev pub setting_pair : Cell → ℕ → Option ℕ → Deed
 setting_pair key value None = putting answers.Added key value
 setting_pair key value (Some old) = putting answers.Changed key value
 
+-- the value of a key is replaced, if the key is there
 abbrev pub replacing_pair : Cell → ℕ → Option ℕ → Deed
 replacing_pair key value None = answered answers.Absent
 replacing_pair key value (Some old) = putting answers.Ok key value
 
+-- the pair of a key is removed, if the key is there
 abbrev pub removing_pair : Cell → Option ℕ → Deed
 removing_pair key None = answered answers.Absent
 removing_pair key (Some old) = changing answers.Ok (remove_pair key)
 
--- the object in a field, where there is one
+-- the object in a field, if there is one
 abbrev pub in_field : Option (Option ℕ) → Option ℕ
 in_field None = None
 in_field (Some field) = field
@@ -229,10 +255,12 @@ used_at [] i = None
 used_at (o ∷ os) zero = o
 used_at (o ∷ os) (suc i) = used_at os i
 
+-- an object by its number, if there is one
 abbrev pub object_of : List Object → Option ℕ → Option Object
 object_of objects None = None
 object_of objects (Some o) = slice_get objects o
 
+-- the first of the objects that are used
 abbrev pub first_of : List (Option ℕ) → Option ℕ
 first_of used = used_at used 0
 
@@ -241,70 +269,81 @@ abbrev pub deed_at : List ClassLine → List Object → Statement → List (Opti
 deed_at classes objects s used =
     deed_of classes s (numbered objects (used_at used 0)) (numbered objects (used_at used 1)) (numbered objects (used_at used 2))
 
--- a list after an edit, and what it takes out of it
+-- a list after an edit
 abbrev pub spliced : {A : Type 0} → List A → Splice A → List A
 spliced xs e = splice xs e.at (e.at + e.out) e.enter
 
+-- what an edit takes out of a list
 abbrev pub removed : {A : Type 0} → List A → Splice A → List A
 removed xs e = take e.out (drop e.at xs)
 
--- an edit of fields as one of elements, where nothing comes in for what is empty
+-- an edit of fields as one of elements: nothing comes in for what is empty
 abbrev pub elements : Splice (Option ℕ) → Splice ℕ
 elements e = record { at = e.at; out = e.out; enter = present e.enter }
 
--- what comes in and what goes out where a pair is put in
+-- what comes in as a pair is put in: its value, and its key too if that is not there
 abbrev pub coming_by : Bool → List (Cell × ℕ) → Cell → ℕ → List ℕ
 coming_by plain pairs key value = if is_some (lookup (equal_to plain key) pairs) then value ∷ [] else key.id ∷ value ∷ []
 
+-- what goes out as a pair is put in: the old value, if its key is there
 abbrev pub going_by : Bool → List (Cell × ℕ) → Cell → List ℕ
 going_by plain pairs key = option_to_list (lookup (equal_to plain key) pairs)
 
--- contents after each kind of change, and the objects that it takes in and gives out: only a mutable text, or data, is
--- edited
+-- a text after an edit: only a mutable one is edited
 abbrev pub text_after : Splice ℕ → Content → Content
 text_after e (text_content true units) = text_content true (spliced units e)
 text_after e c = c
 
+-- data after an edit: only mutable data is edited
 abbrev pub data_after : Splice ℕ → Content → Content
 data_after e (data_content true bytes) = data_content true (spliced bytes e)
 data_after e c = c
 
+-- fields or elements after an edit
 abbrev pub places_after : Splice (Option ℕ) → Content → Content
 places_after e (instance_content key fields) = instance_content key (spliced fields e)
 places_after e (array_content plain os) = array_content plain (spliced os (elements e))
 places_after e c = c
 
+-- the objects that an edit of places takes in
 abbrev pub entering : Splice (Option ℕ) → Content → List ℕ
 entering e (instance_content key fields) = present e.enter
 entering e (array_content plain os) = unless_plain plain (present e.enter)
 entering e _ = []
 
+-- the objects that an edit of places gives out
 abbrev pub leaving : Splice (Option ℕ) → Content → List ℕ
 leaving e (instance_content key fields) = present (removed fields e)
 leaving e (array_content plain os) = unless_plain plain (removed os (elements e))
 leaving e _ = []
 
+-- the pairs after one is put in
 abbrev pub put_after : Cell → ℕ → Content → Content
 put_after key value (dictionary_content plain pairs) = dictionary_content plain (pairs_with (equal_to plain key) pairs key value)
 put_after key value c = c
 
+-- the objects that a pair which is put in takes in
 abbrev pub put_entering : Cell → ℕ → Content → List ℕ
 put_entering key value (dictionary_content plain pairs) = unless_plain plain (coming_by plain pairs key value)
 put_entering key value _ = []
 
+-- the objects that a pair which is put in gives out
 abbrev pub put_leaving : Cell → Content → List ℕ
 put_leaving key (dictionary_content plain pairs) = unless_plain plain (going_by plain pairs key)
 put_leaving key _ = []
 
+-- the pairs after one is removed
 abbrev pub removed_after : Cell → Content → Content
 removed_after key (dictionary_content plain pairs) = dictionary_content plain (remove_entry (equal_to plain key) pairs)
 removed_after key c = c
 
+-- the objects that a pair which is removed gives out
 abbrev pub removed_leaving : Cell → Content → List ℕ
 removed_leaving key (dictionary_content plain pairs) =
     unless_plain plain (flat (option_to_list (lookup_entry (equal_to plain key) pairs)))
 removed_leaving key _ = []
 
+-- a content after a change
 abbrev pub content_after : Change → Content → Content
 content_after unchanged c = c
 content_after (in_text e) c = text_after e c
@@ -313,6 +352,7 @@ content_after (in_places e) c = places_after e c
 content_after (put_pair key value) c = put_after key value c
 content_after (remove_pair key) c = removed_after key c
 
+-- the objects that a change of a content takes in, in order
 abbrev pub coming_in : Change → Content → List ℕ
 coming_in unchanged c = []
 coming_in (in_text e) c = []
@@ -321,6 +361,7 @@ coming_in (in_places e) c = entering e c
 coming_in (put_pair key value) c = put_entering key value c
 coming_in (remove_pair key) c = []
 
+-- the objects that a change of a content gives out, in order
 abbrev pub going_out : Change → Content → List ℕ
 going_out unchanged c = []
 going_out (in_text e) c = []
@@ -329,23 +370,27 @@ going_out (in_places e) c = leaving e c
 going_out (put_pair key value) c = put_leaving key c
 going_out (remove_pair key) c = removed_leaving key c
 
+-- the objects that a change of an object takes in; none if there is no object
 abbrev pub taken_in : Option Object → Change → List ℕ
 taken_in None change = []
 taken_in (Some ob) change = coming_in change ob.content
 
+-- the objects that a change of an object gives out; none if there is no object
 abbrev pub given_out : Option Object → Change → List ℕ
 given_out None change = []
 given_out (Some ob) change = going_out change ob.content
 
--- the objects with one of them changed
+-- an object after a change
 abbrev pub changed : Change → Object → Object
 changed change ob = record { class = ob.class; content = content_after change ob.content }
 
+-- the objects with the one of a number changed
 abbrev pub with_change : ℕ → Change → List Object → List Object
 with_change o change [] = []
 with_change zero change (ob ∷ obs) = changed change ob ∷ obs
 with_change (suc o) change (ob ∷ obs) = ob ∷ with_change o change obs
 
+-- the objects with the one of a number changed, if there is a number
 abbrev pub changed_by : Option ℕ → Change → List Object → List Object
 changed_by None change objects = objects
 changed_by (Some o) change objects = with_change o change objects

@@ -12,11 +12,12 @@ use Rattle.cf_types.specs.declared.cells.Cell.{Cell}
 use Rattle.cf_syntax.specs.declared.script.ClassLine.{ClassLine}
 use Rattle.cf_contents.specs.Contents.{Content, text_content, data_content, number_content, instance_content, array_content, dictionary_content, Object, first_class}
 
--- the name of a type: built in, or a class of the script. 0 is no type and has none
+-- the name of a class of the script, by its type number, if it has one
 abbrev pub name_in : Option ClassLine → List ℕ
 name_in None = []
 name_in (Some line) = line.name
 
+-- the name of a type by its number: built in, or a class of the script
 abbrev pub class_name : List ClassLine → ℕ → List ℕ
 class_name classes class =
     if nat_lt class first_class then slice_index_or ([] ∷ built_in_names) class []
@@ -43,21 +44,23 @@ abbrev pub shown_text : List ℕ → List ℕ
 shown_text units =
     codes "\"" ++ flat_map shown_char (take 32 (characters_of units)) ++ codes "\"" ++ more_if (nat_lt 32 (length (characters_of units)))
 
--- bytes in hexadecimal digits: 32 of them at most
+-- bytes in hexadecimal digits, 32 of them at most
 abbrev pub shown_bytes : List ℕ → List ℕ
 shown_bytes bytes = if length bytes == 0 then codes "-" else encode_lower (take 32 bytes) ++ more_if (nat_lt 32 (length bytes))
 
+-- the word of a number's kind
 abbrev pub kind_word : NumKind → List ℕ
 kind_word S8 = codes "s8"
 kind_word S16 = codes "s16"
 kind_word S32 = codes "s32"
 kind_word S64 = codes "s64"
 
--- the word of a member, and of a pair
+-- the word of a member
 abbrev pub member_word : Option ℕ → List ℕ
 member_word None = codes "nil"
 member_word (Some o) = number_word o
 
+-- the word of a pair: its key and its value
 abbrev pub pair_word : Cell × ℕ → List ℕ
 pair_word p = number_word p.0.id ++ codes ":" ++ number_word p.1
 
@@ -66,10 +69,11 @@ abbrev pub bracketed : {A : Type 0} → (A → List ℕ) → List A → List ℕ
 bracketed word members =
     codes "[" ++ join_with_byte 32 (map word (take 8 members)) ++ more_if (nat_lt 8 (length members)) ++ codes "]"
 
--- how many members there are, and the members in brackets
+-- how many members there are, and then the members in brackets
 abbrev pub counted_members : {A : Type 0} → (A → List ℕ) → List A → List ℕ
 counted_members word members = decimal (length members) ++ codes " " ++ bracketed word members
 
+-- a content as a description shows it
 abbrev pub shown_content : Content → List ℕ
 shown_content (text_content mutable units) = shown_text units
 shown_content (data_content mutable bytes) = shown_bytes bytes

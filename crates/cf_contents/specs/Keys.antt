@@ -15,14 +15,17 @@ pub record Numbered : Type 0 where
   pub number : ℕ
   pub object : Object
 
+-- an object with this number, if there is one
 abbrev pub with_number_of : ℕ → Option Object → Option Numbered
 with_number_of o None = None
 with_number_of o (Some ob) = Some (record { number = o; object = ob })
 
+-- the object of a number among objects, with its number
 abbrev pub numbered : List Object → Option ℕ → Option Numbered
 numbered objects None = None
 numbered objects (Some o) = with_number_of o (slice_get objects o)
 
+-- the number of an object, if there is one
 abbrev pub number_of : Option Numbered → Option ℕ
 number_of None = None
 number_of (Some u) = Some u.number
@@ -31,6 +34,7 @@ number_of (Some u) = Some u.number
 abbrev pub class_line : List ClassLine → ℕ → Option ClassLine
 class_line classes class = if nat_lt class first_class then None else slice_get classes (class - first_class)
 
+-- instances of the class are equal if their keys are
 abbrev pub is_keyed : Option ClassLine → Bool
 is_keyed None = false
 is_keyed (Some line) = line.keyed
@@ -53,9 +57,10 @@ cell_of classes u = record {
   leaf = record { class = u.object.class; form = compared_by (is_keyed (class_line classes u.object.class)) u.number u.object.content };
 }
 
--- equality of elements: a plain collection compares identities
+-- how a collection treats its elements: a plain one compares identities
 abbrev pub callbacks_of : Bool → CellCallbacks
 callbacks_of plain = if plain then Plain else Typed
 
+-- an element is equal to a key, as the dictionary compares them
 abbrev pub equal_to : Bool → Cell → Cell → Bool
 equal_to plain key other = cells_equal (callbacks_of plain) key other

@@ -6,7 +6,7 @@ use Rattle.std.specs.Prelude.{◌<◌, ◌≤◌, ◌≡◌, ◌⊎◌, ℕ, ◌
 abbrev pub HasRisen : ℕ → ℕ → Type 0
 HasRisen old new = (old < new) ⊎ (new ≡ 2 ^ 64 - 1)
 
--- What the count of an object tells of a call on it: an error comes only where the count has risen, and else the
+-- What the count of an object tells of a call on it: an error comes only if the count has risen, and else the
 -- count is as before.
 pub record HasCause {T E : Type 0} (result : Result T E) (old new : ℕ) : Type 0 where
   pub never_falls : old ≤ new

@@ -15,14 +15,17 @@ pub record Code : Type 0 where
   pub first : ℕ
   pub second : ℕ
 
+-- the numbers of a holder: what it is, and up to two numbers of its own
 abbrev pub code_of : Holder → Code
 code_of (variable t v) = record { kind = 0; first = t; second = v }
 code_of (owed t) = record { kind = 1; first = t; second = 0 }
 code_of (slot b) = record { kind = 2; first = b; second = 0 }
 
+-- two holders have the same numbers
 abbrev pub same_code : Code → Code → Bool
 same_code a b = (a.kind == b.kind) && ((a.first == b.first) && (a.second == b.second))
 
+-- two holders are the same one
 abbrev pub same_holder : Holder → Holder → Bool
 same_holder a b = same_code (code_of a) (code_of b)
 

@@ -3,6 +3,7 @@ use Rattle.std.specs.Prelude.{◌≡◌, ℕ, ◌+◌, ◌<◌, List, [], ◌∷
 use Rattle.cf_graph.specs.Holders.{Holder}
 use Rattle.cf_graph.specs.Edges.{Reference, same, weigh, one}
 
+-- what a step does to references: it adds one, moves one to another holder, or cuts one
 pub data Operation : Type 0 where
   add : Reference → Operation
   move : Reference → Holder → Operation
@@ -17,41 +18,46 @@ without r (e ∷ es) = if same r e then es else e ∷ without r es
 abbrev pub moved : Reference → Holder → Reference
 moved r h = record { holder = h; object = r.object }
 
--- what an operation leaves, and what a list of them leaves, one after another
+-- what an operation leaves of references
 abbrev pub left_by : Operation → List Reference → List Reference
 left_by (add r) es = r ∷ es
 left_by (move r h) es = moved r h ∷ without r es
 left_by (cut r) es = without r es
 
+-- what a list of operations leaves, one after another
 abbrev pub run : List Operation → List Reference → List Reference
 run [] es = es
 run (op ∷ ops) es = run ops (left_by op es)
 
--- an operation can be done where the reference that it takes is there
+-- an operation can be done if the reference that it takes is there
 abbrev pub CanDo : Operation → List Reference → Type 0
 CanDo (add r) es = Unit {0}
 CanDo (move r h) es = 0 < weigh (one r) es
 CanDo (cut r) es = 0 < weigh (one r) es
 
+-- operations can be done one after another
 abbrev pub CanRun : List Operation → List Reference → Type 0
 CanRun [] es = Unit {0}
 CanRun (op ∷ ops) es = CanDo op es × CanRun ops (left_by op es)
 
--- what a weight wins and loses by an operation, and by a list of them
+-- what a weight wins by an operation
 abbrev pub won_by : (Reference → ℕ) → Operation → ℕ
 won_by g (add r) = g r
 won_by g (move r h) = g (moved r h)
 won_by g (cut r) = 0
 
+-- what a weight loses by an operation
 abbrev pub lost_by : (Reference → ℕ) → Operation → ℕ
 lost_by g (add r) = 0
 lost_by g (move r h) = g r
 lost_by g (cut r) = g r
 
+-- what a weight wins by a list of operations
 abbrev pub won : (Reference → ℕ) → List Operation → ℕ
 won g [] = 0
 won g (op ∷ ops) = won_by g op + won g ops
 
+-- what a weight loses by a list of operations
 abbrev pub lost : (Reference → ℕ) → List Operation → ℕ
 lost g [] = 0
 lost g (op ∷ ops) = lost_by g op + lost g ops

@@ -13,14 +13,15 @@ source (Slot b) = b + 2
 source (Mode t m) = 1
 source (Common t) = 1
 
--- the places from which and to which references lead
+-- the places from which references lead
 abbrev pub sources : List Edge → List ℕ
 sources es = map (λ e. source e.owner) es
 
+-- the places to which references lead
 abbrev pub targets : List Edge → List ℕ
 targets es = map (λ e. e.object + 2) es
 
--- k is one more than the last number below n of a reference that leads from p, or 0 where there is none
+-- the number k is one more than the last one below n of a reference that leads from p, or 0 if there is none
 pub record IsLatest (froms : List ℕ) (p n k : ℕ) : Type 0 where
   pub within : k ≤ n
   pub here : 0 < k → slice_index froms (k - 1) ≡ p
@@ -37,6 +38,7 @@ pub record IsLinked (froms : List ℕ) (n : ℕ) (latest before : List ℕ) : Ty
 abbrev pub Marked : List Bool → ℕ → Type 0
 Marked marks q = slice_index_or marks q false ≡ true
 
+-- how many places are not marked
 abbrev pub unmarked : List Bool → ℕ
 unmarked marks = count_by not marks
 

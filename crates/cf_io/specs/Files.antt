@@ -16,6 +16,6 @@ pub record IsOpen (files : List File) (called : List ℕ) (left : Option (List �
   pub there : IsSome left
   pub whole : left ≡ content_of files called
 
--- A file of this name was opened, where the source tells its files.
+-- A file of this name was opened, if the source tells its files.
 abbrev pub IsOpened : Option (List File) → List ℕ → Option (List ℕ) → Type 0
 IsOpened files called left = IfSome files (λ told. IsOpen told called left)

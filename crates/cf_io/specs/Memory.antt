@@ -13,7 +13,7 @@ pub record Plan : Type 0 where
 abbrev pub after_call : Plan → Plan
 after_call plan = record plan { calls = min (plan.calls + 1) (2 ^ 64 - 1) }
 
--- A source in memory: its files, the bytes of the open one that are not yet read (none where no file is open), the
+-- A source in memory: its files, the bytes of the open one that are not yet read (none if no file is open), the
 -- count of its faults, and its plan.
 pub record SourceState : Type 0 where
   pub files : List File

@@ -39,7 +39,7 @@ pub record AreLists (w : Web) (lists : List (List ℕ)) : Type 0 where
   pub listed : (n l : ℕ) → w.list n ≡ Some l → is_in n (nodes_of lists l) ≡ true
   pub loose : (n : ℕ) → w.list n ≡ None → (w.next n ≡ None) × (w.prev n ≡ None)
 
--- n comes into the list l, between `from` and `to`, and no other link changes
+-- the node n comes into the list l, between `from` and `to`, and no other link changes
 pub record Puts (old new : Web) (l n : ℕ) (from to : Option ℕ) : Type 0 where
   pub before : AreJoined new l from (Some n)
   pub after : AreJoined new l (Some n) to
@@ -50,7 +50,7 @@ pub record Puts (old new : Web) (l n : ℕ) (from to : Option ℕ) : Type 0 wher
   pub firsts : (k : ℕ) → k ≢ l → new.first k ≡ old.first k
   pub lasts : (k : ℕ) → k ≢ l → new.last k ≡ old.last k
 
--- n leaves the list l, where it was between `from` and `to`, and no other link changes
+-- the node n leaves the list l, where it was between `from` and `to`, and no other link changes
 pub record Removes (old new : Web) (l n : ℕ) (from to : Option ℕ) : Type 0 where
   pub closed : AreJoined new l from to
   pub mark : new.list n ≡ None
@@ -81,7 +81,7 @@ pub record Leads (old new : Web) (l : ℕ) (from to : Option ℕ) : Type 0 where
 abbrev pub turned : Web → Web
 turned w = record { first = w.last; last = w.first; next = w.prev; prev = w.next; list = w.list }
 
--- `to` comes right after `from` in the list l, and no other link changes
+-- the node `to` comes right after `from` in the list l, and no other link changes
 pub record Joins (old new : Web) (l : ℕ) (from to : Option ℕ) : Type 0 where
   pub joined : AreJoined new l from to
   pub nexts : (x : Option ℕ) → x ≢ from → next_from new l x ≡ next_from old l x
@@ -90,14 +90,14 @@ pub record Joins (old new : Web) (l : ℕ) (from to : Option ℕ) : Type 0 where
   pub lasts : (k : ℕ) → k ≢ l → new.last k ≡ old.last k
   pub marks : (n : ℕ) → new.list n ≡ old.list n
 
--- n has this mark, and nothing else changes
+-- the node n has this mark, and nothing else changes
 pub record Marks (old new : Web) (n : ℕ) (mark : Option ℕ) : Type 0 where
   pub set : new.list n ≡ mark
   pub marks : (m : ℕ) → m ≢ n → new.list m ≡ old.list m
   pub nexts : (l : ℕ) (x : Option ℕ) → next_from new l x ≡ next_from old l x
   pub prevs : (l : ℕ) (x : Option ℕ) → prev_from new l x ≡ prev_from old l x
 
--- n has no mark and no neighbour, and nothing else changes
+-- the node n has no mark and no neighbour, and nothing else changes
 pub record Clears (old new : Web) (n : ℕ) : Type 0 where
   pub mark : new.list n ≡ None
   pub next : new.next n ≡ None

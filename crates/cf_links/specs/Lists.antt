@@ -12,7 +12,7 @@ pub record Lists (T : Type 0) : Type 0 where
   pub list_room : ℕ
   pub node_room : ℕ
 
--- they are stored as the tuple of their parts
+-- lists are stored as the tuple of their parts
 abbrev pub lists_code : {T : Type 0} → Coded T → Coded (Lists T)
 lists_code {T} code =
     code_by
@@ -86,6 +86,6 @@ put_after at n = flat_map (λ m. if at == m then m ∷ n ∷ [] else m ∷ [])
 abbrev pub without : ℕ → List ℕ → List ℕ
 without n = filter (λ m. not (n == m))
 
--- the same without the node n, whose number may be given out again
+-- all but the node n, whose number may be given out again
 abbrev pub without_node : {T : Type 0} → Lists T → ℕ → Lists T
 without_node s n = record s { values = slice_set s.values n None; node_room = s.node_room + 1 }

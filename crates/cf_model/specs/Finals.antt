@@ -19,14 +19,16 @@ cut_of (actions.Owed o) = Some o
 cut_of (actions.DropSlot b k o) = Some o
 cut_of _ = None
 
--- the object that an entry finalises: it takes a reference away, and it answers so
+-- the object that an answer says is finalised
 abbrev pub final_if : Answer → Option ℕ → Option ℕ
 final_if (answers.Final c) o = o
 final_if _ o = None
 
+-- the object that an action with this answer finalises
 abbrev pub final_of : Action → Answer → Option ℕ
 final_of a answer = final_if answer (cut_of a)
 
+-- 1 if this is the object
 abbrev pub one_at : ℕ → Option ℕ → ℕ
 one_at o None = 0
 one_at o (Some p) = if p == o then 1 else 0
@@ -50,13 +52,16 @@ abbrev pub uses : ℕ → List (Option ℕ) → ℕ
 uses o [] = 0
 uses o (p ∷ os) = one_at o p + uses o os
 
--- an object is owned where a reference from a thread or a parcel leads to it, and held where another does
+-- an object is owned if a reference leads to it from a thread or a parcel
 abbrev pub IsOwned : State → ℕ → Type 0
 IsOwned st o = 0 < weigh (owning o) st.edges
 
+-- an object is held if a reference leads to it from elsewhere, such as a slot
 abbrev pub IsHeld : State → ℕ → Type 0
 IsHeld st o = 0 < weigh (holding o) st.edges
 
+-- each object is finalised at most once, no later entry uses it, and an object that was made is unfinalised exactly if
+-- it is owned or held at the end
 pub record FinalsFit (s : Script) (es : List Entry) : Type 0 where
   pub once : (o : ℕ) → finals o es ≤ 1
   pub unused : (earlier later : List Entry) (e : Entry) (o : ℕ) → es ≡ earlier ++ e ∷ later → 0 < finals o earlier → uses o (uses_of e) ≡ 0

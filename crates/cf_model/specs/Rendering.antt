@@ -24,11 +24,12 @@ use Rattle.cf_model.specs.Journals.{After}
 abbrev pub joined : List (List ℕ) → List ℕ
 joined words = join_with_byte 32 words
 
--- the words of an answer that is written: that an object of this type is finalised, and a description
+-- the words of an answer that says that an object of this type is finalised
 abbrev pub final_words : List ClassLine → Answer → Option (List (List ℕ))
 final_words classes (answers.Final class) = Some (codes "final" ∷ class_name classes class ∷ [])
 final_words classes _ = None
 
+-- the words of an answer that is a description
 abbrev pub shown_words : Answer → Option (List (List ℕ))
 shown_words (answers.Shown description) = Some (description ∷ [])
 shown_words _ = None
@@ -37,6 +38,7 @@ shown_words _ = None
 abbrev pub object_line : ℕ → List ℕ → ℕ → List (List ℕ) → List ℕ
 object_line t action o answer = joined (thread_word t ∷ action ∷ number_word o ∷ answer)
 
+-- that line, if there is an object and the answer is one that is written
 abbrev pub line_if : ℕ → List ℕ → Option ℕ → Option (List (List ℕ)) → Option (List ℕ)
 line_if t action (Some o) (Some answer) = Some (object_line t action o answer)
 line_if t action (Some o) None = None
@@ -46,8 +48,7 @@ line_if t action None answer = None
 abbrev pub drop_words : ℕ → ℕ → List ℕ
 drop_words b k = joined (codes "drop" ∷ number_word b ∷ decimal k ∷ [])
 
--- the line of an entry, where it is written: a release or a drop that finalises an object, and an object that is
--- shown
+-- the line of an entry, if it is written: a release or a drop that finalises an object, or an object that is shown
 abbrev pub line_of : List ClassLine → ℕ → Action → Answer → Option (List ℕ)
 line_of classes t (actions.Release b n used) answer = line_if t (codes "release") (first_of used) (final_words classes answer)
 line_of classes t (actions.Owed o) answer = line_if t (codes "release") (Some o) (final_words classes answer)
@@ -55,10 +56,12 @@ line_of classes t (actions.DropSlot b k o) answer = line_if t (drop_words b k) (
 line_of classes t (actions.Show b n used) answer = line_if t (codes "show") (first_of used) (shown_words answer)
 line_of classes t _ answer = None
 
+-- a line or none, as a list
 abbrev pub lines_if : Option (List ℕ) → List (List ℕ)
 lines_if None = []
 lines_if (Some l) = l ∷ []
 
+-- the lines of entries, in order
 abbrev pub entry_lines : List ClassLine → List Entry → List (List ℕ)
 entry_lines classes [] = []
 entry_lines classes (e ∷ es) = lines_if (line_of classes e.thread e.action e.answer) ++ entry_lines classes es
@@ -75,9 +78,11 @@ alive_from classes o [] st = []
 alive_from classes o (ob ∷ obs) st =
     (if times o st.finalised == 0 then alive_line classes o ob st.edges ∷ [] else []) ++ alive_from classes (o + 1) obs st
 
+-- the lines of all objects that are not finalised
 abbrev pub alive_lines : List ClassLine → State → List (List ℕ)
 alive_lines classes st = alive_from classes 0 st.objects st
 
+-- the word of an ending
 abbrev pub ending_word : Ending → List ℕ
 ending_word endings.Done = codes "done"
 ending_word endings.Limit = codes "limit"
@@ -96,10 +101,11 @@ lines s es ending =
     let alive = alive_lines s.classes (After s es) in
     entry_lines s.classes es ++ alive ++ end_line es (After s es) ending (length alive) ∷ []
 
--- lines as text: each is ended by a line feed
+-- lines as text, each ended by a line feed
 abbrev pub text_of_lines : List (List ℕ) → List ℕ
 text_of_lines [] = []
 text_of_lines (l ∷ ls) = l ++ 10 ∷ text_of_lines ls
 
+-- the text of a journal with its ending: its lines, each ended by a line feed
 abbrev pub rendering : Script → List Entry → Ending → List ℕ
 rendering s es ending = text_of_lines (lines s es ending)

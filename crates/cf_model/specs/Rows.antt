@@ -17,5 +17,6 @@ small_journal =
     ∷ record { thread = 0; action = actions.Done; answer = answers.Ok }
     ∷ []
 
+-- the two lines of that journal
 abbrev pub small_rendering : List ℕ
 small_rendering = codes "t0 release #0 final String\nend done events 3 objects 1 finals 1 alive 0\n"

@@ -24,6 +24,8 @@ round count pointer = range_with_len pointer (count - pointer) ++ range_with_len
 abbrev pub picked : Script → State → ℕ → Option ℕ
 picked s st pointer = find (can_go st) (round (threads s) pointer)
 
+-- from a state and a pointer on, each entry is one of the thread that the pointer picks, and the pointer goes to the
+-- number after it
 abbrev pub IsSerialFrom : Script → State → ℕ → List Entry → Type 0
 IsSerialFrom s st pointer [] = Unit {0}
 IsSerialFrom s st pointer (e ∷ es) = (picked s st pointer ≡ Some e.thread) × IsSerialFrom s (effect s e.thread st e.action) (e.thread + 1) es

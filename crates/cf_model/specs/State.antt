@@ -25,6 +25,8 @@ pub record Frame : Type 0 where
   pub work : List Work
   pub is_done : Bool
 
+-- a state: the objects that were made, those that are finalised, the references, the body of each slot that was given
+-- up, and where the thread stands
 pub record State : Type 0 where
   pub objects : List Object
   pub finalised : List ℕ
@@ -45,23 +47,25 @@ look v (b ∷ bs) = if b.variable == v then b.object else look v bs
 abbrev pub left_of : List Object → List ℕ → ℕ → List ℕ
 left_of objects dropped b = drop (times b dropped) (slots_at (slice_get objects b))
 
--- work from the first item on that has something left
+-- work from the first item on that has something left to do
 abbrev pub trimmed : List Object → List ℕ → List Work → List Work
 trimmed objects dropped [] = []
 trimmed objects dropped (release_of o ∷ work) = release_of o ∷ work
 trimmed objects dropped (slots_of b ∷ work) =
     if length (left_of objects dropped b) == 0 then trimmed objects dropped work else slots_of b ∷ work
 
+-- an object was made
 abbrev pub is_made : State → ℕ → Bool
 is_made st o = nat_lt o (length st.objects)
 
--- an object is live where it was made and is not finalised
+-- an object is live if it was made and is not finalised
 abbrev pub is_live : State → ℕ → Bool
 is_live st o = is_made st o && (times o st.finalised == 0)
 
--- how many references lead to an object, and how many of them from a thread
+-- how many references lead to an object
 abbrev pub degree : ℕ → List Reference → ℕ
 degree o es = weigh (leading_to o) es
 
+-- how many references of a thread lead to an object
 abbrev pub degree_from : ℕ → ℕ → List Reference → ℕ
 degree_from t o es = weigh (from_thread t o) es

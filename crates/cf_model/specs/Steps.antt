@@ -26,19 +26,23 @@ abbrev pub statement_at : Option Block → ℕ → Option Statement
 statement_at None n = None
 statement_at (Some block) n = slice_get block.statements n
 
+-- the statement at a place of a block of the script
 abbrev pub statement_in : Script → ℕ → ℕ → Option Statement
 statement_in s b n = statement_at (slice_get s.blocks b) n
 
--- the references that a variable of a thread holds, that a thread owes the release of, and that a body's slots hold
+-- the reference of a holder to an object
 abbrev pub held_by : Holder → ℕ → Reference
 held_by h o = record { holder = h; object = o }
 
+-- the reference that a variable of a thread has to an object
 abbrev pub reference : ℕ → ℕ → ℕ → Reference
 reference t v o = held_by (variable t v) o
 
+-- the reference of an object that a thread was given out, and owes the release of
 abbrev pub owed_reference : ℕ → ℕ → Reference
 owed_reference t o = held_by (owed t) o
 
+-- the reference that a slot of a body has to an object
 abbrev pub slot_reference : ℕ → ℕ → Reference
 slot_reference b o = held_by (slot b) o
 
@@ -61,11 +65,12 @@ abbrev pub finals_of : Option ℕ → List Reference → List ℕ
 finals_of None es = []
 finals_of (Some o) es = if degree o es == 0 then o ∷ [] else []
 
--- the type of an object, or 0 where it was not made
+-- the type of an object, or 0 if there is none
 abbrev pub type_in : Option Object → ℕ
 type_in None = 0
 type_in (Some ob) = ob.class
 
+-- the type of an object by its number, or 0 if it was not made
 abbrev pub type_of : List Object → ℕ → ℕ
 type_of obs o = type_in (slice_get obs o)
 
@@ -74,13 +79,16 @@ abbrev pub cut_answer : Option ℕ → List Object → List Reference → Answer
 cut_answer None objects es other = other
 cut_answer (Some o) objects es other = if degree o es == 0 then answers.Final (type_of objects o) else answers.More
 
--- the references, the whole state and the answer that a step leaves
+-- the references that a step leaves
 abbrev pub edges_after : Step → List Reference → List Reference
 edges_after step es = run step.operations es
 
+-- the work that a step leaves: the slots of what it finalises come first, and items that have nothing left are passed
+-- over
 abbrev pub work_after : Step → State → List Work
 work_after step st = trimmed step.objects (step.drops ++ st.dropped) (map slots_of (finals_of step.cuts (edges_after step st.edges)) ++ step.work)
 
+-- the state that a step leaves
 abbrev pub state_after : Step → State → State
 state_after step st = record {
   objects = step.objects;
@@ -90,6 +98,7 @@ state_after step st = record {
   frame = record { block = st.frame.block; number = step.number; bindings = step.bindings ++ st.frame.bindings; work = work_after step st; is_done = step.is_done };
 }
 
+-- the answer of a step
 abbrev pub step_answer : Step → State → Answer
 step_answer step st = cut_answer step.cuts st.objects (edges_after step st.edges) step.answer
 
@@ -102,19 +111,20 @@ gained_by (cut r ∷ ops) = gained_by ops
 
 -- ---- the step of a statement
 
--- the object that a origin gives: the next one, or one that is there, where it is live
+-- the object that an origin gives: the next one, or one that is there, if it is live
 abbrev pub found : State → Origin → Option ℕ
 found st nowhere = None
 found st (fresh ob) = Some (length st.objects)
 found st (there o) = if is_live st o then Some o else None
 
--- what a touch does to references
+-- what a touch of an object does to references
 abbrev pub operations_at : ℕ → Touch → ℕ → List Operation
 operations_at t Nothing o = []
 operations_at t (Binds v) o = add (reference t v o) ∷ []
 operations_at t (Plus v) o = add (reference t v o) ∷ []
 operations_at t (Minus v) o = cut (reference t v o) ∷ []
 
+-- what a touch does to references if there is an object, and nothing if there is none
 abbrev pub operations_of : ℕ → Touch → Option ℕ → List Operation
 operations_of t touch None = []
 operations_of t touch (Some o) = operations_at t touch o
@@ -126,12 +136,13 @@ cut_by (Binds v) object = None
 cut_by (Plus v) object = None
 cut_by (Minus v) object = object
 
--- the object that a origin makes, which is bound
+-- the object that an origin makes
 abbrev pub made_from : Origin → List Object
 made_from nowhere = []
 made_from (fresh ob) = ob ∷ []
 made_from (there o) = []
 
+-- the object that a statement makes: only one that binds a variable makes any
 abbrev pub made_by : Touch → Origin → List Object
 made_by Nothing origin = []
 made_by (Binds v) origin = made_from origin
@@ -145,20 +156,21 @@ bindings_by (Binds v) o = record { variable = v; object = o } ∷ []
 bindings_by (Plus v) o = []
 bindings_by (Minus v) o = []
 
--- the answer of a touch that cuts nothing: an empty variable is passed over, what is bound answers its object, and
--- else the deed decides
+-- the answer of a touch of nothing: what binds answers as the deed does, and a retain or a release is skipped
 abbrev pub answer_with : Touch → Answer → Answer
 answer_with Nothing other = other
 answer_with (Binds v) other = other
 answer_with (Plus v) other = answers.Skip
 answer_with (Minus v) other = answers.Skip
 
+-- the answer of a touch of an object: what is bound answers that object, and else the deed decides
 abbrev pub answer_at : Touch → ℕ → Answer → Answer
 answer_at Nothing o other = other
 answer_at (Binds v) o other = answers.Object o
 answer_at (Plus v) o other = other
 answer_at (Minus v) o other = other
 
+-- the answer of a touch of an object or of none
 abbrev pub answer_of : Touch → Option ℕ → Answer → Answer
 answer_of touch None other = answer_with touch other
 answer_of touch (Some o) other = answer_at touch o other
@@ -205,6 +217,7 @@ touch_step t (Binds v) answer origin used change st = reference_step t (Binds v)
 touch_step t (Plus v) answer origin used change st = reference_step t (Plus v) answer origin used st
 touch_step t (Minus v) answer origin used change st = reference_step t (Minus v) answer origin used st
 
+-- the step of a statement, by its deed
 abbrev pub statement_step : List ClassLine → ℕ → Statement → List (Option ℕ) → State → Step
 statement_step classes t s used st =
     let deed = deed_at classes st.objects s used in
@@ -230,7 +243,7 @@ idle st = record {
 abbrev pub done_step : State → Step
 done_step st = record (idle st) { is_done = true }
 
--- the work behind the first item
+-- the work after the first item
 abbrev pub rest_of : List Work → List Work
 rest_of [] = []
 rest_of (w ∷ work) = work
@@ -243,39 +256,44 @@ owed_step t o st = record (idle st) { operations = cut (owed_reference t o) ∷ 
 abbrev pub drop_step : ℕ → ℕ → State → Step
 drop_step b o st = record (idle st) { operations = cut (slot_reference b o) ∷ []; cuts = Some o; drops = b ∷ [] }
 
--- the step of an action
+-- the step of a statement, or that the thread is done if there is none
 abbrev pub step_with : List ClassLine → ℕ → State → List (Option ℕ) → Option Statement → Step
 step_with classes t st used None = done_step st
 step_with classes t st used (Some statement) = statement_step classes t statement used st
 
+-- the step of an action that a statement writes, or of the end of a thread
 abbrev pub step_at : Script → ℕ → State → Option Site → Step
 step_at s t st None = done_step st
 step_at s t st (Some site) = step_with s.classes t st site.used (statement_in s site.block site.number)
 
+-- the step of an action, by what it is
 abbrev pub step_for : Script → ℕ → State → Action → Step
 step_for s t st (actions.Owed o) = owed_step t o st
 step_for s t st (actions.DropSlot b k o) = drop_step b o st
 step_for s t st a = step_at s t st (site_of a)
 
--- an action makes an object where its statement is of such a form
+-- a statement makes an object, if there is one and it is of such a form
 abbrev pub makes_if : Option Statement → Bool
 makes_if None = false
 makes_if (Some statement) = makes_object statement
 
+-- an action at this site makes an object
 abbrev pub makes_at : Script → Option Site → Bool
 makes_at s None = false
 makes_at s (Some site) = makes_if (statement_in s site.block site.number)
 
--- the state that an action of a thread leaves, its answer, the objects to which it adds references, and whether it makes
--- an object
+-- the state that an action of a thread leaves
 abbrev pub effect : Script → ℕ → State → Action → State
 effect s t st a = state_after (step_for s t st a) st
 
+-- the answer of an action of a thread
 abbrev pub answer_to : Script → ℕ → State → Action → Answer
 answer_to s t st a = step_answer (step_for s t st a) st
 
+-- the objects to which an action of a thread adds references, one for each
 abbrev pub gained : Script → ℕ → State → Action → List ℕ
 gained s t st a = gained_by (step_for s t st a).operations
 
+-- an action makes an object, or may make one
 abbrev pub makes : Script → Action → Bool
 makes s a = makes_at s (site_of a)

@@ -22,13 +22,14 @@ width_of S64 = w64
 abbrev pub FitsKind : NumKind → ℤ → Type 0
 FitsKind kind value = FitsSigned (width_of kind) value
 
--- the same as a test: how many values a kind has above -1, and as many it has below 0
+-- how many values a kind has above -1, and as many it has below 0
 abbrev pub reach_of : NumKind → ℕ
 reach_of S8 = 2 ^ 7
 reach_of S16 = 2 ^ 15
 reach_of S32 = 2 ^ 31
 reach_of S64 = 2 ^ 63
 
+-- a kind holds a value: the test of it
 abbrev pub fits_kind : NumKind → ℤ → Bool
 fits_kind kind (pos n) = nat_lt n (reach_of kind)
 fits_kind kind (negsuc n) = nat_lt n (reach_of kind)

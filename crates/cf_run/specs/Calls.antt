@@ -29,14 +29,15 @@ pub record Call : Type 0 where
   pub status : ℕ
   pub journal : List Entry
 
--- what an object tells, by its meanings
+-- what a source tells, by its meanings
 abbrev pub told_by : {S : Type 0} → (S → Option (List File)) → (S → Option (List ℕ)) → (S → ℕ) → S → SourceState
 told_by files left faults source = record { files = files source; left = left source; faults = faults source }
 
+-- what a sink tells, by its meanings
 abbrev pub took_by : {K : Type 0} → (K → Option (List ℕ)) → (K → ℕ) → K → SinkState
 took_by taken faults sink = record { taken = taken sink; faults = faults sink }
 
--- a call by its parts, and by words that are lent
+-- a call by its parts
 abbrev pub call_by : List (List ℕ) → (before after : SourceState) → (old new : SinkState) → Report → Call
 call_by words before after old new report = record {
   words = words;
@@ -48,16 +49,19 @@ call_by words before after old new report = record {
   journal = report.journal.items;
 }
 
+-- a call by its parts, with words that are lent
 abbrev pub call_of : List (Bor (List ℕ)) → (before after : SourceState) → (old new : SinkState) → Report → Call
 call_of words before after old new report = call_by (map (λ w. w.now) words) before after old new report
 
--- its status, and that a count of faults rose in it
+-- the call reports this status
 abbrev pub status_is : ℕ → Call → Type 0
 status_is status call = call.status ≡ status
 
+-- the source's count of faults rose in the call
 abbrev pub SourceFailed : Call → Type 0
 SourceFailed call = HasRisen call.source.faults call.source_after.faults
 
+-- the sink's count of faults rose in the call
 abbrev pub SinkFailed : Call → Type 0
 SinkFailed call = HasRisen call.sink.faults call.sink_after.faults
 

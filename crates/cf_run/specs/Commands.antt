@@ -7,6 +7,7 @@ use Rattle.cf_syntax.specs.Table.{word_at}
 abbrev pub is_file : List ℕ → Bool
 is_file word = not (length word == 0) && not (slice_index word 0 == 45)
 
+-- the file that a word names, if it names one
 abbrev pub named : List ℕ → Option (List ℕ)
 named word = if is_file word then Some word else None
 

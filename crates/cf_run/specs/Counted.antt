@@ -6,7 +6,7 @@ use Rattle.cf_graph.specs.Degrees.{owns, holds}
 use Rattle.cf_run.specs.declared.tally.Tally.{Tally}
 use Rattle.cf_run.specs.Tally.{nothing}
 
--- how many references of edges lead to an object, by kind
+-- how many of these edges lead to an object, by kind
 abbrev pub counted_at : ℕ → List Edge → Tally
 counted_at o es = record { owners = count_by (owns o) es; slots = count_by (holds o) es }
 

@@ -25,15 +25,16 @@ abbrev pub line_text : Option (Vec ℕ) → List ℕ
 line_text None = []
 line_text (Some l) = l.items
 
--- the type of an object, where it was made
+-- the type of an object, if it was made
 abbrev pub class_at : List Object → ℕ → Option ℕ
 class_at objects o = option_map (λ (ob : Object). ob.class) (slice_get objects o)
 
+-- the words of an object that is left
 abbrev pub alive_words : ℕ → List ℕ → Tally → List (List ℕ)
 alive_words o name tally =
     codes "alive" ∷ number_word o ∷ name ∷ codes "owners" ∷ decimal tally.owners ∷ codes "slots" ∷ decimal tally.slots ∷ []
 
--- the line of an object, where references lead to it
+-- the line of an object, if references lead to it
 abbrev pub alive_if : List ClassLine → ℕ → Option ℕ → Tally → List (List ℕ)
 alive_if classes o None tally = []
 alive_if classes o (Some class) tally =
@@ -45,22 +46,24 @@ alive_below classes objects tallies zero = []
 alive_below classes objects tallies (suc n) =
     alive_below classes objects tallies n ++ alive_if classes n (class_at objects n) (slice_index_or tallies n nothing)
 
+-- the words of the last line
 abbrev pub end_words : Ending → ℕ → ℕ → ℕ → ℕ → List (List ℕ)
 end_words ending events objects finals alive =
     codes "end" ∷ ending_word ending ∷ codes "events" ∷ decimal events ∷ codes "objects" ∷ decimal objects
     ∷ codes "finals" ∷ decimal finals ∷ codes "alive" ∷ decimal alive ∷ []
 
--- the lines behind those of the entries
+-- the lines after those of the entries
 abbrev pub ends_of : List ClassLine → Ending → ℕ → List Object → List Tally → ℕ → List (List ℕ)
 ends_of classes ending events objects tallies finals =
     let alive = alive_below classes objects tallies (length tallies) in
     alive ++ joined (end_words ending events (length tallies) finals (length alive)) ∷ []
 
--- the classes and the entries of a world's script
+-- the classes of a world's script: none if no script has begun
 abbrev pub classes_in : Option Script → List ClassLine
 classes_in None = []
 classes_in (Some s) = s.classes
 
+-- the entries of a world's script: none if no script has begun
 abbrev pub entries_in : Option Script → List Entry → List Entry
 entries_in None journal = []
 entries_in (Some s) journal = journal

@@ -40,7 +40,7 @@ pub record IsRead (words : List (List ℕ)) (files : Option (List File)) (bytes 
   pub content : IsContent files file bytes
   pub within : length bytes ≤ script_bytes
 
--- its bytes are the text of a script that is owned
+-- the words name a file, it was read, and its bytes are the text of a script that is owned
 pub record IsAccepted (words : List (List ℕ)) (files : Option (List File)) (script : Script) : Type 0 where
   pub bytes : List ℕ
   pub read : IsRead words files bytes
@@ -53,7 +53,7 @@ pub record IsUnfit (bytes : List ℕ) (r : Refusal) : Type 0 where
   pub text : Text bytes script
   pub unfit : Unfit script r
 
--- its bytes are no text of a script that is owned
+-- the words name a file, it was read, and its bytes are no text of a script that is owned
 pub record IsUnread (words : List (List ℕ)) (files : Option (List File)) (r : Refusal) : Type 0 where
   pub bytes : List ℕ
   pub read : IsRead words files bytes
@@ -66,6 +66,7 @@ pub record IsTooLong (words : List (List ℕ)) (files : Option (List File)) (r :
   pub long : IfSome files (λ told. IsSomeAnd (content_of told file) (λ bytes. script_bytes < length bytes))
   pub reason : r ≡ record { line = 0; reason = TooLong }
 
+-- the file is refused: it is too long, or its bytes are no text of a script that is owned
 abbrev pub IsRefused : List (List ℕ) → Option (List File) → Refusal → Type 0
 IsRefused words files r = IsTooLong words files r ⊎ IsUnread words files r
 
@@ -73,17 +74,20 @@ IsRefused words files r = IsTooLong words files r ⊎ IsUnread words files r
 abbrev pub IsRefusedText : List ℕ → Refusal → Type 0
 IsRefusedText bytes r = (script_bytes < length bytes) ⊎ (Refused bytes r ⊎ IsUnfit bytes r)
 
--- what is written of a command that runs no script
+-- the line of words that are of no form
 abbrev pub usage_text : List ℕ
 usage_text = codes "usage: cfrun run [--serial] FILE\n"
 
+-- the line of a file that could not be read
 abbrev pub fault_text : List ℕ
 fault_text = codes "read fault\n"
 
+-- the word of a reason
 abbrev pub reason_word : Reason → List ℕ
 reason_word TooLong = codes "TooLong"
 reason_word Unread = codes "Unread"
 
+-- the line of a refusal
 abbrev pub refusal_text : Refusal → List ℕ
 refusal_text r = codes "refused line " ++ (decimal r.line ++ (codes " " ++ (reason_word r.reason ++ codes "\n")))
 
@@ -179,7 +183,7 @@ pub record Reads (call : Call) (bytes : List ℕ) : Type 0 where
   pub source_holds : ¬ (SourceFailed call)
   pub sink_holds : ¬ (SinkFailed call)
 
--- and the bytes are those of a script that is accepted
+-- the words name a file whose bytes are those of a script that is accepted, and no count of faults rose
 pub record ReadsScript (call : Call) (script : Script) : Type 0 where
   pub bytes : List ℕ
   pub reads : Reads call bytes
@@ -187,6 +191,7 @@ pub record ReadsScript (call : Call) (script : Script) : Type 0 where
   pub text : Text bytes script
   pub owned : Owned script
 
+-- what is said of every call: the cause of each status, and when a status does come
 pub record Tells (call : Call) : Type 0 where
   -- the script ran to its end
   pub ran : status_is 0 call → Ran Done call

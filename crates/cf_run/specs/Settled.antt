@@ -35,12 +35,13 @@ SettlesBytes bytes settled.ReadFault = ⊥
 SettlesBytes bytes (settled.Refused r) = Refused bytes r ⊎ IsUnfit bytes r
 SettlesBytes bytes (settled.Ran over) = IsSomeAnd over.world.script (λ s. Text bytes s × IsOver s over.world over.ending over.tallies.items over.finals)
 
--- what it came to, and what that says of the source
+-- the words name an accepted script, and the source stands at the end of its file and has counted no fault
 pub record Accepted (words : List (List ℕ)) (before after : SourceState) (s : Script) : Type 0 where
   pub read : IsAccepted words before.files s
   pub at_end : IsAtEnd after.left
   pub quiet : after.faults ≡ before.faults
 
+-- what a command came to, and what that says of the source
 abbrev pub Settles : List (List ℕ) → (before after : SourceState) → Settled → Type 0
 Settles words before after settled.Usage = (file_of words ≡ None) × (after ≡ before)
 Settles words before after settled.ReadFault = TakesWords words × HasRisen before.faults after.faults
@@ -48,25 +49,28 @@ Settles words before after (settled.Refused r) = IsRefused words before.files r 
 Settles words before after (settled.Ran over) =
     IsSomeAnd over.world.script (λ s. Accepted words before after s × IsOver s over.world over.ending over.tallies.items over.finals)
 
--- the text that is due, and the journal
+-- the text that is due
 abbrev pub due_of : Settled → List ℕ
 due_of settled.Usage = usage_text
 due_of settled.ReadFault = fault_text
 due_of (settled.Refused r) = refusal_text r
 due_of (settled.Ran over) = run_text over.world over.ending over.tallies.items over.finals
 
+-- the journal of a command: none if no script has run
 abbrev pub entries_of : Settled → List Entry
 entries_of settled.Usage = []
 entries_of settled.ReadFault = []
 entries_of (settled.Refused r) = []
 entries_of (settled.Ran over) = entries_in over.world.script over.world.journal
 
+-- the status of an ending
 abbrev pub status_by : Ending → ℕ
 status_by endings.Done = 0
 status_by endings.Limit = 7
 status_by endings.Full = 8
 status_by endings.Stalled = 9
 
+-- the status of a command whose lines were all written
 abbrev pub status_of : Settled → ℕ
 status_of settled.Usage = 2
 status_of settled.ReadFault = 4

@@ -24,10 +24,11 @@ use Rattle.cf_run.specs.declared.tally.Tally.{Tally}
 abbrev pub default_limit : ℕ
 default_limit = 1000000
 
--- the numbers with one more or one less for an object
+-- the numbers with one more for an object
 abbrev pub raised : ℕ → List ℕ → List ℕ
 raised o references = slice_set references o (slice_index references o + 1)
 
+-- the numbers with one less for an object
 abbrev pub lowered : ℕ → List ℕ → List ℕ
 lowered o references = slice_set references o (slice_index references o - 1)
 
@@ -35,16 +36,17 @@ lowered o references = slice_set references o (slice_index references o - 1)
 abbrev pub grown : ℕ → List ℕ → List ℕ
 grown made references = if nat_lt (length references) made then references ++ 0 ∷ [] else references
 
--- one more object is finalised where its last reference goes
+-- one more object is finalised if its last reference goes
 abbrev pub finals_by : Ended → ℕ
 finals_by Last = 1
 finals_by More = 0
 
--- what a run does next: by the object to which its thread's action takes a reference away, and by what the thread does
+-- what a run does next, by the object to which its thread's action takes a reference away
 abbrev pub turn_by : Option ℕ → Turn
 turn_by None = turns.Apply
 turn_by (Some o) = turns.Release o
 
+-- what a run does next, by what its thread does
 abbrev pub turn_of : Next → Turn
 turn_of (next.Act a) = turn_by (cut_of a)
 turn_of next.Done = turns.Over endings.Done
@@ -52,12 +54,13 @@ turn_of next.Limit = turns.Over endings.Limit
 turn_of next.Full = turns.Over endings.Full
 turn_of _ = turns.Over endings.Stalled
 
--- it goes on, and how it ends where it does not
+-- a run goes on
 abbrev pub goes_on : Turn → Bool
 goes_on (turns.Release o) = true
 goes_on turns.Apply = true
 goes_on (turns.Over ending) = false
 
+-- how a run ends; one that goes on has no ending, and this word stands for it
 abbrev pub ending_at : Turn → Ending
 ending_at (turns.Release o) = endings.Stalled
 ending_at turns.Apply = endings.Stalled

@@ -27,7 +27,7 @@ abbrev pub Writes : {T : Type 0} → Result T Unwritten → List ℕ → (old ne
 Writes (Ok x) due old new faults faults' = (new ≡ then_bytes old due) × (faults' ≡ faults)
 Writes (Err e) due old new faults faults' = Part due old new × IsCause e faults faults'
 
--- the same where an error leaves something due
+-- what a call that writes a text leaves, if an error leaves something due
 abbrev pub WritesAll : {T : Type 0} → Result T Unwritten → List ℕ → (old new : Option (List ℕ)) → (faults faults' : ℕ) → Type 0
 WritesAll (Ok x) due old new faults faults' = (new ≡ then_bytes old due) × (faults' ≡ faults)
 WritesAll (Err e) due old new faults faults' = Cut due old new × IsCause e faults faults'

@@ -21,7 +21,7 @@ abbrev pub done_unless : Option StrFault → Result (Unit {0}) StrFault
 done_unless None = Ok tt
 done_unless (Some fault) = Err fault
 
--- the call is refused for exactly this fault, and want of memory comes only where there is none
+-- the call is refused for exactly this fault, and want of memory comes only if there is none
 abbrev pub IsRefusedFor : {T : Type 0} → Result T StrFault → Option StrFault → Type 0
 IsRefusedFor (Ok x) fault = fault ≡ None
 IsRefusedFor (Err NotUtf8) fault = fault ≡ Some NotUtf8

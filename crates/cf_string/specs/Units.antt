@@ -33,12 +33,12 @@ replaced units at len other = take at units ++ other ++ drop (at + len) units
 abbrev pub StandsAt : List ℕ → List ℕ → ℕ → Type 0
 StandsAt units other i = (i + length other ≤ length units) × (take (length other) (drop i units) ≡ other)
 
--- i is the least place from `start` on where `other` stands
+-- the place i is the least from `start` on where `other` stands
 pub record IsFirstPlace (units other : List ℕ) (start i : ℕ) : Type 0 where
   pub after : start ≤ i
   pub stands : StandsAt units other i
   pub least : (k : ℕ) → start ≤ k → k < i → ¬ (StandsAt units other k)
 
--- `other` stands at no place from `start` on
+-- the units of `other` stand at no place from `start` on
 abbrev pub StandsNowhereFrom : List ℕ → List ℕ → ℕ → Type 0
 StandsNowhereFrom units other start = (k : ℕ) → start ≤ k → ¬ (StandsAt units other k)

@@ -17,11 +17,12 @@ is_digit b = is_in_range 48 57 b
 abbrev pub is_numeral : List ℕ → Bool
 is_numeral word = not (length word == 0) && list_all is_digit word
 
--- the number that digits write after those of n, and the number that they write
+-- the number that digits write after those of n
 abbrev pub decimal_from : ℕ → List ℕ → ℕ
 decimal_from n [] = n
 decimal_from n (b ∷ bs) = decimal_from (n * 10 + (b - 48)) bs
 
+-- the number that digits write
 abbrev pub decimal_value : List ℕ → ℕ
 decimal_value word = decimal_from 0 word
 
@@ -40,11 +41,12 @@ integer_of word =
     if slice_index word 0 == 45 then option_map (λ n. neg_ℤ (pos n)) (number_below (2 ^ 63 + 1) (drop 1 word))
     else option_map pos (number_below (2 ^ 63) word)
 
--- a HEX: - for no bytes, or an even number of hexadecimal digits
+-- the bytes that hexadecimal digits spell, two for each
 abbrev pub decoded : Result (List ℕ) FromHexError → Option (List ℕ)
 decoded (Ok bytes) = Some bytes
 decoded (Err e) = None
 
+-- the bytes of a HEX: - for none, or an even number of hexadecimal digits
 abbrev pub bytes_of : List ℕ → Option (List ℕ)
 bytes_of word = if bytes_eq word (codes "-") then Some [] else decoded (decode_of word)
 

@@ -42,13 +42,15 @@ abbrev pub total : (Touch → ℕ) → List Statement → ℕ
 total f [] = 0
 total f (s ∷ ss) = f (touch_of s) + total f ss
 
--- how often statements bind a variable, and how many references they give to it and take from it
+-- how often statements bind a variable
 abbrev pub bound : ℕ → List Statement → ℕ
 bound v ss = total (bound_by v) ss
 
+-- how many references statements give to a variable
 abbrev pub given : ℕ → List Statement → ℕ
 given v ss = total (given_by v) ss
 
+-- how many references statements take from a variable
 abbrev pub taken : ℕ → List Statement → ℕ
 taken v ss = total (taken_by v) ss
 
@@ -63,6 +65,7 @@ may_touch earlier (Binds v) = bound v earlier == 0
 may_touch earlier (Plus v) = true
 may_touch earlier (Minus v) = true
 
+-- each of the variables that are used may be used
 abbrev pub may_use_all : List Statement → List ℕ → Bool
 may_use_all earlier [] = true
 may_use_all earlier (v ∷ vs) = may_use earlier v && may_use_all earlier vs

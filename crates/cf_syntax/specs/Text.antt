@@ -25,6 +25,7 @@ pub record Reading : Type 0 where
   pub blocks : List Block
   pub block : Option Opened
 
+-- what no line makes: no class and no block
 abbrev pub start : Reading
 start = record { count = 0; classes = []; blocks = []; block = None }
 

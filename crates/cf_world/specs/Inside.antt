@@ -8,7 +8,7 @@ use Rattle.cf_world.specs.Worlds.{WorldView}
 use Rattle.cf_world.specs.Running.{IsAt, IsReadyFor}
 use Rattle.cf_world.specs.declared.world.World.TheInside.{Inside}
 
--- what callers see of it
+-- what callers see of a world
 abbrev pub view_of : Inside → WorldView
 view_of w = record {
   script = w.script;
@@ -31,18 +31,19 @@ pub record IsEmpty (w : Inside) : Type 0 where
   pub work : w.frame.work.items ≡ []
   pub going : w.frame.is_done ≡ false
 
--- where there is room for the next action: it is of the one thread, there is room for work, and the deed of the next
+-- there is room for the next action: it is of the one thread, there is room for work, and the deed of the next
 -- statement is ready
 pub record IsRoomy (s : Script) (w : Inside) (t : ℕ) : Type 0 where
   pub thread : t ≡ 0
   pub work : vec_len w.frame.work + 2 ≤ vec_capacity w.frame.work
   pub ready : w.frame.work.items ≡ [] → IsReadyFor s w.store.bodies w.frame.table (slice_get (setup s) w.frame.number) w.store.ready w.store.room
 
+-- there is room for the next action of a thread, if room was made for one
 abbrev pub RoomFor : Script → Inside → Option ℕ → Type 0
 RoomFor s w None = Unit {0}
 RoomFor s w (Some t) = IsRoomy s w t
 
--- a world whose script has begun
+-- a world whose script has begun: its parts follow the state after its journal, and what was reserved is there
 pub record IsBegun (s : Script) (w : Inside) : Type 0 where
   pub at : IsAt s w.journal.items w.store.bodies w.frame.table (works w.frame.work.items) w.frame.number w.frame.is_done
   pub within : length w.journal.items ≤ w.limit
@@ -52,9 +53,11 @@ pub record IsBegun (s : Script) (w : Inside) : Type 0 where
   pub few : vec_len w.gained ≤ 2
   pub room : RoomFor s w w.room
 
+-- what the fields keep, by whether a script has begun
 abbrev pub IsWorldBy : Option Script → Inside → Type 0
 IsWorldBy None w = IsEmpty w
 IsWorldBy (Some s) w = IsBegun s w
 
+-- what the fields of a world keep
 abbrev pub IsWorld : Inside → Type 0
 IsWorld w = IsWorldBy w.script w

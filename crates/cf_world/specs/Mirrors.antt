@@ -23,14 +23,16 @@ pub record Mirrors (objects : List Object) (finalised dropped : List ℕ) (bodie
   pub live : (o : ℕ) → is_live_in bodies o ≡ (nat_lt o (length objects) && (times o finalised == 0))
   pub given_up : (o : ℕ) → given_up_in bodies o ≡ times o dropped
 
--- the objects of variables in a table
+-- the object of a variable in a table
 abbrev pub held_at : List (Option ℕ) → ℕ → Option ℕ
 held_at table v = slice_index_or table v None
 
+-- the object of a variable in a table, if there is a variable
 abbrev pub object_held : List (Option ℕ) → Option ℕ → Option ℕ
 object_held table None = None
 object_held table (Some v) = held_at table v
 
+-- the objects of the variables that a statement uses, by a table
 abbrev pub used_in : List (Option ℕ) → Statement → List (Option ℕ)
 used_in table x = map (object_held table) (padded (used_by x))
 
@@ -71,15 +73,18 @@ found_in bodies nowhere = None
 found_in bodies (fresh ob) = Some (length bodies)
 found_in bodies (there o) = if is_live_in bodies o then Some o else None
 
+-- the object that a touch is about: what is found for one that binds, and else the one that is used
 abbrev pub object_bound : List Held → Touch → Origin → Option ℕ → Option ℕ
 object_bound bodies Nothing origin used = None
 object_bound bodies (Binds v) origin used = found_in bodies origin
 object_bound bodies (Plus v) origin used = used
 object_bound bodies (Minus v) origin used = used
 
+-- the bodies after a statement: one is changed, and one more may be made
 abbrev pub bodies_after : List Held → Touch → Ready → List Held
 bodies_after bodies touch r = bodies_changed r.object r.deed.change bodies ++ map live (made_by touch r.deed.origin)
 
+-- the table after a touch: only one that binds writes a variable
 abbrev pub table_after : Touch → Option ℕ → List (Option ℕ) → List (Option ℕ)
 table_after Nothing object table = table
 table_after (Binds v) object table = slice_set table v object
@@ -93,7 +98,7 @@ BindsWithin (Binds v) = v < 256
 BindsWithin (Plus v) = Unit {0}
 BindsWithin (Minus v) = Unit {0}
 
--- what it gains: what is bound or retained, or what comes into a body
+-- what a statement gains: what is bound or retained, or what comes into a body
 abbrev pub gained_after : Touch → Option ℕ → List ℕ → List ℕ
 gained_after Nothing object took = took
 gained_after (Binds v) object took = present (object ∷ [])
@@ -102,14 +107,17 @@ gained_after (Minus v) object took = []
 
 -- ---- what a release does to the parts, by what it leaves
 
+-- a release that leaves no reference finalises the body
 abbrev pub retired_if : Ended → ℕ → List Held → List Held
 retired_if More o bodies = bodies
 retired_if Last o bodies = with_body body_retired o bodies
 
+-- the slots of a body that a release finalises come into the work
 abbrev pub waits_if : Ended → ℕ → List Work
 waits_if More o = []
 waits_if Last o = slots_of o ∷ []
 
+-- the answer of a release, by what it leaves
 abbrev pub answer_if : Ended → ℕ → Answer
 answer_if More class = answers.More
 answer_if Last class = answers.Final class
@@ -126,11 +134,12 @@ abbrev pub slot_action : ℕ → ℕ → List ℕ → Option Action
 slot_action b place [] = None
 slot_action b place (o ∷ os) = Some (actions.DropSlot b place o)
 
--- the first item of work, and the action that it demands, or behind all work the next statement
+-- the first item of work, if there is any
 abbrev pub first_work : List Work → Option Work
 first_work [] = None
 first_work (w ∷ work) = Some w
 
+-- the action that the first item of work demands, or after all work the next statement
 abbrev pub action_by : List Held → List (Option ℕ) → ℕ → Option Statement → Option Work → Option Action
 action_by bodies table number x None = Some (statement_action table number x)
 action_by bodies table number x (Some (release_of o)) = Some (actions.Owed o)

@@ -21,15 +21,16 @@ abbrev pub held_references : ℕ → Option ℕ → ℕ → List Reference
 held_references v None n = []
 held_references v (Some o) n = replicate n (reference 0 v o)
 
--- the same as callers see them
+-- a number of references from the thread to an object, as callers see them
 abbrev pub copies : Option ℕ → ℕ → List Edge
 copies None n = []
 copies (Some o) n = replicate n (edge_of (owed_reference 0 o))
 
--- the references of a variable, as many as counts say, and as many as it owns behind statements
+-- the references of a variable, as many as counts say
 abbrev pub counted_references : List (Option ℕ) → Counts → ℕ → List Reference
 counted_references table c v = held_references v (held_at table v) (slice_index c.given v - slice_index c.taken v)
 
+-- the references of a variable, as many as it owns after statements
 abbrev pub variable_references : List (Option ℕ) → List Statement → ℕ → List Reference
 variable_references table earlier v = held_references v (held_at table v) (given v earlier - taken v earlier)
 
@@ -37,12 +38,12 @@ variable_references table earlier v = held_references v (held_at table v) (given
 abbrev pub OwnsAll : List Statement → Type 0
 OwnsAll earlier = (v : ℕ) → taken v earlier ≤ given v earlier
 
--- those that the thread was given out
+-- the references that the thread was given out
 abbrev pub owed_references : List Item → List Reference
 owed_references [] = []
 owed_references (Release o ∷ ws) = owed_reference 0 o ∷ owed_references ws
 owed_references (Slots b ∷ ws) = owed_references ws
 
--- those in the slots that are left to a body
+-- the references in the slots that are left to a body
 abbrev pub slot_references : List Held → ℕ → List Reference
 slot_references bodies b = map (slot_reference b) (left_in bodies b)

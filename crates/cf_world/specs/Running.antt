@@ -41,31 +41,37 @@ CanTake bodies None = Unit {0}
 CanTake bodies (Some (release_of o)) = Unit {0}
 CanTake bodies (Some (slots_of b)) = (is_live_in bodies b ≡ false) × (0 < length (left_in bodies b))
 
+-- the bodies after the item is taken: a slot of a finalised one is given up
 abbrev pub bodies_taken : Option Work → List Held → List Held
 bodies_taken None bodies = bodies
 bodies_taken (Some (release_of o)) bodies = bodies
 bodies_taken (Some (slots_of b)) bodies = with_body body_dropped b bodies
 
+-- the work after the item is taken: a body stays in it, and a release goes
 abbrev pub work_taken : List Work → List Work
 work_taken [] = []
 work_taken (release_of o ∷ work) = work
 work_taken (slots_of b ∷ work) = slots_of b ∷ work
 
+-- the number of the next statement after the item is taken: without work it is the one after
 abbrev pub number_taken : Option Work → ℕ → ℕ
 number_taken None number = number + 1
 number_taken (Some w) number = number
 
 -- ---- what the thread does next
 
+-- the next action makes an object: there is no work, and the statement is of such a form
 abbrev pub makes_by : Option Statement → Option Work → Bool
 makes_by None first = false
 makes_by (Some x) None = makes_object x
 makes_by (Some x) (Some w) = false
 
+-- what a thread does that is not done: it is at the limit, full, or acts
 abbrev pub next_within : List Held → Bool → Bool → Option Action → Next
 next_within bodies going making None = Done
 next_within bodies going making (Some a) = if not going then Limit else (if making && nat_le 65536 (length bodies) then Full else Act a)
 
+-- what a thread does next, by the parts
 abbrev pub next_for : List Held → List (Option ℕ) → ℕ → Bool → Option Statement → Option Work → Bool → Next
 next_for bodies table number is_done x first going =
     if is_done then Done else next_within bodies going (makes_by x first) (action_by bodies table number x first)

@@ -13,10 +13,12 @@ use Rattle.cf_world.specs.declared.work.Item.{Item}
 use Rattle.cf_world.specs.declared.work.Item.TheVariants.{Release, Slots}
 use Rattle.cf_world.specs.Mirrors.{trimmed_by, object_bound, bodies_after, table_after, gained_after, statement_action}
 
+-- an item of work, as the definitions have it
 abbrev pub work_item : Item → Work
 work_item (Release o) = release_of o
 work_item (Slots b) = slots_of b
 
+-- the work, the first item first
 abbrev pub works : List Item → List Work
 works [] = []
 works (w ∷ ws) = works ws ++ work_item w ∷ []

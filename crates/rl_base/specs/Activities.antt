@@ -16,10 +16,12 @@ pub data ObserverCall : Type 0 where
   observer_made : (o mask : ℕ) (repeats : Bool) (order : ℤ) → ObserverCall
   observer_invalidated : ℕ → ObserverCall
 
+-- a call makes this observer
 abbrev pub makes_observer : ℕ → ObserverCall → Bool
 makes_observer o (observer_made n mask repeats order) = n == o
 makes_observer o _ = false
 
+-- a call invalidates this observer
 abbrev pub invalidates_observer : ℕ → ObserverCall → Bool
 invalidates_observer o (observer_invalidated n) = n == o
 invalidates_observer o _ = false
@@ -34,10 +36,11 @@ is_valid_observer calls o = holds_since (makes_observer o) (invalidates_observer
 abbrev pub observer_at : List ObserverState → ℕ → Option ObserverState
 observer_at observers o = kept_at (λ x. x.number) o observers
 
--- the bit of o, and whether it is called again and again; both false where o is no observer
+-- the bit that says that an observer is valid; false if there is none of this number
 abbrev pub observer_bit : List ObserverState → ℕ → Bool
 observer_bit observers o = option_map_or (λ x. x.valid) (observer_at observers o) false
 
+-- an observer is called again and again; false if there is none of this number
 abbrev pub repeats_bit : List ObserverState → ℕ → Bool
 repeats_bit observers o = option_map_or (λ x. x.repeats) (observer_at observers o) false
 
@@ -56,7 +59,7 @@ abbrev pub is_accepted_observer : List ObserverState → ObserverCall → Bool
 is_accepted_observer observers (observer_made o mask repeats order) = not (is_some (observer_at observers o))
 is_accepted_observer observers (observer_invalidated o) = observer_bit observers o
 
--- each of these calls is accepted after those before it, where nothing was made before
+-- each of these calls is accepted after those before it, if nothing was made before
 abbrev pub AreAcceptedObservers : List ObserverCall → Type 0
 AreAcceptedObservers calls = AllAccepted is_accepted_observer observers_with [] calls
 
@@ -64,15 +67,17 @@ AreAcceptedObservers calls = AllAccepted is_accepted_observer observers_with [] 
 abbrev pub observers_after : List ObserverCall → List ObserverState
 observers_after calls = fold observers_with [] calls
 
--- the accepted ones of any calls, and the observers after these calls, where a refused one changes nothing
+-- the accepted ones of any calls
 abbrev pub accepted_observer_calls : List ObserverCall → List ObserverCall
 accepted_observer_calls calls = accepted_of is_accepted_observer observers_with [] calls
 
+-- the observers after any calls, of which a refused one changes nothing
 abbrev pub observers_left : List ObserverCall → List ObserverState
 observers_left calls = fold (left_by is_accepted_observer observers_with) [] calls
 
 -- ---- what a loop calls
 
+-- the order of an observer among those that a loop calls
 abbrev pub observer_order : List ObserverState → ℕ → ℤ
 observer_order observers o = option_map_or (λ x. x.order) (observer_at observers o) (pos 0)
 

@@ -9,7 +9,7 @@ pub record IsDateAfter (first interval now date : ℕ) : Type 0 where
   pub above : now < date
   pub least : (k : ℕ) → now < first + k * interval → date ≤ first + k * interval
 
--- the date of a timer after a call at the time now. It has none where it does not repeat, or where the next one
+-- the date of a timer after a call at the time now. It has none if it does not repeat, or if the next one
 -- passes 2^64 - 1
 abbrev pub date_after : (first interval now : ℕ) → Option ℕ
 date_after first interval now =

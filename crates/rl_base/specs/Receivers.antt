@@ -4,7 +4,7 @@ use Rattle.std.specs.Prelude.{ℕ, ◌==◌, Bool, true, false, ◌&&◌, List, 
 use Rattle.std.specs.List.{range_with_len}
 use Rattle.rl_base.specs.declared.registrations.Registration.{Registration}
 
--- whether a wanted number takes a given one. Where none is wanted, any is taken, also that none is given; where one is
+-- whether a wanted number takes a given one. If none is wanted, any is taken, also that none is given; if one is
 -- wanted, that none is given is not taken
 abbrev pub takes : (wanted given : Option ℕ) → Bool
 takes None given = true

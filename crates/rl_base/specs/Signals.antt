@@ -17,18 +17,22 @@ pub data Call : Type 0 where
   called_out : ℕ → Call
   invalidated : ℕ → Call
 
+-- a call makes this source
 abbrev pub makes : ℕ → Call → Bool
 makes s (made n order) = n == s
 makes s _ = false
 
+-- a call signals this source
 abbrev pub signals : ℕ → Call → Bool
 signals s (signalled n) = n == s
 signals s _ = false
 
+-- a call begins the callout of this source
 abbrev pub calls_out : ℕ → Call → Bool
 calls_out s (called_out n) = n == s
 calls_out s _ = false
 
+-- a call invalidates this source
 abbrev pub invalidates : ℕ → Call → Bool
 invalidates s (invalidated n) = n == s
 invalidates s _ = false
@@ -47,10 +51,11 @@ is_signalled calls s = holds_since (signals s) (calls_out s) calls
 abbrev pub source_at : List SourceState → ℕ → Option SourceState
 source_at sources s = kept_at (λ x. x.number) s sources
 
--- the bits of s, both false where s is no source
+-- the bit that says that a source is valid; false if there is none of this number
 abbrev pub valid_bit : List SourceState → ℕ → Bool
 valid_bit sources s = option_map_or (λ x. x.valid) (source_at sources s) false
 
+-- the bit that says that a source is signalled; false if there is none of this number
 abbrev pub signal_bit : List SourceState → ℕ → Bool
 signal_bit sources s = option_map_or (λ x. x.signalled) (source_at sources s) false
 
@@ -70,7 +75,7 @@ is_accepted sources (signalled s) = valid_bit sources s
 is_accepted sources (called_out s) = valid_bit sources s && signal_bit sources s
 is_accepted sources (invalidated s) = valid_bit sources s
 
--- each of these calls is accepted after those before it, where nothing was made before
+-- each of these calls is accepted after those before it, if nothing was made before
 abbrev pub AreAccepted : List Call → Type 0
 AreAccepted calls = AllAccepted is_accepted sources_with [] calls
 
@@ -78,15 +83,17 @@ AreAccepted calls = AllAccepted is_accepted sources_with [] calls
 abbrev pub sources_after : List Call → List SourceState
 sources_after calls = fold sources_with [] calls
 
--- the accepted ones of any calls, and the sources after these calls, where a refused one changes nothing
+-- the accepted ones of any calls
 abbrev pub accepted_calls : List Call → List Call
 accepted_calls calls = accepted_of is_accepted sources_with [] calls
 
+-- the sources after any calls, of which a refused one changes nothing
 abbrev pub sources_left : List Call → List SourceState
 sources_left calls = fold (left_by is_accepted sources_with) [] calls
 
 -- ---- what a loop calls
 
+-- the order of a source among those that a loop calls
 abbrev pub order_of : List SourceState → ℕ → ℤ
 order_of sources s = option_map_or (λ x. x.order) (source_at sources s) (pos 0)
 

@@ -30,7 +30,7 @@ pub record IsRange (r : ℕ) (ps : List Place) (start end : ℕ) : Type 0 where
   pub from : IsCut (λ p. nat_lt (rank p) r) ps start
   pub to : IsCut (λ p. nat_lt (rank p) (r + 1)) ps end
 
--- a comes before b by a first key, and where these are equal by a second
+-- one comes before another by a first key, and if these are equal by a second
 pub record Precedes {A : Type 0} (first second : A → ℕ) (a b : A) : Type 0 where
   pub firsts : first a ≤ first b
   pub seconds : first a ≡ first b → second a < second b
@@ -40,10 +40,11 @@ pub record IsOrdered (held : List Holding) : Type 0 where
   pub in_order : AllPairs (Precedes (λ h. rank h.place) (λ h. h.item.id)) held
   pub below : All (λ h. rank h.place ≤ 1024) held
 
--- whether a seat stands before that of this item in this place, and whether it is that one
+-- whether a seat stands before that of this item in this place
 abbrev pub sits_before : ℕ → Place → Seat → Bool
 sits_before i p s = nat_lt s.item i || ((s.item == i) && nat_lt (rank s.place) (rank p))
 
+-- whether a seat is that of this item in this place
 abbrev pub is_seat : ℕ → Place → Seat → Bool
 is_seat i p s = (s.item == i) && (rank s.place == rank p)
 
@@ -51,10 +52,11 @@ is_seat i p s = (s.item == i) && (rank s.place == rank p)
 abbrev pub places_marked : {A : Type 0} → (A → ℕ) → (A → Place) → ℕ → List A → List Place
 places_marked mark place i xs = map place (filter (λ x. mark x == i) xs)
 
--- the places of an item, among holdings and among seats
+-- the places of an item, among holdings
 abbrev pub places_held : ℕ → List Holding → List Place
 places_held = places_marked (λ h. h.item.id) (λ h. h.place)
 
+-- the places of an item, among seats
 abbrev pub places_seated : ℕ → List Seat → List Place
 places_seated = places_marked (λ s. s.item) (λ s. s.place)
 
@@ -91,11 +93,11 @@ pub record HasRoom {Y : Type 0} (places : Vec Place Y) (items : Vec Item Y) (sea
 
 -- ---- the modes
 
--- the holdings with a further one where it is not there yet
+-- the holdings with a further one if it is not there yet
 abbrev pub entered : Holding → List Holding → List Holding
 entered new held = if holds_at held new.item.id new.place then held else with_one new held
 
--- the holdings with further ones, each where it is not there yet
+-- the holdings with further ones, each if it is not there yet
 abbrev pub with_new : List Holding → List Holding → List Holding
 with_new [] held = held
 with_new (new ∷ news) held = with_new news (entered new held)

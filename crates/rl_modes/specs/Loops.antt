@@ -54,10 +54,11 @@ abbrev pub with_these : List Holding → List Holding → List Holding
 with_these [] held = held
 with_these (new ∷ news) held = with_these news (with_one new held)
 
--- an item in each of these places, and each of these items in a place
+-- an item in each of these places
 abbrev pub in_each : Item → List Place → List Holding
 in_each i = map (λ p. record { place = p; item = i })
 
+-- each of these items in a place
 abbrev pub each_in : Place → List Item → List Holding
 each_in p = map (λ i. record { place = p; item = i })
 

@@ -6,7 +6,7 @@ use Rattle.cf_ids.specs.declared.numbers.Item.{Item}
 use Rattle.rl_base.specs.Dates.{date_after, has_come, least_date}
 use Rattle.rl_base.specs.Ranks.{sorted_by}
 
--- a timer: its number, its first date, its interval, which is 0 where it does not repeat, the date that it has now,
+-- a timer: its number, its first date, its interval, which is 0 if it does not repeat, the date that it has now,
 -- and whether it is valid
 pub record Timer : Type 0 where
   pub number : ℕ

@@ -39,7 +39,7 @@ pub record Row : Type 0 where
 abbrev pub row : Phase → Phase → Row
 row phase next = record { phase = phase; next = λ _. next }
 
--- a row with two next phases: the first where the test says so
+-- a row with two next phases: the first if the test says so
 abbrev pub fork : Phase → (TurnFacts → Bool) → Phase → Phase → Row
 fork phase test first second = record { phase = phase; next = λ f. if test f then first else second }
 

@@ -36,14 +36,14 @@ impl<E> Array<E> {
         }
     }
 
-    /// Makes room for at least `more` further elements. `NoMemory` comes only where the room was less, and changes
+    /// Makes room for at least `more` further elements. `NoMemory` comes only if the room was less, and changes
     /// nothing.
     pub fn reserve(&mut self, more: usize) -> Result<(), NoMemory>
         ensures items { self.new.items ≡ self.old.items }
         ensures room { OnOk result (more ≤ self.new.room) }
         ensures kept { self.old.room ≤ self.new.room }
 
-        // It can be refused only where the room was missing.
+        // It can be refused only if the room was missing.
         ensures enough { more ≤ self.old.room → IsOk result }
         ensures err { OnErr result (self.new ≡ self.old) }
     {
@@ -57,7 +57,7 @@ impl<E> Array<E> {
         self.items.len()
     }
 
-    /// The element at a place, or `None` where the place is not below the length.
+    /// The element at a place, or `None` if the place is not below the length.
     pub fn get(&self, i: usize) -> Option<&E>
         ensures { option_copied result ≡ slice_get self.now.items i }
     {
@@ -73,8 +73,8 @@ impl<E> Array<E> {
         self.items.push_reserved(e);
     }
 
-    /// Puts `e` before the element at `i`, or after the last one where `i` is the length, in the room that is there,
-    /// which becomes less by 1. `Range` comes exactly where `i` is above the length; then nothing changes, and `e`
+    /// Puts `e` before the element at `i`, or after the last one if `i` is the length, in the room that is there,
+    /// which becomes less by 1. `Range` comes exactly if `i` is above the length; then nothing changes, and `e`
     /// comes back.
     pub fn insert(&mut self, i: usize, e: E) -> Result<(), (Range, E)>
         requires { 0 < self.old.room }
@@ -92,8 +92,8 @@ impl<E> Array<E> {
         Ok(())
     }
 
-    /// Puts `e` in place of the element at `i` and gives that one back, or after the last one where `i` is the length:
-    /// only then the room becomes less by 1. `Range` comes exactly where `i` is above the length; then nothing changes,
+    /// Puts `e` in place of the element at `i` and gives that one back, or after the last one if `i` is the length:
+    /// only then the room becomes less by 1. `Range` comes exactly if `i` is above the length; then nothing changes,
     /// and `e` comes back.
     pub fn set(&mut self, i: usize, e: E) -> Result<Option<E>, (Range, E)>
         requires { 0 < self.old.room }

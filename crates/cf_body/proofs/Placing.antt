@@ -19,7 +19,7 @@ none_read [] i none = refl
 none_read (x ∷ xs) zero none = absurd cc
 none_read (x ∷ xs) (suc i) none = none_read xs i none
 
--- one item in place of another, and behind the last one
+-- one item in place of another, and after the last one
 set_spliced : {A : Type 0} (xs : List A) (at : ℕ) (x : A) → at < length xs → slice_set xs at x ≡ splice xs at (suc at) (x ∷ [])
 set_spliced [] at x within = absurd (omega arith)
 set_spliced (y ∷ ys) zero x within = refl

@@ -39,7 +39,7 @@ some_left units at within =
 none_left : (units : List ℕ) (at : ℕ) → length units ≤ at → utf16_lossy_chars (drop at units) ≡ []
 none_left units at past = ap (map (λ o. unwrap_or o 0xFFFD)) (utf16_chars-drop_all units at past)
 
--- so many characters of a text are written behind what stood there, and the units before a place are theirs
+-- so many characters of a text are written after what stood there, and the units before a place are theirs
 pub record Written (units before now : List ℕ) (at count : ℕ) : Type 0 where
   pub shown : now ≡ before ++ flat_map shown_char (take count (utf16_lossy_chars units))
   pub left : utf16_lossy_chars (drop at units) ≡ drop count (utf16_lossy_chars units)

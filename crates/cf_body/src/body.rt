@@ -15,7 +15,9 @@ use std::marker::Model;
 /// The key and the fields of an instance of a script's class.
 #[derive(Drop)]
 pub struct Instance {
+    /// The key that it was made with.
     pub key: i64,
+    /// The object in each field, as many as its class has; at most 255.
     pub fields: Vec<Option<ObjId>>,
 }
 

@@ -11,6 +11,7 @@ use cf_types::Cell;
 /// What becomes of the first object that a statement uses.
 #[derive(Drop)]
 pub enum Change {
+    /// Nothing becomes of it.
     Nothing,
     /// A text in place of the `len` units from `at` on.
     Text { at: usize, len: usize, text: Str },
@@ -49,7 +50,9 @@ impl Change {
 /// The objects that came into a body and went out of it, in order.
 #[derive(Drop)]
 pub struct Moved {
+    /// What came in: up to two objects, the key of a pair before its value.
     pub took: [Option<ObjId>; 2],
+    /// What went out: up to two objects, the key of a pair before its value.
     pub gave: [Option<ObjId>; 2],
 }
 

@@ -16,7 +16,8 @@ use std::alloc::{AllocError as NoMemory, Global};
 /// The most characters of a text, or bytes of data, that are shown.
 const SHOWN: usize = 32;
 
-/// The description of an object: the name of its type, and what it contains.
+/// The description of an object: the name of its type, and what it contains. `NoMemory` comes for want of memory
+/// alone.
 pub fn describe(alloc: Global, classes: &[ClassLine], body: &Body) -> Result<Vec<u8>, NoMemory>
     ensures { IfOk result (λ d. d.items ≡ description classes.now (object_in body.now)) }
 {
@@ -66,7 +67,7 @@ fn push_text(out: &mut Vec<u8>, text: &Str) -> Result<(), NoMemory>
     push_more(out, end < text.length())
 }
 
-/// Writes the first 32 characters of a text, and tells the place behind them.
+/// Writes the first 32 characters of a text, and tells the place after them.
 fn push_characters(out: &mut Vec<u8>, text: &Str) -> Result<usize, NoMemory>
     ensures written { OnOk result (out.new.items
         ≡ out.old.items ++ flat_map shown_char (take 32 (characters_of text.now.units))) }

@@ -11,7 +11,7 @@ use cf_syntax::ClassLine;
 use cf_types::{Cell, Form, Leaf};
 use std::alloc::{AllocError as NoMemory, Global};
 
-/// An object as the key of a pair, with what it is compared by.
+/// An object as the key of a pair, with what it is compared by. `NoMemory` comes for want of memory alone.
 pub fn key_of(
     alloc: Global,
     classes: &[ClassLine],

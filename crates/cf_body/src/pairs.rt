@@ -52,7 +52,7 @@ impl Pairs {
         }
     }
 
-    /// Makes room for at least `more` further pairs.
+    /// Makes room for at least `more` further pairs. `NoMemory` comes only if the room was less, and changes nothing.
     pub fn reserve(&mut self, more: usize) -> Result<(), NoMemory>
         ensures plain { self.new.plain ≡ self.old.plain }
         ensures items { self.new.items ≡ self.old.items }

@@ -48,6 +48,6 @@ pub trait Callbacks<E> {
     /// The order is total.
     ghost total: { (c : Self) → IsTotalOrder (rank c) };
 
-    /// The order answers `Equal` exactly where the elements are equal.
+    /// The order answers `Equal` exactly if the elements are equal.
     ghost equal_ranks: { (c : Self) (a b : E) → same c a b ≡ eq_by_cmp (rank c) a b };
 }

@@ -1,4 +1,4 @@
-//! Elements that are equal where their keys are, and their callbacks.
+//! Elements that are equal if their keys are, and their callbacks.
 ghost use Rattle.std.specs.Prelude.{◌≡◌, ◌<◌, true, nat_eq};
 ghost use Rattle.std.specs.Ordering.{nat_cmp, on};
 ghost use Rattle.std.specs.Cmp.{nat_eq_equiv, nat_cmp_total, on_equiv, on_total};
@@ -10,7 +10,7 @@ use std::cmp::Ordering;
 use std::marker::Brand;
 use std::sync::ledger::{Blank, Ledger};
 
-/// Coins are equal where their keys are, and their numbers tell them apart.
+/// Coins are equal if their keys are, and their numbers tell them apart.
 #[derive(Clone, Copy)]
 pub struct Coin {
     pub number: u8,

@@ -33,7 +33,7 @@ present-empty (suc n) = present-empty n
 -- ---- edits of lists, by a number that is additive
 
 module _ {A : Type 0} (f : List A → ℕ) (adds : (xs ys : List A) → f (xs ++ ys) ≡ f xs + f ys) where
-  -- a list in three parts: before an edit, what it takes out, and behind it
+  -- a list in three parts: before an edit, what it takes out, and after it
   in_parts : (xs : List A) (at out : ℕ) → xs ≡ take at xs ++ (take out (drop at xs) ++ drop (at + out) xs)
   in_parts xs at out =
       sym (take-append-drop at xs) ∙ ap (λ (ps : List A). take at xs ++ ps) (sym (take-append-drop out (drop at xs)) ∙ ap (λ (ps : List A). take out (drop at xs) ++ ps) (drop-drop out at xs))

@@ -35,14 +35,14 @@ impl Bytes {
         }
     }
 
-    /// Makes room for at least `more` further bytes. `NoMemory` comes only where the room was less, and changes
+    /// Makes room for at least `more` further bytes. `NoMemory` comes only if the room was less, and changes
     /// nothing.
     pub fn reserve(&mut self, more: usize) -> Result<(), NoMemory>
         ensures items { self.new.items ≡ self.old.items }
         ensures room { OnOk result (more ≤ self.new.room) }
         ensures kept { self.old.room ≤ self.new.room }
 
-        // It can be refused only where the room was missing.
+        // It can be refused only if the room was missing.
         ensures enough { more ≤ self.old.room → IsOk result }
         ensures err { OnErr result (self.new ≡ self.old) }
     {
@@ -83,7 +83,7 @@ impl Bytes {
     }
 
     /// Puts `b` in place of the `len` bytes from `at` on, in the room that is there, which becomes more by `len` and
-    /// less by the length of `b`. `Range` comes exactly where these do not lie within the bytes, and then nothing
+    /// less by the length of `b`. `Range` comes exactly if these do not lie within the bytes, and then nothing
     /// changes.
     pub fn replace(&mut self, at: usize, len: usize, b: &[u8]) -> Result<(), Range>
         requires { length b.now ≤ self.old.room }
@@ -97,7 +97,7 @@ impl Bytes {
         Ok(())
     }
 
-    /// Takes out the `len` bytes from `at` on; the room becomes more by `len`. `Range` comes exactly where these do not
+    /// Takes out the `len` bytes from `at` on; the room becomes more by `len`. `Range` comes exactly if these do not
     /// lie within the bytes, and then nothing changes.
     pub fn delete(&mut self, at: usize, len: usize) -> Result<(), Range>
         ensures within { IsOk result ↔ (at + len ≤ length self.old.items) }

@@ -49,7 +49,7 @@ impl<E, C: Callbacks<E>> Dict<E, C> {
         }
     }
 
-    /// Makes room for at least `more` further pairs. `NoMemory` comes only where the room was less, and changes
+    /// Makes room for at least `more` further pairs. `NoMemory` comes only if the room was less, and changes
     /// nothing.
     pub fn reserve(&mut self, more: usize) -> Result<(), NoMemory>
         ensures rows { self.new.rows ≡ self.old.rows }
@@ -57,7 +57,7 @@ impl<E, C: Callbacks<E>> Dict<E, C> {
         ensures room { OnOk result (more ≤ self.new.room) }
         ensures kept { self.old.room ≤ self.new.room }
 
-        // It can be refused only where the room was missing.
+        // It can be refused only if the room was missing.
         ensures enough { more ≤ self.old.room → IsOk result }
         ensures err { OnErr result (self.new ≡ self.old) }
     {
@@ -72,14 +72,14 @@ impl<E, C: Callbacks<E>> Dict<E, C> {
         self.rows.count()
     }
 
-    /// The pair at a place in order of insertion, or `None` where the place is not below the count.
+    /// The pair at a place in order of insertion, or `None` if the place is not below the count.
     pub fn row(&self, i: usize) -> Option<(&E, &E)>
         ensures { option_map (λ row. (row.0.now, row.1.now)) result ≡ slice_get self.now.rows i }
     {
         self.rows.row(i)
     }
 
-    /// The value of the key that is equal to `k`, or `None` where there is none.
+    /// The value of the key that is equal to `k`, or `None` if there is none.
     pub fn get(&self, k: &E) -> Option<&E>
         ensures { option_copied result ≡ lookup (C.same self.now.callbacks k.now) self.now.rows }
     {
@@ -89,7 +89,7 @@ impl<E, C: Callbacks<E>> Dict<E, C> {
     }
 
     /// Adds a pair after the last one, in the room that is there, which becomes less by 1. Key and value come back
-    /// exactly where an equal key is present, and then nothing changes.
+    /// exactly if an equal key is present, and then nothing changes.
     pub fn add(&mut self, k: E, v: E) -> Result<(), (E, E)>
         requires { 0 < self.old.room }
         ensures absent { IsOk result ↔ IsNone (lookup (C.same self.old.callbacks k) self.old.rows) }
@@ -102,8 +102,8 @@ impl<E, C: Callbacks<E>> Dict<E, C> {
         self.rows.add(k, v)
     }
 
-    /// Lets `v` be the value of the key that is equal to `k`, or adds the pair where there is none. A key that is there
-    /// stays. The room becomes less by 1 where a pair is added, and else stays.
+    /// Lets `v` be the value of the key that is equal to `k`, or adds the pair if there is none. A key that is there
+    /// stays. The room becomes less by 1 if a pair is added, and else stays.
     pub fn set(&mut self, k: E, v: E) -> DictSet<E>
         requires { 0 < self.old.room }
         ensures answer { result ≡ set_answer k (lookup (C.same self.old.callbacks k) self.old.rows) }
@@ -124,7 +124,7 @@ impl<E, C: Callbacks<E>> Dict<E, C> {
         }
     }
 
-    /// Lets `v` be the value of the key that is equal to `k` and gives the value before, or gives `v` back where there
+    /// Lets `v` be the value of the key that is equal to `k` and gives the value before, or gives `v` back if there
     /// is none. The room stays.
     pub fn replace(&mut self, k: &E, v: E) -> Result<E, E>
         ensures answer { result ≡ ok_or (lookup (C.same self.old.callbacks k.now) self.old.rows) v }
@@ -138,7 +138,7 @@ impl<E, C: Callbacks<E>> Dict<E, C> {
     }
 
     /// Takes out the pair whose key is equal to `k`, and those after it move down; the room becomes more by 1. `None`
-    /// comes exactly where there is none, and then nothing changes.
+    /// comes exactly if there is none, and then nothing changes.
     pub fn remove(&mut self, k: &E) -> Option<(E, E)>
         ensures answer { result ≡ lookup_entry (C.same self.old.callbacks k.now) self.old.rows }
         ensures rows { self.new.rows ≡ remove_entry (C.same self.old.callbacks k.now) self.old.rows }

@@ -49,7 +49,7 @@ pub enum Answer {
     Woken,
     /// A sleep found something due.
     Due,
-    /// A sleep begins. Its date, where it has one, is not written.
+    /// A sleep begins. Its date, if it has one, is not written.
     Asleep(Option<u64>),
     /// A run of a run loop goes on with another turn.
     Again,

@@ -33,7 +33,7 @@ pub const OBJECTS: usize = 65_536;
 /// Objects have numbers below this: those that a run makes, and after them up to 1,024 constants of a script.
 pub const OBJECT_NUMBERS: usize = 66_560;
 
-/// The most entries of a journal where the command names no limit.
+/// The most entries of a journal if the command names no limit.
 pub const DEFAULT_LIMIT: usize = 1_000_000;
 
 /// The largest limit that a command may name.

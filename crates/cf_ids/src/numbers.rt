@@ -150,14 +150,19 @@ impl Model for NameId {
 /// What a run-loop item is.
 #[derive(Clone, Copy, Debug, PartialEq, Eq)]
 pub enum ItemKind {
+    /// A source, which is called after it was signalled.
     Source,
+    /// A timer, which is called at its dates.
     Timer,
+    /// An observer, which is told of activities. It keeps no mode from being empty.
     Observer,
 }
 
 /// An object that a run loop's modes hold.
 #[derive(Clone, Copy, Debug, PartialEq, Eq)]
 pub struct Item {
+    /// The number of its object.
     pub id: ObjId,
+    /// What it is.
     pub kind: ItemKind,
 }

@@ -1,4 +1,4 @@
-// A sink in memory.
+//! A sink in memory.
 ghost use Rattle.std.specs.Prelude.{◌≡◌, ◌<◌, ◌++◌, [], Some, length, take, min, Contains, IfOk, OnErr, IsErr};
 ghost use Rattle.cf_fault.specs.Fault.{HasCause};
 ghost use Rattle.cf_io.specs.Memory.{after_call};
@@ -9,8 +9,8 @@ use crate::{Failed, Sink};
 use std::alloc::Global;
 use std::marker::Model;
 
-/// Bytes in memory. It tells what it has taken; calls of `write`, counted from 0, fail where they are listed, and
-/// where its memory cannot grow.
+/// Bytes in memory. It tells what it has taken; calls of `write`, counted from 0, fail if they are listed, and
+/// if its memory cannot grow.
 #[derive(Drop)]
 pub struct MemSink {
     bytes: Vec<u8>,

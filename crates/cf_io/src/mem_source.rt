@@ -1,4 +1,4 @@
-// A source in memory.
+//! A source in memory.
 ghost use Rattle.std.specs.Prelude.{◌≡◌, ◌<◌, ◌≤◌, ◌+◌, ◌^◌, ◌++◌, ◌↔◌, ◌⊎◌, [], Some, None, length, take, drop, position, min, Contains, IfOk, OnOk, OnErr, IsErr};
 ghost use Rattle.cf_fault.specs.Fault.{HasCause};
 ghost use Rattle.cf_io.specs.Files.{content_of};
@@ -21,7 +21,7 @@ pub struct MemFile {
     pub bytes: Vec<u8>,
 }
 
-/// Files in memory. It tells their contents; calls of `open` and `read`, counted together from 0, fail where they are
+/// Files in memory. It tells their contents; calls of `open` and `read`, counted together from 0, fail if they are
 /// listed, and so does an `open` of a name that is missing.
 #[derive(Drop)]
 pub struct MemSource {

@@ -1,4 +1,4 @@
-// A real file and the standard output, which tell nothing of their bytes.
+//! A real file and the standard output, which tell nothing of their bytes.
 ghost use Rattle.std.specs.Prelude.{◌≡◌, None};
 
 use crate::{Failed, Sink, Source};

@@ -1,4 +1,4 @@
-// Which calls of an object in memory fail.
+//! Which calls of an object in memory fail.
 ghost use Rattle.std.specs.Prelude.{◌≡◌, ◌≤◌, ◌↔◌, ◌+◌, ◌-◌, ◌^◌, min, Contains, IsErr};
 ghost use Rattle.cf_fault.specs.Fault.{HasCause, HasRisen};
 ghost use Rattle.cf_io.specs.Faults.{faults_after};

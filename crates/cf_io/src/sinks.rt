@@ -1,4 +1,4 @@
-// What is written.
+//! What is written.
 ghost use Rattle.std.specs.Prelude.{◌≡◌, ◌<◌, ◌≤◌, ℕ, List, length, take, Option, IfOk, OnErr};
 ghost use Rattle.cf_fault.specs.Fault.{HasCause};
 ghost use Rattle.cf_io.specs.Bytes.{then_bytes};
@@ -7,7 +7,7 @@ use crate::Failed;
 
 /// A stream that takes bytes.
 pub trait Sink {
-    /// The bytes that it has taken, where it tells them.
+    /// The bytes that it has taken, if it tells them.
     ghost taken: { Self → Option (List ℕ) };
 
     /// How many faults it has counted.

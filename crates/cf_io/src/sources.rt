@@ -1,4 +1,4 @@
-// What is read.
+//! What is read.
 ghost use Rattle.std.specs.Prelude.{◌≡◌, ◌<◌, ◌≤◌, ℕ, List, [], length, take, Option, IfOk, OnOk, OnErr};
 ghost use Rattle.cf_fault.specs.Fault.{HasCause};
 ghost use Rattle.cf_io.specs.Bytes.{bytes_then, IsAtEnd};
@@ -10,10 +10,10 @@ pub struct Failed;
 
 /// Files that are opened by name and read in pieces, one at a time.
 pub trait Source {
-    /// The contents of its files by name, where it tells them.
+    /// The contents of its files by name, if it tells them.
     ghost files: { Self → Option (List File) };
 
-    /// The bytes of the open file that are not yet read, where it tells them.
+    /// The bytes of the open file that are not yet read, if it tells them.
     ghost left: { Self → Option (List ℕ) };
 
     /// How many faults it has counted.

@@ -1,4 +1,4 @@
-// A whole file in, and a whole text out.
+//! A whole file in, and a whole text out.
 ghost use Rattle.std.specs.Prelude.{◌≡◌, ◌<◌, ◌≤◌, ◌+◌, length, take, IfOk, OnOk, IfErr, IfSome, IsErrOf, IsTrue, vec_len, MatchBool};
 ghost use Rattle.cf_fault.specs.Fault.{HasRisen, HasCause};
 ghost use Rattle.cf_io.specs.Bytes.{bytes_then, then_bytes, HasGiven, IsAtEnd};
@@ -32,8 +32,8 @@ pub struct WriteFault {
     pub out: usize,
 }
 
-/// The bytes of the open file to its end, where they are not more than `limit` bytes. `TooLong` comes only where there
-/// are more, `ReadFault` only where the source has counted a fault and had given at most `limit` bytes by then, and
+/// The bytes of the open file to its end, if they are not more than `limit` bytes. `TooLong` comes only if there
+/// are more, `ReadFault` only if the source has counted a fault and had given at most `limit` bytes by then, and
 /// `NoMemory` for want of memory, at any length.
 pub fn read_all<S: Source>(alloc: Global, source: &mut S, limit: usize) -> Result<Vec<u8>, ReadAll>
     ensures whole { IfOk result (λ all. IfSome (S.left source.old) (λ bytes. all.items ≡ bytes)) }
@@ -85,7 +85,7 @@ fn read_piece<S: Source>(
     Ok(count > 0)
 }
 
-/// Writes all the bytes, or else says how many of them the sink has taken, which are not all. It fails only where the
+/// Writes all the bytes, or else says how many of them the sink has taken, which are not all. It fails only if the
 /// sink has counted a fault.
 pub fn write_all<K: Sink>(sink: &mut K, bytes: &[u8]) -> Result<(), WriteFault>
     ensures ok { OnOk result (K.taken sink.new ≡ then_bytes (K.taken sink.old) bytes.now) }

@@ -6,7 +6,7 @@ use Rattle.std.proofs.lemmas.List.Sums.{position_or_len_is}
 use Rattle.std.specs.Option.{option_and_then}
 use Rattle.cf_links.specs.Lists.{is_in, node_before, put_before, put_after, without, nodes_of, list_of, prev_of}
 
--- an edit of each list, which leaves no nodes where there are none
+-- an edit of each list, which leaves no nodes if there are none
 pub nodes_of-map : (f : List ℕ → List ℕ) → f [] ≡ [] → (lists : List (List ℕ)) (l : ℕ)
     → nodes_of (map f lists) l ≡ f (nodes_of lists l)
 nodes_of-map f none [] l = sym none
@@ -21,7 +21,7 @@ made_from_in lists l n among =
       | inr past ↦ absurd (false≢true (rw (get_or_past lists l [] past) at among))
     ]
 
--- an edit at a node does nothing where that node is not
+-- an edit at a node does nothing if that node is not
 pub put_before_none : (at n : ℕ) (ns : List ℕ) → is_in at ns ≡ false → put_before at n ns ≡ ns
 put_before_none at n [] none = refl
 put_before_none at n (m ∷ ms) none =

@@ -45,8 +45,8 @@ impl<T> Links<T> {
         }
     }
 
-    /// Makes room for `more` further lists and as many further nodes. `NoMemory` comes only where one of the two rooms
-    /// was less. The room for nodes is made first, and it may have grown where the room for lists is refused.
+    /// Makes room for `more` further lists and as many further nodes. `NoMemory` comes only if one of the two rooms
+    /// was less. The room for nodes is made first, and it may have grown if the room for lists is refused.
     pub fn reserve(&mut self, more: usize) -> Result<(), NoMemory>
         // The lists and the values stay, whatever the result.
         ensures contents { self.new ≡ record self.old {
@@ -229,7 +229,7 @@ impl<T> Links<T> {
         self.nodes.get(n.0).map(|entry| &entry.value)
     }
 
-    /// Lets a node go that is in no list, and gives its value. `None` comes exactly where there is
+    /// Lets a node go that is in no list, and gives its value. `None` comes exactly if there is
     /// no such node or it is in a list.
     pub fn free(&mut self, n: Node) -> Option<T>
         ensures value { result ≡ loose_value self.old n }

@@ -162,7 +162,7 @@ entry_uses s st e o b some h =
     let binds = subst (BindsLive st) (sym h.answer) (action_live s e.thread st e.action b (legal_is_demanded s st e h.next).demand) in
     omega (arith, uses-append o (bound_in e.answer) (used_of e.action), bound_none st o e.answer some binds, uses_none st e.thread (named_of e.action) o (used_of e.action) some h.uses)
 
--- a legal journal in two parts: the first is legal, and so is the entry behind it
+-- a legal journal in two parts: the first is legal, and so is the entry after it
 legal_front : (s : Script) (st : State) (es : List Entry) (e : Entry) (fs : List Entry) → IsLegalFrom s st (es ++ e ∷ fs) → IsLegalFrom s st es × IsLegalEntry s (state_from s st es) e
 legal_front s st [] e fs h = (tt, h.0)
 legal_front s st (f ∷ es) e fs h = let r = legal_front s (effect s f.thread st f.action) es e fs h.1 in ((h.0, r.0), r.1)

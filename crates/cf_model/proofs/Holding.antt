@@ -21,7 +21,7 @@ use Rattle.cf_model.specs.Steps.{reference, operations_of, bindings_by}
 abbrev variable_of : Reference → ℕ
 variable_of r = (code_of r.holder).second
 
--- what is held by a thread's variables, behind statements: each holds references to its own object alone
+-- what is held by a thread's variables, after statements: each holds references to its own object alone
 pub record Holds (earlier : List Statement) (bindings : List Binding) (es : List Reference) : Type 0 where
   pub held : (v o : ℕ) → look v bindings ≡ Some o → weigh (one (reference 0 v o)) es + taken v earlier ≡ given v earlier
   pub unbound : (v : ℕ) → bound v earlier ≡ 0 → (given v earlier ≡ 0) × (taken v earlier ≡ 0) × (look v bindings ≡ None)
@@ -47,7 +47,7 @@ one_of_same v = ap counted (eq-eqb v v refl)
 one_of_zero : (v w : ℕ) → one_of v w ≡ 0 → v ≡ w → ⊥
 one_of_zero v w e h = grind (arith, nat_tests)
 
--- the sums behind one statement more
+-- the sums after one statement more
 sum_more : (f : Touch → ℕ) (earlier : List Statement) (x : Statement) (touch : Touch) → touch_of x ≡ touch → total f (earlier ++ x ∷ []) ≡ total f earlier + f touch
 sum_more f earlier x touch t = total_push f earlier x ∙ ap (λ (u : Touch). total f earlier + f u) t
 

@@ -46,7 +46,7 @@ take_next (y ∷ xs) (suc n) x e =
 statement_is : (x y : Statement) → ◌≡◌ {A = Option Statement} (Some x) (Some y) → x ≡ y
 statement_is x y e = cc
 
--- each statement of fit ones is fit behind those before it
+-- each statement of fit ones is fit after those before it
 pub fit_at : (earlier xs : List Statement) (n : ℕ) (x : Statement) → are_fit earlier xs ≡ true → slice_get xs n ≡ Some x → is_fit (earlier ++ take n xs) x ≡ true
 fit_at earlier [] n x h e = absurd cc
 fit_at earlier (y ∷ xs) zero x h e =

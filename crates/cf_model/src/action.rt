@@ -260,7 +260,10 @@ impl Action {
 /// An entry of a journal: one atomic step.
 #[derive(Drop)]
 pub struct Entry {
+    /// The thread that acted.
     pub thread: ThreadId,
+    /// What it did.
     pub action: Action,
+    /// What came of it.
     pub answer: Answer,
 }

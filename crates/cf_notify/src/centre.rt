@@ -129,7 +129,8 @@ impl Centre {
         }
     }
 
-    /// Makes room for at least `more` further registrations.
+    /// Makes room for at least `more` further registrations. `NoMemory` comes only if the room was less, and changes
+    /// nothing.
     pub fn reserve(&mut self, more: usize) -> Result<(), NoMemory>
         ensures made { self.new.made ≡ self.old.made }
         ensures room { OnOk result (more ≤ self.new.room) }

@@ -15,6 +15,6 @@ pub order_of_ranks : (a b : Number)
     → MatchOrdering (order_of a b) (a.value <ℤ b.value) (a.value ≡ b.value) (b.value <ℤ a.value)
 order_of_ranks a b = int_ranks a.value b.value
 
--- the answer is `Equal` exactly where the values are equal
+-- the answer is `Equal` exactly if the values are equal
 pub order_of-Equal : (a b : Number) → (order_of a b ≡ Equal) ↔ (a.value ≡ b.value)
 order_of-Equal a b = (λ e. int_ranked a.value b.value Equal (sym e), λ e. sym (int_cmp_is a.value b.value Equal e))

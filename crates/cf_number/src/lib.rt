@@ -1,5 +1,5 @@
 //! Whole numbers with a kind, after the CFNumber reference: a value in one of four signed widths,
-//! read back in any of them, with a refusal where the reading would lose the value.
+//! read back in any of them, with a refusal if the reading would lose the value.
 #![tactic(auto)]
 
 mod kinds;

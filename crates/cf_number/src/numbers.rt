@@ -37,7 +37,7 @@ impl Num {
     ghost use Rattle.cf_number.specs.Kinds.{FitsKind};
     ghost use Rattle.cf_number.specs.Numbers.{order_of};
 
-    /// A number of this kind and value; `OutOfKind` exactly where the kind does not hold the value.
+    /// A number of this kind and value; `OutOfKind` exactly if the kind does not hold the value.
     pub fn make(kind: NumKind, value: i64) -> Result<Num, OutOfKind>
         ensures fits { IsOk result ↔ FitsKind kind value }
         ensures made { IfOk result (λ n. n ≡ record { kind = kind; value = value }) }
@@ -48,7 +48,7 @@ impl Num {
         Ok(Num { kind, value })
     }
 
-    /// The value, read as a number of this kind; `Lossy` exactly where the kind does not hold it.
+    /// The value, read as a number of this kind; `Lossy` exactly if the kind does not hold it.
     pub fn get_as(&self, kind: NumKind) -> Result<i64, Lossy>
         ensures fits { IsOk result ↔ FitsKind kind self.now.value }
         ensures same { IfOk result (λ v. v ≡ self.now.value) }

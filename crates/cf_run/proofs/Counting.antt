@@ -124,7 +124,7 @@ module _ (w w' : WorldView) (references : List ℕ) (finals : ℕ) (run : IsRun 
   state_is : state_of w ≡ st
   state_is = ap (λ (o : Option Script). state_in o w.journal) run.begun
 
-  -- the world behind the entry
+  -- the world after the entry
   is_now : w' ≡ record { script = w.script; limit = w.limit; journal = w.journal ++ e ∷ []; gained = gained s 0 st a; room = None }
   is_now = is ∙ entered_is s w 0 a run.begun refl acts ∙ ap (λ (x : State). record { script = w.script; limit = w.limit; journal = w.journal ++ entry_of s 0 x a ∷ []; gained = gained s 0 x a; room = None }) state_is
 

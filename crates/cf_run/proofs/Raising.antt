@@ -47,7 +47,7 @@ index-past [] i h = refl
 index-past (x ∷ xs) zero h = absurd (omega arith)
 index-past (x ∷ xs) (suc i) h = index-past xs i (omega arith)
 
--- a number behind the others
+-- a number after the others
 pub index-grown : (xs : List ℕ) (i : ℕ) → slice_index (xs ++ 0 ∷ []) i ≡ slice_index xs i
 index-grown [] zero = refl
 index-grown [] (suc i) = refl

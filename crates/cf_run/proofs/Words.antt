@@ -5,7 +5,7 @@ use Rattle.std.specs.Prelude.{slice_index_or}
 use Rattle.cf_model.specs.Rendering.{joined}
 use Rattle.cf_run.specs.Lines.{gap}
 
--- words behind others
+-- words after others
 abbrev pub behind : List (List ℕ) → List ℕ
 behind [] = []
 behind (w ∷ ws) = 32 ∷ (w ++ behind ws)

@@ -16,7 +16,7 @@ use Rattle.cf_run.specs.declared.tally.Tally.{Tally}
 use Rattle.cf_run.specs.Tally.{nothing}
 use Rattle.cf_run.specs.Written.{Part, Cut, IsCause, WritesAll}
 
--- bytes behind bytes
+-- bytes after bytes
 pub then_bytes-append : (old : Option (List ℕ)) (xs ys : List ℕ) → then_bytes (then_bytes old xs) ys ≡ then_bytes old (xs ++ ys)
 then_bytes-append None xs ys = refl
 then_bytes-append (Some bs) xs ys = ap (λ (zs : List ℕ). Some zs) (append_assoc bs xs ys)
@@ -39,7 +39,7 @@ cut_none due old new lt e = record {
   short = lt;
 }
 
--- a front, with bytes that were taken before it and bytes that are due behind
+-- a front, with bytes that were taken before it and bytes that are due after
 pub part_within : (before due behind : List ℕ) (old mid new : Option (List ℕ)) → mid ≡ then_bytes old before → Part due mid new → Part (before ++ (due ++ behind)) old new
 part_within before due behind old mid new e p = record {
   out = before ++ p.out;
@@ -59,7 +59,7 @@ cut_behind before due old mid new e c = record {
   short = c.short;
 }
 
--- a front of a text with more due behind it
+-- a front of a text with more due after it
 pub part_cut : (due behind : List ℕ) (old new : Option (List ℕ)) → 0 < length behind → Part due old new → Cut (due ++ behind) old new
 part_cut due behind old new lt p = record {
   part = record { out = p.out; rest = p.rest ++ behind; parts = ap (λ (xs : List ℕ). xs ++ behind) p.parts ∙ append_assoc p.out p.rest behind; taken = p.taken };
@@ -162,7 +162,7 @@ module _ (classes : List ClassLine) (objects : List Object) (tallies : List Tall
 pub line_some : (line : List ℕ) → 0 < length (line ++ 10 ∷ [])
 line_some line = omega (arith, length-append line (10 ∷ []))
 
--- the lines behind those of the entries: those of the objects that are left, and the last one
+-- the lines after those of the entries: those of the objects that are left, and the last one
 pub ends_parts : (classes : List ClassLine) (ending : Ending) (events : ℕ) (objects : List Object) (tallies : List Tally) (finals : ℕ) → text_of_lines (ends_of classes ending events objects tallies finals)
     ≡ text_of_lines (alive_below classes objects tallies (length tallies)) ++ (joined (end_words ending events (length tallies) finals (length (alive_below classes objects tallies (length tallies)))) ++ 10 ∷ [])
 ends_parts classes ending events objects tallies finals =

@@ -16,7 +16,7 @@ use cf_script::{ClassLine, Reason, Refusal};
 use cf_world::World;
 use std::alloc::{AllocError, Global};
 
-// Puts the word with this number behind those before it, with a space between two.
+// Puts the word with this number after those before it, with a space between two.
 fn push_word(line: &mut Vec<u8>, words: &[&[u8]], number: usize) -> Result<(), AllocError>
     requires { number < length words.now }
     ensures { OnOk result (line.new.items ≡ line.old.items ++ (gap number ++ slice_index_or (lent words.now) number [])) }

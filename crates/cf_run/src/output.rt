@@ -20,8 +20,10 @@ use thiserror::Error;
 /// Why the lines due were not all written.
 #[derive(Clone, Copy, Debug, Error)]
 pub enum Unwritten {
+    /// A write failed.
     #[error("a write failed")]
     Fault,
+    /// There was no memory for a line.
     #[error("out of memory")]
     NoMemory,
 }
@@ -117,7 +119,7 @@ fn write_left<K: Sink>(
     Ok(alive)
 }
 
-// Writes the lines behind those of the entries: one for each object that is left, and the last one.
+// Writes the lines after those of the entries: one for each object that is left, and the last one.
 fn write_ends<K: Sink>(
     alloc: Global,
     sink: &mut K,

@@ -9,7 +9,9 @@ use std::alloc::{AllocError as NoMemory, Global};
 /// How many references lead to an object: those that own it, from threads and parcels, and the others.
 #[derive(Clone, Copy)]
 pub struct Tally {
+    /// From threads and parcels.
     pub owners: usize,
+    /// From elsewhere.
     pub slots: usize,
 }
 

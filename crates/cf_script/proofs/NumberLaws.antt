@@ -7,7 +7,7 @@ use Rattle.std.proofs.lemmas.Bool.Decides.{nat_tests}
 use Rattle.std.proofs.lemmas.List.{drop_more}
 use Rattle.cf_syntax.specs.Numbers.{is_digit, decimal_from, number_below}
 
--- the number that digits write behind those of n, where it is below a limit
+-- the number that digits write after those of n, where it is below a limit
 abbrev pub below : ℕ → ℕ → List ℕ → Option ℕ
 below limit n ds = if list_all is_digit ds && nat_lt (decimal_from n ds) limit then Some (decimal_from n ds) else None
 
@@ -35,7 +35,7 @@ not_empty : (t u v : Bool) (o : Option ℕ) → t ≡ false → cond (u && v) o 
 not_empty true u v o e = absurd cc
 not_empty false u v o e = refl
 
--- a numeral, as the digits behind those of 0
+-- a numeral, as the digits after those of 0
 pub below_start : (limit : ℕ) (word : List ℕ) → 0 < length word → below limit 0 word ≡ number_below limit word
 below_start limit word some =
     not_empty (eqb (length word) 0) (list_all is_digit word) (nat_lt (decimal_from 0 word) limit) (Some (decimal_from 0 word)) (grind (arith, nat_tests))

@@ -49,7 +49,8 @@ impl Checked {
     }
 }
 
-/// Whether a script is owned, in time that is linear in its statements.
+/// Whether a script is owned, in time that is linear in its statements. `Refused` comes exactly if it is not. It takes
+/// no memory.
 pub fn check_owners(script: Script) -> Result<Checked, OwnFault>
     ensures { Judges result script }
 {

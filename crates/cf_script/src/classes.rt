@@ -99,7 +99,7 @@ impl Classes {
         ensures { OnOk result (self.new ≡ self.old ++ class ∷ []) }
     {
         let name = Vec::from_slice(alloc, class.name.as_slice())?;
-        // With room for the line nothing fails behind the name, and both lists stay alike.
+        // With room for the line nothing fails after the name, and both lists stay alike.
         self.lines.reserve(1)?;
         self.names.insert(name)?;
         self.lines.push_reserved(class);

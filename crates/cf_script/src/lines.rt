@@ -22,7 +22,7 @@ fn without_return(piece: &[u8]) -> &[u8]
     }
 }
 
-/// The first line, and the bytes behind it.
+/// The first line, and the bytes after it.
 pub(crate) fn next_line(bytes: &[u8]) -> (&[u8], &[u8])
     requires { 0 < length bytes.now }
     ensures lines { lines bytes.now ≡ result.0.now ∷ lines result.1.now }

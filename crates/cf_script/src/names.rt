@@ -23,7 +23,7 @@ pub(crate) struct Numbered {
     pub variables: SmallVec<VarId, 3>,
 }
 
-/// The place of a name, which goes behind the others where it is new.
+/// The place of a name, which goes after the others where it is new.
 fn place_of(alloc: Global, names: &mut IndexSet<Vec<u8>>, word: &[u8]) -> Result<usize, AllocError>
     ensures place { IfOk result (λ place. place ≡ position_or_len (bytes_eq word.now) (texts names.old.keys)) }
     ensures names { OnOk result (texts names.new.keys ≡ with_name (texts names.old.keys) word.now) }

@@ -43,7 +43,7 @@ fn may_touch(counts: &Counts, touch: Touch) -> bool
     }
 }
 
-/// Whether a statement behind earlier ones has no fault.
+/// Whether a statement after earlier ones has no fault.
 fn is_fit(counts: &Counts, statement: &Statement) -> bool
     ensures { (earlier : List Statement) → Counted counts.now earlier → result ≡ is_fit earlier statement.now }
 {

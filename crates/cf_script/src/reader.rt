@@ -33,7 +33,9 @@ fn read_lines(alloc: Global, bytes: &[u8]) -> Result<Reader, ScriptFault>
     Ok(reader)
 }
 
-/// The script that bytes are the text of. The bytes are read once, in time that is linear in them.
+/// The script that bytes are the text of. The bytes are read once, in time that is linear in them. They are at most
+/// 1,048,576. `Refused` comes exactly if they are the text of no script, unless memory runs out, and `NoMemory` for
+/// want of memory alone.
 #[tactic(auto, unfolding(cf_syntax::specs::Text::script_of))]
 pub fn read_script(alloc: Global, bytes: &[u8]) -> Result<Script, ScriptFault>
     requires { length bytes.now ≤ 1048576 }

@@ -39,7 +39,7 @@ const RESERVED: [&[u8]; 21] = [
     b"observer",
 ];
 
-/// Where the byte behind this one stands, or `None` where this one may not stand here.
+/// Where the byte after this one stands, or `None` where this one may not stand here.
 fn goes(place: Place, byte: u8) -> Option<Place>
     ensures { result ≡ goes place byte }
 {
@@ -61,7 +61,7 @@ fn goes(place: Place, byte: u8) -> Option<Place>
     }
 }
 
-/// Where the byte behind the first one of a word stands.
+/// Where the byte after the first one of a word stands.
 fn start(first: u8) -> Place
     ensures { result ≡ begun first }
 {
@@ -91,7 +91,7 @@ fn word_len(place: Place, bytes: &[u8]) -> Option<usize>
     }
 }
 
-/// The first word, and what stands behind it; `None` where it is not of its form.
+/// The first word, and what stands after it; `None` where it is not of its form.
 fn first_word(bytes: &[u8]) -> Option<(&[u8], &[u8])>
     requires some { 0 < length bytes.now }
     requires begun { is_blank (slice_index bytes.now 0) ≡ false }
@@ -209,7 +209,7 @@ fn unescaped(byte: u8) -> u8
     if byte == b'n' { b'\n' } else { byte }
 }
 
-/// What a TEXT says, from behind its first quote on.
+/// What a TEXT says, from after its first quote on.
 fn text_from(alloc: Global, bytes: &[u8]) -> Result<Vec<u8>, AllocError>
     ensures { IfOk result (λ text. text.items ≡ text_from false bytes.now) }
 {

@@ -1,3 +1,4 @@
+//! Bags, and the calls on them.
 ghost use Rattle.std.specs.Prelude.{◌≡◌, ◌+◌, ◌≤◌, ◌<◌, [], ◌∷◌, ◌++◌, length, slice_get, is_some, IsOk, OnOk, OnErr, ◌==◌, if◌then◌else◌, unwrap_or};
 ghost use Rattle.std.specs.List.{IsDistinct};
 ghost use Rattle.std.specs.Map.{keys_of, lookup, lookup_key, lookup_entry, set_key};
@@ -62,7 +63,7 @@ impl<E, C: Callbacks<E>> Bag<E, C> {
         }
     }
 
-    /// Makes room for at least `more` further rows.
+    /// Makes room for at least `more` further rows. `NoMemory` comes only if the room was less, and changes nothing.
     pub fn reserve(&mut self, more: usize) -> Result<(), NoMemory>
         ensures rows { self.new.rows ≡ self.old.rows }
         ensures callbacks { self.new.callbacks ≡ self.old.callbacks }

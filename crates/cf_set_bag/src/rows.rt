@@ -1,4 +1,4 @@
-// What sets and bags do alike with the row of the member that is equal to one.
+//! What sets and bags do alike with the row of the member that is equal to one.
 ghost use Rattle.std.specs.Prelude.{◌≡◌, ◌+◌, ◌<◌, ◌∷◌, [], ◌++◌, IfNone, OnSome, is_some, if◌then◌else◌};
 ghost use Rattle.std.specs.Map.{lookup, lookup_entry, lookup_key, remove_entry, set_key};
 ghost use Rattle.std.specs.Option.{option_map, ok_or};

@@ -1,3 +1,4 @@
+//! Sets, and the calls on them.
 ghost use Rattle.std.specs.Prelude.{◌≡◌, ◌+◌, ◌≤◌, ◌<◌, ◌↔◌, [], ◌∷◌, ◌++◌, length, slice_get, find, is_some, IsOk, IsNone, OnOk, OnErr, IfErr, IfNone, OnSome, if◌then◌else◌};
 ghost use Rattle.std.specs.List.{IsDistinct};
 ghost use Rattle.std.specs.Option.{option_copied, ok_or};
@@ -38,7 +39,8 @@ impl<E, C: Callbacks<E>> Set<E, C> {
         }
     }
 
-    /// Makes room for at least `more` further members.
+    /// Makes room for at least `more` further members. `NoMemory` comes only if the room was less, and changes
+    /// nothing.
     pub fn reserve(&mut self, more: usize) -> Result<(), NoMemory>
         ensures members { self.new.members ≡ self.old.members }
         ensures callbacks { self.new.callbacks ≡ self.old.callbacks }

@@ -18,7 +18,7 @@ use Rattle.cf_store.specs.declared.deed.Origin.TheVariants.{Nowhere}
 use Rattle.cf_store.specs.declared.deed.Deed.{Deed}
 use Rattle.cf_store.proofs.Setting.{object_at}
 
--- ---- a text behind another
+-- ---- a text after another
 
 more_in : (content : Content) (more : List ℕ) (deed : List ℕ → deeds.Deed) → Some more ≡ units_in content → deeds.text_in content deed ≡ deed more
 more_in (text_content mutable old) more deed is = let same : more ≡ old = cc in sym (ap deed same)

@@ -43,7 +43,7 @@ impl Str {
         }
     }
 
-    /// Makes room for at least `more` further units. `NoMemory` comes only where the room was less, and then the text
+    /// Makes room for at least `more` further units. `NoMemory` comes only if the room was less, and then the text
     /// and its room are as before.
     pub fn reserve(&mut self, more: usize) -> Result<(), NoMemory>
         ensures units { self.new.units ≡ self.old.units }
@@ -93,8 +93,8 @@ impl Str {
         char_at(&self.units, at)
     }
 
-    /// Why the `len` units from `at` on may not be cut out, if they may not: `Range` where they pass the length, else
-    /// `SplitsPair` where one of the two ends falls inside a surrogate pair.
+    /// Why the `len` units from `at` on may not be cut out, if they may not: `Range` if they pass the length, else
+    /// `SplitsPair` if one of the two ends falls inside a surrogate pair.
     pub fn cut_fault(&self, at: usize, len: usize) -> Option<StrFault>
         ensures { result ≡ cut_fault self.now.units at len }
     {
@@ -102,7 +102,7 @@ impl Str {
     }
 
     /// The `len` units from `at` on, as a text of their own; how much room it has is left open. `Range` and
-    /// `SplitsPair` come exactly where `cut_fault` gives them, and `NoMemory` only for want of memory.
+    /// `SplitsPair` come exactly if `cut_fault` gives them, and `NoMemory` only for want of memory.
     pub fn substring(&self, alloc: Global, at: usize, len: usize) -> Result<Str, StrFault>
         ensures fault { IsRefusedFor result (cut_fault self.now.units at len) }
         ensures units { IfOk result (λ s. s.units ≡ take len (drop at self.now.units)) }
@@ -142,7 +142,7 @@ impl Str {
     }
 
     /// Takes out the `len` units from `at` on, and gives their places back: the room becomes more by `len`. `Range`
-    /// and `SplitsPair` come exactly where `cut_fault` gives them. A refusal changes nothing.
+    /// and `SplitsPair` come exactly if `cut_fault` gives them. A refusal changes nothing.
     pub fn delete(&mut self, at: usize, len: usize) -> Result<(), StrFault>
         ensures fault { result ≡ done_unless (cut_fault self.old.units at len) }
         ensures units { OnOk result (self.new.units ≡ replaced self.old.units at len []) }
@@ -157,7 +157,7 @@ impl Str {
     }
 
     /// Puts the other text in place of the `len` units from `at` on, in the room that is there: the room becomes more
-    /// by `len` and less by the other's length, and no memory is taken. `Range` and `SplitsPair` come exactly where
+    /// by `len` and less by the other's length, and no memory is taken. `Range` and `SplitsPair` come exactly if
     /// `cut_fault` gives them. A refusal changes nothing.
     pub fn replace(&mut self, at: usize, len: usize, other: &Str) -> Result<(), StrFault>
         requires { length other.now.units ≤ self.old.room }

@@ -147,7 +147,7 @@ plain_next s journal table number None a is cut room = tt
 plain_next s journal table number (Some x) a is cut room =
     (sym (cut_of-action_of x (record { block = 0; number = number; used = used_in table x })) ∙ ap cut_of is ∙ cut, λ m. room (ap (makes s) (sym is) ∙ m))
 
--- the world behind the entry
+-- the world after the entry
 pub entered_is : (s : Script) (w : WorldView) (t : ℕ) (a : Action) → w.script ≡ Some s → t ≡ 0 → acting w t ≡ Some a → entered t w ≡ entered_by (Some s) (Some a) 0 w
 entered_is s w t a script thread act = ap (λ (o : Option Script). entered_by o (acting w t) t w) script ∙ ap (λ (o : Option Action). entered_by (Some s) o t w) act ∙ ap (λ (u : ℕ). entered_by (Some s) (Some a) u w) thread
 

@@ -39,7 +39,7 @@ module _ (w : Inside) (s : Script) (view : WorldView) (t : ℕ) (script : w.scri
   acts_here : (a : Action) → acting view t ≡ Some a → IsActing s (view_of w) w.store.bodies w.frame.table (works w.frame.work.items) w.frame.number w.frame.is_done t a
   acts_here a act = acting_is s (view_of w) w.store.bodies w.frame.table (works w.frame.work.items) w.frame.number w.frame.is_done t a script begun.at (act_here a act)
 
-  -- the world behind an entry of the action
+  -- the world after an entry of the action
   entered_here : (a : Action) (journal : List Entry) (gains : List ℕ) → acting view t ≡ Some a → journal ≡ w.journal.items ++ entry_of s 0 st a ∷ [] → gains ≡ gained s 0 st a
       → record { script = w.script; limit = w.limit; journal = journal; gained = gains; room = None } ≡ entered t view
   entered_here a journal gains act grown gain =
@@ -65,7 +65,7 @@ module _ (w : Inside) (s : Script) (view : WorldView) (t : ℕ) (script : w.scri
   pub within_limit : (P : Action → Type 0) → IsSomeAnd (acting view t) P → length w.journal.items + 1 ≤ w.limit
   within_limit P acts = let p = some_act (acting view t) P acts in omega (arith, (acts_here p.0 p.1.0).below)
 
-  -- the fields behind the entry
+  -- the fields after the entry
   begun_after : (w' : Inside) → w'.limit ≡ w.limit → length w'.journal.items ≤ w.limit → vec_capacity w'.journal ≡ vec_capacity w.journal → vec_capacity w'.gained ≡ vec_capacity w.gained → vec_len w'.gained ≤ 2 → w'.room ≡ None
       → IsAt s w'.journal.items w'.store.bodies w'.frame.table (works w'.frame.work.items) w'.frame.number w'.frame.is_done → w'.script ≡ Some s → IsWorld w'
   begun_after w' limit size capacity gains few room at same = begun_world w' s same (record {

@@ -50,7 +50,7 @@ below-suc f n = refl
 pub below-more : (f : ℕ → List Reference) (n : ℕ) → below f (n + 1) ≡ below f n ++ f n
 below-more f n = let e : n + 1 ≡ suc n = omega arith in ap (below f) e ∙ below-suc f n
 
--- what is behind one list more
+-- what is after one list more
 pub edges-more : (f : ℕ → List Reference) (n : ℕ) (start before after more : List Edge) → before ≡ start ++ edges_of (below f n) → after ≡ before ++ more → edges_of (f n) ≡ more → after ≡ start ++ edges_of (below f (n + 1))
 edges-more f n start before after more so_far is here =
     is ∙ ap (λ (es : List Edge). es ++ more) so_far ∙ append_assoc start (edges_of (below f n)) more
@@ -71,7 +71,7 @@ weigh-below-none : (w : Reference → ℕ) (f : ℕ → List Reference) (n : ℕ
 weigh-below-none w f zero h = ap (weigh w) (below-none f)
 weigh-below-none w f (suc n) h = omega (arith, weigh-below-suc w f n, h n (omega arith), weigh-below-none w f n (λ i lt. h i (omega (arith, lt))))
 
--- where one list alone weighs something, and no list behind the last does
+-- where one list alone weighs something, and no list after the last does
 weigh-below : (w : Reference → ℕ) (f : ℕ → List Reference) (n k : ℕ) → ((i : ℕ) → (k ≡ i → ⊥) → weigh w (f i) ≡ 0) → (n ≤ k → weigh w (f k) ≡ 0) → weigh w (below f n) ≡ weigh w (f k)
 weigh-below w f zero k others outside = ap (weigh w) (below-none f) ∙ sym (outside (omega arith))
 weigh-below w f (suc n) k others outside = elim (eqb_tells k n) [
@@ -263,7 +263,7 @@ edges-held v (Some o) n = each n
     each zero = refl
     each (suc n) = ap (λ (es : List Edge). edge_of (owed_reference 0 o) ∷ es) (each n)
 
--- the counts are those behind statements
+-- the counts are those after statements
 pub counted-same : (table : List (Option ℕ)) (c : Counts) (earlier : List Statement) → Counted c earlier → below (counted_references table c) 256 ≡ below (variable_references table earlier) 256
 counted-same table c earlier t =
     below-same (counted_references table c) (variable_references table earlier) 256

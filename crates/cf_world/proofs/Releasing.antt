@@ -54,7 +54,7 @@ module _ (s : Script) (journal : List Entry) (a : Action) (o : ℕ) (step : Step
   pub release_answer : answer_to s 0 st a ≡ answer_if ended (type_of st.objects o)
   release_answer = ap (λ (t : Step). step_answer t st) is ∙ cut_answers step st o cuts less
 
-  -- the parts behind it
+  -- the parts after it
   pub release_follows : (bodies : List Held) (table : List (Option ℕ)) (work : List Work) → o < length step.objects → Mirrors step.objects st.finalised (step.drops ++ st.dropped) bodies → length table ≡ 256 → ((v : ℕ) → held_at table v ≡ look v (step.bindings ++ st.frame.bindings)) → work ≡ step.work
       → Follows (After s (journal ++ entry_of s 0 st a ∷ [])) (retired_if ended o bodies) table (trimmed_by (retired_if ended o bodies) (waits_if ended o ++ work)) step.number step.is_done
   release_follows bodies table work made mirrors size held works =

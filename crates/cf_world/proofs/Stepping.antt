@@ -16,7 +16,7 @@ use Rattle.cf_world.specs.Mirrors.{Mirrors, MirrorsState, Follows, held_at, trim
 use Rattle.cf_world.proofs.Mirroring.{trimmed-mirrors, mirrors_changed, mirrors_made}
 use Rattle.cf_world.proofs.Tables.{table-after, size-after}
 
--- the parts after a step: what it cuts aside, the frame is the step's, and the work behind it is trimmed
+-- the parts after a step: what it cuts aside, the frame is the step's, and the work after it is trimmed
 pub follows_step : (step : Step) (st : State) (bodies : List Held) (table : List (Option ℕ)) (work : List Work) → MirrorsState (state_after step st) bodies → length table ≡ 256 → ((v : ℕ) → held_at table v ≡ look v (step.bindings ++ st.frame.bindings)) → work ≡ map slots_of (finals_of step.cuts (edges_after step st.edges)) ++ step.work
     → Follows (state_after step st) bodies table (trimmed_by bodies work) step.number step.is_done
 follows_step step st bodies table work mirrors size held is = record {

@@ -64,7 +64,7 @@ popped bodies old new (Some w) e over =
     let is : works old ≡ work_item w ∷ works new = ap works e ∙ works_push new w in
     rw is (sym (trimmed-over bodies (work_item w) (works new) (rw is at over)))
 
--- the work behind an owed release
+-- the work after an owed release
 pub popped_release : (old new : List Item) (r : Option Item) (o : ℕ) → old ≡ new ++ option_to_list r → IsSome r → first_work (works old) ≡ Some (release_of o) → works new ≡ work_taken (works old)
 popped_release old new None o e some is = absurd cc
 popped_release old new (Some w) o e some is =

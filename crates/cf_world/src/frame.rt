@@ -89,7 +89,7 @@ fn slot_action(store: &Store, body: ObjId) -> Option<Action>
 }
 
 impl Frame {
-    /// The action that the work demands, or behind it the next statement.
+    /// The action that the work demands, or after it the next statement.
     pub(crate) fn action(&self, script: &Script, store: &Store) -> Option<Action>
         ensures { result ≡ action_by store.now.bodies self.now.table self.now.number
             (slice_get (setup script.now) self.now.number) (first_work (works self.now.work.items)) }

@@ -67,7 +67,8 @@ impl World {
         }
     }
 
-    /// Begins a script, with the journal's room for `limit` entries taken at once.
+    /// Begins a script, with the journal's room for `limit` entries taken at once. `NoMemory` comes for want of memory
+    /// alone, and leaves the world empty.
     pub fn begin(&mut self, script: Checked, limit: u32) -> Result<(), NoMemory>
         requires empty { self.old ≡ nowhere }
         requires some { 1 ≤ limit }
@@ -90,7 +91,7 @@ impl World {
         self.script.as_ref()
     }
 
-    /// The script and the journal. It takes no memory.
+    /// The script and the journal. It takes no memory. `None` if no script has begun.
     pub fn end(self) -> Option<(Checked, Vec<Entry>)>
         ensures { option_map given_back result ≡ option_map (λ s. record { script = s; journal = self.journal }) self.script }
     {
@@ -144,7 +145,7 @@ impl World {
     }
 
     /// The references, each as often as there are, in any order. It takes time linear in the statements so far, the
-    /// references and the objects.
+    /// references and the objects. `NoMemory` comes for want of memory alone.
     pub fn edges(&self, alloc: Global) -> Result<Vec<Edge>, NoMemory>
         ensures { IfOk result (λ es. (p : Edge → Bool) → count_by p es.items ≡ count_by p (edges_of (state_of self.now).edges)) }
     {

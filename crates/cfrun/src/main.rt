@@ -7,7 +7,7 @@ use std::env;
 use std::io::{self, ErrorKind};
 use std::process::ExitCode;
 
-// Does what the words behind the program's name say, and gives the status.
+// Does what the words after the program's name say, and gives the status.
 fn run(rt: &HostRuntime) -> io::Result<u8> {
     let mut args = Vec::new(rt.alloc());
     for arg in env::args(rt)?.skip(1) {

@@ -20,6 +20,7 @@ impl Model for RegId {
 /// own).
 #[derive(Clone, Copy)]
 pub struct Registration {
+    /// The observer that is told.
     pub observer: ObjId,
     /// The handler that is called.
     pub handler: HandlerId,

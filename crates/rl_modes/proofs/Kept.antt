@@ -163,7 +163,7 @@ module _ (held : List Holding) (seats : List Seat) (running less : List ℕ) (p 
   opens_same m d gone e = let r : rank (get_or held k d).place ≡ rank p = eqb-true _ _
       (and_parts _ _ (is_held d)).0 in rw (e, r) refl
 
-  -- an item that leaves is counted where it keeps a mode open
+  -- an item that leaves is counted if it keeps a mode open
   pub counted_there : (m : ℕ) (d : Holding) (gone : Item) → gone ≡ (get_or held k d).item → cond
       (opens m (record { place = p; item = gone })) 1 0 ≤ slice_index running m
   counted_there m d gone e = rw (← opens_same m d gone e, kept.counted m) (omega (arith, count_without m d))

@@ -145,7 +145,8 @@ impl Modes {
         }
     }
 
-    /// Makes room for at least `more`, each item in a place and each common mode counted as one.
+    /// Makes room for at least `more`, each item in a place and each common mode counted as one. `NoMemory` comes only
+    /// if the room was less, and changes nothing.
     pub fn reserve(&mut self, more: usize) -> Result<(), NoMemory>
         ensures held { self.new.held ≡ self.old.held }
         ensures common_modes { self.new.common_modes ≡ self.old.common_modes }

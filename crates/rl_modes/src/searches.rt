@@ -81,7 +81,7 @@ pub fn is_seat(seat: &Seat, item: ObjId, place: &Place) -> bool
     seat.item.0 == item.0 && place_rank(&seat.place) == place_rank(place)
 }
 
-// Puts an element before the one at `at`, where the capacity has a place for it.
+// Puts an element before the one at `at`, if the capacity has a place for it.
 pub fn put_at<T>(v: &mut Vec<T>, at: usize, x: T)
     requires in_bounds { at ≤ vec_len v.old }
     requires room { vec_len v.old < vec_capacity v.old }

@@ -164,7 +164,7 @@ slice_get-drop [] (suc p) = refl
 slice_get-drop (r ∷ rs) zero = refl
 slice_get-drop (r ∷ rs) (suc p) = slice_get-drop rs p
 
--- no row has the number where none of it stands at its place
+-- no row has the number if none of it stands at its place
 pub above_from : (rows : List Row) (t p : ℕ) → IsRising rows → StandsAt rows t p
     → ((r : Row) → slice_get rows p ≡ Some r → r.number ≡ t → ⊥) → AreAbove t (drop p rows)
 above_from rows t p rising stands apart =

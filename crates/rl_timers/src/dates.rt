@@ -2,7 +2,7 @@
 ghost use Rattle.std.specs.Prelude.{◌≡◌};
 ghost use Rattle.rl_base.specs.Dates.{date_after, has_come, earlier};
 
-/// The date of a timer after a call at the time `now`, or `None` where it does not repeat or the next one does not fit.
+/// The date of a timer after a call at the time `now`, or `None` if it does not repeat or the next one does not fit.
 /// Dates that were missed are passed over by one division.
 #[tactic(auto, using(crate::proofs::NextDates::date_by_remainder))]
 pub fn date_after(first: u64, interval: u64, now: u64) -> Option<u64>

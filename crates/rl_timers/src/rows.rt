@@ -12,12 +12,12 @@ use cf_links::Node;
 pub struct Row {
     pub number: ObjId,
     pub first: u64,
-    /// 0 where the timer does not repeat.
+    /// 0 if the timer does not repeat.
     pub interval: u64,
     /// The date that the timer has now.
     pub date: Option<u64>,
     pub is_valid: bool,
-    /// Its node in the queue, where it is valid and has a date.
+    /// Its node in the queue, if it is valid and has a date.
     pub node: Node,
 }
 

@@ -52,13 +52,13 @@ impl Timers {
         }
     }
 
-    /// Makes room for at least `more` further timers.
+    /// Makes room for at least `more` further timers. `NoMemory` comes only if the room was less, and changes nothing.
     pub fn reserve(&mut self, more: usize) -> Result<(), NoMemory>
         ensures timers { self.new.timers ≡ self.old.timers }
         ensures room { OnOk result (more ≤ self.new.room) }
         ensures kept { self.old.room ≤ self.new.room }
 
-        // It can be refused only where the room was missing.
+        // It can be refused only if the room was missing.
         ensures enough { more ≤ self.old.room → IsOk result }
         ensures err { OnErr result (self.new ≡ self.old) }
     {
@@ -72,7 +72,7 @@ impl Timers {
     }
 
     /// Makes a timer, which is valid. Its date is `first`, a number of ticks of the clock, and it repeats after each
-    /// `interval` ticks, or does not where that is 0. Its number is new.
+    /// `interval` ticks, or does not if that is 0. Its number is new.
     pub fn make(&mut self, t: ObjId, first: u64, interval: u64)
         requires room { 1 ≤ self.old.room }
         requires is_new { timer_at self.old.timers t ≡ None }
@@ -95,14 +95,14 @@ impl Timers {
         self.room -= 1;
     }
 
-    /// The date that a timer has, valid or not; `None` where it has none or was not made.
+    /// The date that a timer has, valid or not; `None` if it has none or was not made.
     pub fn next_date(&self, t: ObjId) -> Option<u64>
         ensures { result ≡ date_of self.now.timers t }
     {
         date_of(self.rows.as_slice(), t)
     }
 
-    /// The least date of the valid timers among the items, or `None` where none of them has one.
+    /// The least date of the valid timers among the items, or `None` if none of them has one.
     pub fn least(&self, items: &[Item]) -> Option<u64>
         ensures { result ≡ least_among self.now.timers (numbers_of items.now) }
     {

@@ -38,7 +38,7 @@ pub fn next_phase(p: Phase, f: &TurnFacts) -> Phase
     }
 }
 
-/// The result of a run at its test, or `None` where it goes on: HandledSource 4, TimedOut 3, Stopped 2 or Finished 1,
+/// The result of a run at its test, or `None` if it goes on: HandledSource 4, TimedOut 3, Stopped 2 or Finished 1,
 /// the first of these that applies.
 pub fn result(f: &TurnFacts) -> Option<u8>
     ensures { result ≡ result_of f.now }

@@ -45,7 +45,8 @@ impl<K, V, C: Callbacks<K>> Rows<K, V, C> {
         }
     }
 
-    /// Makes room for at least `more` further rows. `NoMemory` comes only where the room was less, and changes nothing.
+    /// Makes room for at least `more` further rows. `NoMemory` comes only where the room was less, and changes
+    /// nothing.
     pub fn reserve(&mut self, more: usize) -> Result<(), NoMemory>
         ensures rows { self.new.rows ≡ self.old.rows }
         ensures callbacks { self.new.callbacks ≡ self.old.callbacks }

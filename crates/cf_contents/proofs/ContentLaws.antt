@@ -1,5 +1,5 @@
--- A change of contents makes and loses no object, and changes no type and nothing that an object is compared by. None at
--- all changes nothing.
+-- A change of contents makes and loses no object, and changes no type and nothing that an object is compared by. None
+-- at all changes nothing.
 use Rattle.std.proofs.Common.{◌≡◌, ℕ, zero, suc, Bool, true, List, [], ◌∷◌, length, Option, Some, None, refl, ap}
 use Rattle.std.specs.Prelude.{slice_get}
 use Rattle.std.specs.Option.{option_map}

@@ -1,5 +1,5 @@
--- What each form keeps: a new object has no slots, a statement that takes or binds a reference changes nothing, no deed
--- answers an object by itself, and what comes in is among the objects that are used.
+-- What each form keeps: a new object has no slots, a statement that takes or binds a reference changes nothing, no
+-- deed answers an object by itself, and what comes in is among the objects that are used.
 use Rattle.std.proofs.Common.{◌≡◌, ℕ, ℤ, ◌<◌, ◌≤◌, ◌⊎◌, Bool, true, false, cond, List, [], ◌∷◌, Option, Some, None, eqb, refl, ap, ◌∙◌, inl, inr, arith}
 use Rattle.std.proofs.lemmas.Bool.Decides.{eqb_tells}
 use Rattle.std.specs.Prelude.{nat_lt, nat_le, length, ◌+◌}
@@ -52,7 +52,8 @@ pub record AreUsed (b c : Option Numbered) (ns : List ℕ) : Type 0 where
   pub among : (o : ℕ) → 0 < times o ns → (number_of b ≡ Some o) ⊎ (number_of c ≡ Some o)
   pub few : length ns ≤ 2
 
--- a deed that a statement with this touch may have, which makes an object or not, and uses these besides its first object
+-- a deed that a statement with this touch may have, which makes an object or not, and uses these besides its first
+-- object
 pub record Fits (touch : Touch) (making : Bool) (b c : Option Numbered) (d : Deed) : Type 0 where
   pub makes : MakesEmpty d.origin
   pub small : MakesSmall d.origin

@@ -17,7 +17,7 @@ abbrev pub name_in : Option ClassLine → List ℕ
 name_in None = []
 name_in (Some line) = line.name
 
--- the name of a type by its number: built in, or a class of the script
+-- the name of a type by its number: built in, or a class of the script; 0 is no type and has none
 abbrev pub class_name : List ClassLine → ℕ → List ℕ
 class_name classes class =
     if nat_lt class first_class then slice_index_or ([] ∷ built_in_names) class []

@@ -1,6 +1,6 @@
--- What objects are compared by: an immutable string by its text, immutable data by its bytes, a number by its value, an
--- instance of a class with keys by its key, and every other object by its identity. No change of an object changes that.
--- This project's own, after the type callbacks of the Collections guide.
+-- What objects are compared by: an immutable string by its text, immutable data by its bytes, a number by its value,
+-- an instance of a class with keys by its key, and every other object by its identity. No change of an object changes
+-- that. This project's own, after the type callbacks of the Collections guide.
 use Rattle.std.specs.Prelude.{ℕ, ◌-◌, Bool, true, false, List, Option, Some, None, slice_get, nat_lt, if◌then◌else◌}
 use Rattle.cf_types.specs.Views.{FormView, text_form, data_form, whole_form, same_form}
 use Rattle.cf_types.specs.Cells.{cells_equal}

@@ -1,5 +1,5 @@
--- What a store is to its callers: the bodies by the numbers of their objects, the deed for which room was made, and for
--- how many more bodies there is room.
+-- What a store is to its callers: the bodies by the numbers of their objects, the deed for which room was made, and
+-- for how many more bodies there is room.
 use Rattle.std.specs.Prelude.{ℕ, zero, suc, ◌+◌, ◌<◌, Bool, true, false, not, List, [], ◌∷◌, Option, None, Some, map, drop, slice_get}
 use Rattle.cf_syntax.specs.declared.script.ClassLine.{ClassLine}
 use Rattle.cf_syntax.specs.declared.statement.Statement.{Statement}

@@ -66,8 +66,8 @@ impl ThreadId {
     pub const LEAD: ThreadId = ThreadId(255);
 }
 
-/// The number of a type: 1 to 13 are built in, and a script's classes follow up to 1,024. 1,025 is kept for a type beside
-/// the registry. 0 is no type.
+/// The number of a type: 1 to 13 are built in, and a script's classes follow up to 1,024. 1,025 is kept for a type
+/// beside the registry. 0 is no type.
 #[derive(Clone, Copy, Debug, PartialEq, Eq)]
 pub struct TypeId(pub u16);
 

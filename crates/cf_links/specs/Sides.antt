@@ -1,5 +1,5 @@
--- What is done on one side of a node, or at one end of a list. No public clause cites this module. All definitions here
--- are this project's own.
+-- What is done on one side of a node, or at one end of a list. No public clause cites this module. All definitions
+-- here are this project's own.
 use Rattle.std.specs.Prelude.{ℕ, List, Option, None, Some}
 use Rattle.cf_links.specs.declared.joins.Side.{Side}
 use Rattle.cf_links.specs.declared.joins.Side.TheVariants.{Before, After}

@@ -1,5 +1,5 @@
--- How many references lead to an object after an entry: those before, one more for each that it gains, and one less where
--- the entry takes one away.
+-- How many references lead to an object after an entry: those before, one more for each that it gains, and one less
+-- where the entry takes one away.
 use Rattle.std.proofs.Common.{◌≡◌, ℕ, ◌+◌, List, [], ◌∷◌, ◌++◌, Option, Some, None, refl, sym, ap, ◌∙◌, subst, arith}
 use Rattle.std.specs.Prelude.{slice_get}
 use Rattle.cf_ids.specs.declared.answer.Answer.{Answer}

@@ -17,8 +17,8 @@ pub record IsFull (s : Script) (st : State) : Type 0 where
   pub making : IsTrue (makes s action)
   pub made : length st.objects ≡ 65536
 
--- a journal that is whole; one at its limit whose thread is not done; and one below it that can go no further, since its
--- next action makes an object too many. No form so far stalls
+-- a journal that is whole; one at its limit whose thread is not done; and one below it that can go no further, since
+-- its next action makes an object too many. No form so far stalls
 abbrev pub Ends : Script → (limit : ℕ) → List Entry → Ending → Type 0
 Ends s limit es endings.Done = IsWhole s es
 Ends s limit es endings.Limit = (length es ≡ limit) × ((After s es).frame.is_done ≡ false)

@@ -6,8 +6,8 @@ use crate::clocks::Clock;
 use std::marker::Model;
 
 /// A clock that may be late: each wait takes the next of the given times, and ends then, or at the time that is due
-/// where that is later. Contracts see it as the list of the times that are left; once none is, each time that is due is
-/// reached.
+/// where that is later. Contracts see it as the list of the times that are left; once none is, each time that is due
+/// is reached.
 #[derive(Drop)]
 pub struct ListClock {
     times: Vec<u64>,

@@ -110,8 +110,8 @@ pub data IsDue (call : Call) (due : List ℕ) : Type 0 where
   run_due : (script : Script) (ending : Ending) → IsAccepted call.words call.source.files script → IsJournal script ending call.journal
       → IsSerial script call.journal → StopsSerially script ending call.journal → due ≡ rendering script call.journal ending → IsDue call due
 
--- statuses 0, 7 and 8: an accepted script has run to this ending, and the bytes written are the rendering of its journal;
--- the source stands at the end of the file, and its count of faults is as it was
+-- statuses 0, 7 and 8: an accepted script has run to this ending, and the bytes written are the rendering of its
+-- journal; the source stands at the end of the file, and its count of faults is as it was
 pub record Ran (ending : Ending) (call : Call) : Type 0 where
   pub script : Script
   pub read : IsAccepted call.words call.source.files script

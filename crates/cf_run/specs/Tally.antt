@@ -1,5 +1,5 @@
--- What a serial run keeps beside its world: one number for each object, of the references that lead to it. This project's
--- own.
+-- What a serial run keeps beside its world: one number for each object, of the references that lead to it. This
+-- project's own.
 use Rattle.std.specs.Prelude.{◌≡◌, ℕ, ◌+◌, ◌-◌, ◌*◌, ◌<◌, ◌≤◌, Bool, true, false, List, [], ◌∷◌, ◌++◌, length, nat_lt, Option, Some, None, slice_set, slice_index, slice_index_or, if◌then◌else◌}
 use Rattle.cf_ids.specs.declared.answer.Ended.{Ended}
 use Rattle.cf_ids.specs.declared.answer.Ended.TheVariants.{More, Last}
@@ -95,7 +95,8 @@ pub record Tallied (made : ℕ) (es : List Reference) (tallies : List Tally) : T
   pub size : length tallies ≡ made
   pub at : (o : ℕ) → o < made → slice_index_or tallies o nothing ≡ record { owners = weigh (owning o) es; slots = weigh (holding o) es }
 
--- a run that is over: its journal has this ending and is in the serial order, and its numbers are those of what is left
+-- a run that is over: its journal has this ending and is in the serial order, and its numbers are those of what is
+-- left
 pub record IsOver (s : Script) (w : WorldView) (ending : Ending) (tallies : List Tally) (finals : ℕ) : Type 0 where
   pub script : w.script ≡ Some s
   pub owned : Owned s

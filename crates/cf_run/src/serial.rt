@@ -1,5 +1,5 @@
-//! The serial run: the one thread makes an entry after another, and each object has one plain number, of the references
-//! that lead to it.
+//! The serial run: the one thread makes an entry after another, and each object has one plain number, of the
+//! references that lead to it.
 ghost use Rattle.std.specs.Prelude.{◌≡◌, ◌==◌, if◌then◌else◌, ℕ, ◌+◌, ◌*◌, ◌^◌, ◌<◌, ◌≤◌, length, vec_len, vec_capacity, OnOk, OnErr, IfOk, IsSomeAnd, IsTrue, Some, None, slice_index, Contains};
 ghost use Rattle.cf_contents.specs.Contents.{times};
 ghost use Rattle.cf_model.specs.Finals.{cut_of};
@@ -13,8 +13,8 @@ use cf_script::Checked;
 use cf_world::{Next, World};
 use std::alloc::{AllocError as NoMemory, Global};
 
-/// A run as far as it has come: its world, how many references lead to each object, by number, and how many objects are
-/// finalised.
+/// A run as far as it has come: its world, how many references lead to each object, by number, and how many objects
+/// are finalised.
 #[derive(Drop)]
 pub struct Run {
     pub world: World,

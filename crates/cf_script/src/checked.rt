@@ -13,8 +13,8 @@ pub enum OwnFault {
     /// It is not owned.
     #[error("the script is not owned")]
     Refused(Refusal),
-    /// Memory ran out. It does not come for scripts of one block, whose check takes none; it is kept for scripts of several
-    /// blocks, where the counts that setup ends with stand beside those of each thread.
+    /// Memory ran out. It does not come for scripts of one block, whose check takes none; it is kept for scripts of
+    /// several blocks, where the counts that setup ends with stand beside those of each thread.
     #[error("no memory")]
     NoMemory,
 }

@@ -11,7 +11,8 @@ pub enum StrFault {
     /// The bytes of `from_utf8` are not UTF-8.
     #[error("the bytes are not UTF-8")]
     NotUtf8,
-    /// The units that a call names are not all there: the place, or the place and the length together, pass the length.
+    /// The units that a call names are not all there: the place, or the place and the length together, pass the
+    /// length.
     #[error("the range passes the length")]
     Range,
     /// One of the two ends of the range falls between the two units of a surrogate pair.

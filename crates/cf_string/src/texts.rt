@@ -213,7 +213,8 @@ impl Str {
         Ok(Str { units })
     }
 
-    /// The text in UTF-8. `from_utf8` makes these bytes the same text again. `NoMemory` comes for want of memory alone.
+    /// The text in UTF-8. `from_utf8` makes these bytes the same text again. `NoMemory` comes for want of memory
+    /// alone.
     pub fn utf8(&self, alloc: Global) -> Result<Vec<u8>, NoMemory>
         ensures utf8 { IfOk result (λ bytes. IsUtf8 bytes.items) }
         ensures units { IfOk result (λ bytes. units_of (chars bytes.items) ≡ self.now.units) }

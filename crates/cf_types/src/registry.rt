@@ -61,9 +61,9 @@ impl Registry {
         Ok(Registry { classes })
     }
 
-    /// Adds a class after the others, and answers its number. `Full` comes exactly where there are 1,024 types, `Taken`
-    /// exactly where there are fewer and one has the name, and `NoMemory` for want of memory alone. A refusal changes
-    /// nothing.
+    /// Adds a class after the others, and answers its number. `Full` comes exactly where there are 1,024 types,
+    /// `Taken` exactly where there are fewer and one has the name, and `NoMemory` for want of memory alone. A refusal
+    /// changes nothing.
     pub fn register(
         &mut self,
         alloc: Global,

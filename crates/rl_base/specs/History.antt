@@ -1,5 +1,5 @@
--- What a history says at its end: that something has begun, and that nothing has ended it since. And histories of calls
--- that may be refused, of which the accepted ones alone count. These words are this project's own.
+-- What a history says at its end: that something has begun, and that nothing has ended it since. And histories of
+-- calls that may be refused, of which the accepted ones alone count. These words are this project's own.
 use Rattle.std.specs.Prelude.{⊤, Bool, false, ◌&&◌, ◌||◌, not, List, [], ◌∷◌, IsTrue, if◌then◌else◌}
 use Rattle.std.specs.List.{list_any}
 

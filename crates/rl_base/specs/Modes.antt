@@ -1,5 +1,5 @@
--- What a run loop's places hold, over tests and lists, so that a loop's own lists and a state of references can both be
--- put in. After the Run Loops guide: modes, and common modes with the items that each of them gets.
+-- What a run loop's places hold, over tests and lists, so that a loop's own lists and a state of references can both
+-- be put in. After the Run Loops guide: modes, and common modes with the items that each of them gets.
 use Rattle.std.specs.Prelude.{ℕ, ◌+◌, Bool, true, false, not, List, ◌∷◌, map, filter}
 use Rattle.std.specs.List.{list_any, range_with_len}
 use Rattle.cf_ids.specs.declared.numbers.ItemKind.{ItemKind}

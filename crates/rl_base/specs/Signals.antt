@@ -67,8 +67,8 @@ sources_with sources (signalled s) = changed_at (λ x. x.number) s (λ x. record
 sources_with sources (called_out s) = changed_at (λ x. x.number) s (λ x. record x { signalled = false }) sources
 sources_with sources (invalidated s) = changed_at (λ x. x.number) s (λ x. record x { valid = false }) sources
 
--- whether a call is accepted: only what was not made is made; only a valid source is signalled or invalidated, and only
--- one that is signalled too is called out
+-- whether a call is accepted: only what was not made is made; only a valid source is signalled or invalidated, and
+-- only one that is signalled too is called out
 abbrev pub is_accepted : List SourceState → Call → Bool
 is_accepted sources (made s order) = not (is_some (source_at sources s))
 is_accepted sources (signalled s) = valid_bit sources s

@@ -1,5 +1,5 @@
--- The places of what has one mark, in a list that gets or loses an element. Two lists in different orders that tell the
--- same places of each mark still do so after both get or lose the same.
+-- The places of what has one mark, in a list that gets or loses an element. Two lists in different orders that tell
+-- the same places of each mark still do so after both get or lose the same.
 use Rattle.std.proofs.Common.{◌≡◌, ℕ, suc, ◌<◌, Bool, true, false, eqb, ltb, List, [], ◌∷◌, ◌++◌, length, get_or, take, drop, map, refl, sym, ap, ◌∙◌, ⊎_elim, append-nil}
 use Rattle.std.proofs.Math.Seq.{drop-cons}
 use Rattle.std.specs.List.{insert, remove, filter, list_all, list_any}

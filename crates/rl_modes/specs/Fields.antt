@@ -1,4 +1,5 @@
--- How the holdings of a loop are kept. No public clause cites this module. All definitions here are this project's own.
+-- How the holdings of a loop are kept. No public clause cites this module. All definitions here are this project's
+-- own.
 use Rattle.std.specs.Prelude.{◌≡◌, ◌+◌, ◌<◌, ◌≤◌, if◌then◌else◌, ℕ, ◌==◌, Bool, true, false, ◌&&◌, ◌||◌, List, [], ◌∷◌, length, map, filter, slice_index, slice_index_or, nat_lt, Vec, vec_len, vec_capacity, Option, Some, None}
 use Rattle.std.specs.List.{AllPairs, All}
 use Rattle.cf_ids.specs.declared.numbers.Item.{Item}

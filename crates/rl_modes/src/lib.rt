@@ -1,5 +1,5 @@
-//! The modes of one run loop, after the Run Loops guide: which items each mode holds, which modes are common, and which
-//! items each of these gets. Room is made by `reserve`, and changes within that room take no memory.
+//! The modes of one run loop, after the Run Loops guide: which items each mode holds, which modes are common, and
+//! which items each of these gets. Room is made by `reserve`, and changes within that room take no memory.
 #![tactic(auto)]
 
 mod holdings;

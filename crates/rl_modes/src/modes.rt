@@ -224,8 +224,8 @@ impl Modes {
         Ok(())
     }
 
-    /// Takes an item out of the common items, and out of each common mode that holds it, also one to which it was added
-    /// by itself. A mode that is not common keeps it. `Absent` comes exactly if the common items do not hold it.
+    /// Takes an item out of the common items, and out of each common mode that holds it, also one to which it was
+    /// added by itself. A mode that is not common keeps it. `Absent` comes exactly if the common items do not hold it.
     pub fn remove_common(&mut self, i: ObjId) -> Result<(), Absent>
         ensures absent { is_ok result ≡ holds_at self.old.held i Common }
         ensures held { OnOk result (self.new.held ≡

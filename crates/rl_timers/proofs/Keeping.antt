@@ -1,4 +1,5 @@
--- How the queue keeps to the table: what one row's entry is to the others, where a row is written, comes in or is read.
+-- How the queue keeps to the table: what one row's entry is to the others, where a row is written, comes in or is
+-- read.
 use Rattle.std.proofs.Common.{◌≡◌, subst, ℕ, suc, ◌+◌, ◌<◌, ◌≤◌, Bool, true, false, cond, ◌⊎◌, List, [], ◌∷◌, ◌++◌, length, get_or, set, take, drop, Option, Some, None, refl, sym, ap, ◌∙◌, inl, inr, arith}
 use Rattle.std.specs.List.{All, AllWithin, slice_get, filter_map, insert}
 use Rattle.std.specs.Option.{option_map, is_some, IsSomeAnd}

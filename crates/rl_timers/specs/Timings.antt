@@ -1,5 +1,6 @@
 -- What a contract sees of timers, after the Run Loops guide: a timer has a first date and an interval, it fires at its
--- date or later, and then has the next one; an invalid one fires no more. That numbers decide ties is this project's own.
+-- date or later, and then has the next one; an invalid one fires no more. That numbers decide ties is this project's
+-- own.
 use Rattle.std.specs.Prelude.{ℕ, pos, Bool, true, false, ◌==◌, nat_lt, List, [], ◌∷◌, map, filter, find, Option, Some, None, unwrap_or, if◌then◌else◌}
 use Rattle.std.specs.Option.{option_and_then, option_map_or}
 use Rattle.cf_ids.specs.declared.numbers.Item.{Item}

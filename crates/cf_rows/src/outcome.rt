@@ -1,0 +1,143 @@
+//! A case is run, and what it came to is compared with what is wanted.
+
+use crate::answers::answers_of;
+use crate::case::Case;
+use cf_io::{MemFile, MemSink, MemSource};
+use cf_run::{Report, cfrun_serial};
+use std::alloc::{AllocError, Global};
+
+/// How what a case came to differs from what is wanted, in lines; nothing where it does not.
+pub fn differences_of(alloc: Global, case: &Case) -> Result<String, AllocError> {
+    let mut text = String::new(alloc);
+    for size in &case.sizes {
+        let before = text.len();
+        put_differences(alloc, &mut text, case, *size)?;
+        if text.len() > before {
+            let line = format!(in alloc; "    with {size} bytes a call\n")?;
+            text.push_str(line.as_str())?;
+        }
+    }
+    Ok(text)
+}
+
+// Runs a case with so many bytes a call, and tells how it differs.
+fn put_differences(
+    alloc: Global,
+    text: &mut String,
+    case: &Case,
+    size: usize,
+) -> Result<(), AllocError> {
+    let mut sink = sink_of(alloc, case, size)?;
+    let report = report_of(alloc, case, size, &mut sink)?;
+    put_counts(alloc, text, case, &report)?;
+    if let Some(wanted) = &case.answers {
+        let answers = answers_of(alloc, &report.journal, wanted.as_str())?;
+        put_both(
+            alloc,
+            text,
+            "answers",
+            wanted.as_bytes(),
+            answers.as_bytes(),
+        )?;
+    }
+    if let Some(wanted) = &case.written {
+        put_both(alloc, text, "written", wanted, sink.taken())?;
+    }
+    Ok(())
+}
+
+// The files of a case.
+fn source_of(alloc: Global, case: &Case, size: usize) -> Result<MemSource, AllocError> {
+    let name = String::from_str(alloc, "f")?;
+    let bytes = case.script.clone()?;
+    let files = vec![in alloc; MemFile { name, bytes }]?;
+    Ok(MemSource::new(files, case.failing_reads.clone()?, size.max(1)))
+}
+
+// What a case writes to.
+fn sink_of(alloc: Global, case: &Case, size: usize) -> Result<MemSink, AllocError> {
+    Ok(MemSink::new(alloc, case.failing_writes.clone()?, size.max(1)))
+}
+
+// Runs a case.
+fn report_of(
+    alloc: Global,
+    case: &Case,
+    size: usize,
+    sink: &mut MemSink,
+) -> Result<Report, AllocError> {
+    let mut source = source_of(alloc, case, size)?;
+    let mut words = Vec::new(alloc);
+    for word in &case.words {
+        words.push(word.as_str())?;
+    }
+    Ok(cfrun_serial(alloc, &words, &mut source, sink))
+}
+
+// Tells a status and a number of entries that are not those wanted.
+fn put_counts(
+    alloc: Global,
+    text: &mut String,
+    case: &Case,
+    report: &Report,
+) -> Result<(), AllocError> {
+    if report.status != case.status {
+        let line = format!(in alloc;
+            "    status {} is wanted, and {} came\n",
+            case.status, report.status
+        )?;
+        text.push_str(line.as_str())?;
+    }
+    let entries = report.journal.len();
+    let wanted = case.entries.unwrap_or(entries);
+    if entries != wanted {
+        let line = format!(in alloc; "    {wanted} entries are wanted, and {entries} came\n")?;
+        text.push_str(line.as_str())?;
+    }
+    Ok(())
+}
+
+// Tells two texts where they differ.
+fn put_both(
+    alloc: Global,
+    text: &mut String,
+    what: &str,
+    wanted: &[u8],
+    came: &[u8],
+) -> Result<(), AllocError> {
+    if wanted != came {
+        let wanted = lines_of(alloc, wanted)?;
+        let came = lines_of(alloc, came)?;
+        let lines = format!(in alloc; "{what}, as wanted\n{wanted}{what}, as it came\n{came}")?;
+        text.push_str(lines.as_str())?;
+    }
+    Ok(())
+}
+
+// Bytes as the lines of a text in a file of cases.
+fn lines_of(alloc: Global, bytes: &[u8]) -> Result<String, AllocError> {
+    let mut text = String::new(alloc);
+    let mut is_at_start = true;
+    for byte in bytes {
+        if is_at_start {
+            text.push_str("    | ")?;
+        }
+        is_at_start = *byte == b'\n';
+        put_escaped(alloc, &mut text, *byte)?;
+    }
+    if !is_at_start {
+        text.push_str("%\n")?;
+    }
+    Ok(text)
+}
+
+// Puts in a byte, escaped where it would not be read as it is.
+fn put_escaped(alloc: Global, text: &mut String, byte: u8) -> Result<(), AllocError> {
+    match byte {
+        b'%' | 0..=9 | 11..=31 | 127..=255 => {
+            let escape = format!(in alloc; "%{byte:02x}")?;
+            text.push_str(escape.as_str())
+        }
+        _ => text.push(char::from(byte)),
+    }
+}

@@ -11,14 +11,16 @@ use Rattle.cf_contents.specs.Deeds as deeds
 use Rattle.cf_contents.proofs.Sizes.{length-splice, length-put, length-removed}
 use Rattle.cf_body.specs.Bodies.{members_in}
 use Rattle.cf_body.specs.Changes.{CanBe, done_of, members_for}
-use Rattle.cf_body.specs.declared.change.Change.{Change}
-use Rattle.cf_body.specs.declared.change.Change.TheVariants.{Nothing, Text, Data, Insert, Replace, Remove, Fill, Clear, PutPair, RemovePair}
+use Rattle.cf_body.specs.declared.change.BodyChange.{BodyChange}
+use Rattle.cf_body.specs.declared.change.BodyChange.TheVariants.{Nothing, Text, Data, Insert, Replace, Remove, Fill, Clear, PutPair, RemovePair}
 
-length-same : (fields : List (Option ℕ)) (at : ℕ) (field : Option ℕ) → at < length fields → length (splice fields at (at + 1) (field ∷ [])) ≤ length fields + 0
+length-same : (fields : List (Option ℕ)) (at : ℕ) (field : Option ℕ) → at < length fields
+    → length (splice fields at (at + 1) (field ∷ [])) ≤ length fields + 0
 length-same fields at field within =
     omega (arith, length-append (take at fields) (field ∷ drop (at + 1) fields), length-take at fields, length-drop (at + 1) fields)
 
-members_after : (change : Change) (c : Content) → CanBe change c → members_in (deeds.content_after (done_of change) c) ≤ members_in c + members_for change
+members_after : (change : BodyChange) (c : Content) → CanBe change c
+    → members_in (deeds.content_after (done_of change) c) ≤ members_in c + members_for change
 members_after Nothing c can = omega arith
 members_after (Text at len text) (text_content true units) can = omega arith
 members_after (Text at len text) (text_content false units) can = omega arith
@@ -34,7 +36,8 @@ members_after (PutPair key value) (dictionary_content plain pairs) can =
 members_after (RemovePair key) (dictionary_content plain pairs) can = omega (arith, length-removed (equal_to plain key) pairs)
 members_after _ _ can = absurd can
 
-pub few_after : (change : Change) (old new : Content) → new ≡ deeds.content_after (done_of change) old → CanBe change old → members_in old + members_for change < member_limit
+pub few_after : (change : BodyChange) (old new : Content) → new ≡ deeds.content_after (done_of change) old
+    → CanBe change old → members_in old + members_for change < member_limit
     → members_in new < member_limit
 few_after change old new is can few =
     let most = members_after change old can in
@@ -42,7 +45,8 @@ few_after change old new is can few =
     omega (arith, most, same, few)
 
 -- a collection that may grow has few members, and other contents keep theirs
-pub fits_members : (change : Change) (c : Content) → CanBe change c → members_in c < member_limit → size_of c + members_for change < member_limit
+pub fits_members : (change : BodyChange) (c : Content) → CanBe change c → members_in c < member_limit
+    → size_of c + members_for change < member_limit
     → members_in c + members_for change < member_limit
 fits_members Nothing c can few fits = omega (arith, few)
 fits_members (Text at len text) c can few fits = omega (arith, few)

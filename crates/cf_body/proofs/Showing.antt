@@ -14,7 +14,8 @@ use Rattle.cf_ids.specs.Words.{number_word}
 use Rattle.cf_body.specs.Bodies.{word_at, words_of, members_in}
 
 -- what is left of a list gives its next item
-next_item : (xs : List ℕ) (i c : ℕ) (rest : List ℕ) → drop i xs ≡ c ∷ rest → (take (suc i) xs ≡ take i xs ++ c ∷ []) × (drop (suc i) xs ≡ rest)
+next_item : (xs : List ℕ) (i c : ℕ) (rest : List ℕ) → drop i xs ≡ c ∷ rest
+    → (take (suc i) xs ≡ take i xs ++ c ∷ []) × (drop (suc i) xs ≡ rest)
 next_item [] zero c rest is = absurd cc
 next_item [] (suc i) c rest is = absurd cc
 next_item (x ∷ xs) zero c rest is = (cc, cc)
@@ -49,7 +50,8 @@ Written-start units before = record { shown = sym (append-nil before); left = re
 
 -- one character more
 pub Written-next : (units before now more : List ℕ) (at next count c : ℕ) → Written units before now at count
-    → utf16_lossy_chars (drop at units) ≡ c ∷ utf16_lossy_chars (drop next units) → more ≡ now ++ shown_char c → Written units before more next (count + 1)
+    → utf16_lossy_chars (drop at units) ≡ c ∷ utf16_lossy_chars (drop next units) → more ≡ now ++ shown_char c
+    → Written units before more next (count + 1)
 Written-next units before now more at next count c written first is =
     let chars = utf16_lossy_chars units in
     let item = next_item chars count c (utf16_lossy_chars (drop next units)) (sym written.left ∙ first) in
@@ -67,7 +69,8 @@ pub record Ended (units before now : List ℕ) (at : ℕ) : Type 0 where
   pub written : now ≡ before ++ flat_map shown_char (take 32 (utf16_lossy_chars units))
   pub end : nat_lt at (length units) ≡ nat_lt 32 (length (utf16_lossy_chars units))
 
-pub Ended-whole : (units before now : List ℕ) (at count : ℕ) → Written units before now at count → count ≤ 32 → length units ≤ at → Ended units before now at
+pub Ended-whole : (units before now : List ℕ) (at count : ℕ) → Written units before now at count → count ≤ 32
+    → length units ≤ at → Ended units before now at
 Ended-whole units before now at count written few past =
     let chars = utf16_lossy_chars units in
     let none : drop count chars ≡ [] = sym written.left ∙ none_left units at past in
@@ -78,7 +81,8 @@ Ended-whole units before now at count written few past =
       end = le-ltb at (length units) past ∙ sym (le-ltb 32 (length chars) (omega arith));
     }
 
-pub Ended-full : (units before now : List ℕ) (at count : ℕ) → Written units before now at count → count ≡ 32 → Ended units before now at
+pub Ended-full : (units before now : List ℕ) (at count : ℕ) → Written units before now at count → count ≡ 32
+    → Ended units before now at
 Ended-full units before now at count written full =
     let chars = utf16_lossy_chars units in
     let left : utf16_lossy_chars (drop at units) ≡ drop 32 chars = written.left ∙ ap (λ n. drop n chars) full in
@@ -105,7 +109,8 @@ shown_some bytes count some is =
 
 -- one member more
 join_last : (a : List ℕ) (words : List (List ℕ)) (p : ℕ) → p < length words
-    → join_with_byte 32 (take (suc (suc p)) (a ∷ words)) ≡ join_with_byte 32 (take (suc p) (a ∷ words)) ++ 32 ∷ word_at words p
+    → join_with_byte 32 (take (suc (suc p)) (a ∷ words))
+    ≡ join_with_byte 32 (take (suc p) (a ∷ words)) ++ 32 ∷ word_at words p
 join_last a [] p within = absurd (omega arith)
 join_last a (b ∷ words) zero within = refl
 join_last a (b ∷ words) (suc p) within =
@@ -113,13 +118,15 @@ join_last a (b ∷ words) (suc p) within =
     ∙ sym (append_assoc a (32 ∷ join_with_byte 32 (take (suc p) (b ∷ words))) (32 ∷ word_at words p))
 
 pub join_first : (words : List (List ℕ)) (p : ℕ) (before out now : List ℕ) → p < length words → p ≤ 0
-    → out ≡ before ++ join_with_byte 32 (take p words) → now ≡ out ++ word_at words p → now ≡ before ++ join_with_byte 32 (take (p + 1) words)
+    → out ≡ before ++ join_with_byte 32 (take p words) → now ≡ out ++ word_at words p
+    → now ≡ before ++ join_with_byte 32 (take (p + 1) words)
 join_first [] p before out now within first old new = absurd (omega arith)
 join_first (a ∷ words) zero before out now within first old new = new ∙ ap (λ (xs : List ℕ). xs ++ a) (old ∙ append-nil before)
 join_first (a ∷ words) (suc p) before out now within first old new = absurd (omega arith)
 
 pub join_next : (words : List (List ℕ)) (p : ℕ) (before out now : List ℕ) → p < length words → 0 < p
-    → out ≡ before ++ join_with_byte 32 (take p words) → now ≡ (out ++ 32 ∷ []) ++ word_at words p → now ≡ before ++ join_with_byte 32 (take (p + 1) words)
+    → out ≡ before ++ join_with_byte 32 (take p words) → now ≡ (out ++ 32 ∷ []) ++ word_at words p
+    → now ≡ before ++ join_with_byte 32 (take (p + 1) words)
 join_next [] p before out now within more old new = absurd (omega arith)
 join_next (a ∷ words) zero before out now within more old new = absurd (omega arith)
 join_next (a ∷ words) (suc p) before out now within more old new =

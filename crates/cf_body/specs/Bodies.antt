@@ -14,7 +14,7 @@ use Rattle.cf_body.specs.declared.body.Kind.TheVariants.{Text, Data, Number, Ins
 pub record BodyView : Type 0 where
   pub class : ℕ
   pub content : Content
-  pub is_dead : Bool
+  pub is_finalised : Bool
   pub given_up : ℕ
   pub room : ℕ
 
@@ -22,7 +22,7 @@ abbrev pub object_in : BodyView → Object
 object_in b = record { class = b.class; content = b.content }
 
 abbrev pub held_of : BodyView → Held
-held_of b = record { object = object_in b; is_dead = b.is_dead; given_up = b.given_up }
+held_of b = record { object = object_in b; is_finalised = b.is_finalised; given_up = b.given_up }
 
 abbrev pub content_of : Kind → Content
 content_of (Text mutable text) = text_content mutable text.units

@@ -1,11 +1,11 @@
 -- Changes of bodies, with the objects that come in.
 use Rattle.std.specs.Prelude.{◌≡◌, ℕ, true, ◌+◌, ◌<◌, ◌≤◌, List, [], ◌∷◌, length, Option, Some, None}
-use Rattle.cf_string.specs.Faults.{cut_fault}
+use Rattle.cf_string.specs.Faults.{split_fault}
 use Rattle.cf_contents.specs.Contents.{Content, text_content, data_content, instance_content, array_content, dictionary_content, member_limit, present}
 use Rattle.cf_contents.specs.Deeds as deeds
 use Rattle.cf_body.specs.Bodies.{BodyView, members_in}
-use Rattle.cf_body.specs.declared.change.Change.{Change}
-use Rattle.cf_body.specs.declared.change.Change.TheVariants.{Nothing, Text, Data, Insert, Replace, Remove, Fill, Clear, PutPair, RemovePair}
+use Rattle.cf_body.specs.declared.change.BodyChange.{BodyChange}
+use Rattle.cf_body.specs.declared.change.BodyChange.TheVariants.{Nothing, Text, Data, Insert, Replace, Remove, Fill, Clear, PutPair, RemovePair}
 use Rattle.cf_body.specs.declared.change.Moved.{Moved}
 
 -- an edit of places
@@ -13,7 +13,7 @@ abbrev pub places : ℕ → ℕ → List (Option ℕ) → deeds.Change
 places at out enter = deeds.in_places (record { at = at; out = out; enter = enter })
 
 -- a change of contents, with the objects themselves
-abbrev pub done_of : Change → deeds.Change
+abbrev pub done_of : BodyChange → deeds.Change
 done_of Nothing = deeds.unchanged
 done_of (Text at len text) = deeds.in_text (record { at = at; out = len; enter = text.units })
 done_of (Data at len bytes) = deeds.in_data (record { at = at; out = len; enter = bytes.items })
@@ -26,9 +26,9 @@ done_of (PutPair key value) = deeds.put_pair key value
 done_of (RemovePair key) = deeds.remove_pair key
 
 -- a content can be changed so: it is of the kind, and the places are within it
-abbrev pub CanBe : Change → Content → Type 0
+abbrev pub CanBe : BodyChange → Content → Type 0
 CanBe Nothing c = Unit {0}
-CanBe (Text at len text) (text_content mutable units) = (mutable ≡ true) × (cut_fault units at len ≡ None)
+CanBe (Text at len text) (text_content mutable units) = (mutable ≡ true) × (split_fault units at len ≡ None)
 CanBe (Data at len bytes) (data_content mutable old) = (mutable ≡ true) × (at + len ≤ length old)
 CanBe (Insert at element) (array_content plain os) = at ≤ length os
 CanBe (Replace at element) (array_content plain os) = at ≤ length os
@@ -40,7 +40,7 @@ CanBe (RemovePair key) (dictionary_content plain pairs) = Unit {0}
 CanBe _ _ = ⊥
 
 -- for how many units, bytes, elements or pairs a change needs room, and by how many members it grows a body at most
-abbrev pub room_for : Change → ℕ
+abbrev pub room_for : BodyChange → ℕ
 room_for Nothing = 0
 room_for (Text at len text) = length text.units
 room_for (Data at len bytes) = length bytes.items
@@ -52,7 +52,7 @@ room_for (Clear at) = 0
 room_for (PutPair key value) = 1
 room_for (RemovePair key) = 0
 
-abbrev pub members_for : Change → ℕ
+abbrev pub members_for : BodyChange → ℕ
 members_for Nothing = 0
 members_for (Text at len text) = 0
 members_for (Data at len bytes) = 0
@@ -65,12 +65,12 @@ members_for (PutPair key value) = 1
 members_for (RemovePair key) = 0
 
 -- there is room for what comes in
-pub record HasRoom (change : Change) (b : BodyView) : Type 0 where
+pub record HasRoom (change : BodyChange) (b : BodyView) : Type 0 where
   pub memory : room_for change ≤ b.room
   pub members : members_in b.content + members_for change < member_limit
 
 -- a change is done to a content, and what it moves is told
-pub record DoneTo (change : Change) (old new : Content) (moved : Moved) : Type 0 where
+pub record DoneTo (change : BodyChange) (old new : Content) (moved : Moved) : Type 0 where
   pub content : new ≡ deeds.content_after (done_of change) old
   pub took : present moved.took ≡ deeds.coming_in (done_of change) old
   pub gave : present moved.gave ≡ deeds.going_out (done_of change) old

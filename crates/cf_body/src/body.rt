@@ -44,7 +44,7 @@ pub enum Kind {
 pub struct Body {
     pub(crate) class: TypeId,
     pub(crate) kind: Kind,
-    pub(crate) is_dead: bool,
+    pub(crate) is_finalised: bool,
     pub(crate) given_up: u32,
 }
 
@@ -58,7 +58,7 @@ impl Model for Body {
     ghost view = { λ b. record {
       class = b.class;
       content = content_of b.kind;
-      is_dead = b.is_dead;
+      is_finalised = b.is_finalised;
       given_up = b.given_up;
       room = room_of b.kind;
     } };
@@ -75,7 +75,7 @@ impl Body {
         Body {
             class,
             kind,
-            is_dead: false,
+            is_finalised: false,
             given_up: 0,
         }
     }
@@ -95,10 +95,10 @@ impl Body {
     }
 
     /// Whether the object is finalised.
-    pub fn is_dead(&self) -> bool
-        ensures { result ≡ self.now.is_dead }
+    pub fn is_finalised(&self) -> bool
+        ensures { result ≡ self.now.is_finalised }
     {
-        self.is_dead
+        self.is_finalised
     }
 
     /// How many of its slots it has given up.

@@ -10,7 +10,7 @@ use cf_types::Cell;
 
 /// What becomes of the first object that a statement uses.
 #[derive(Drop)]
-pub enum Change {
+pub enum BodyChange {
     /// Nothing becomes of it.
     Nothing,
     /// A text in place of the `len` units from `at` on.
@@ -33,15 +33,16 @@ pub enum Change {
     RemovePair { key: Cell },
 }
 
-impl Change {
+impl BodyChange {
     /// For how many units, bytes, elements or pairs it needs room.
     pub(crate) fn room(&self) -> usize
         ensures { result ≡ room_for self.now }
     {
         match self {
-            Change::Text { text, .. } => text.length(),
-            Change::Data { bytes, .. } => bytes.length(),
-            Change::Insert { .. } | Change::Replace { .. } | Change::PutPair { .. } => 1,
+            BodyChange::Text { text, .. } => text.length(),
+            BodyChange::Data { bytes, .. } => bytes.length(),
+            BodyChange::Insert { .. } | BodyChange::Replace { .. } | BodyChange::PutPair { .. } =>
+                1,
             _ => 0,
         }
     }

@@ -5,10 +5,10 @@ ghost use Rattle.cf_contents.specs.Deeds.{coming_in, going_out};
 ghost use Rattle.cf_body.specs.Bodies.{content_of, room_of, held_of};
 ghost use Rattle.cf_body.specs.Changes.{done_of, room_for, members_for, CanBe, HasRoom, DoneTo};
 ghost use Rattle.cf_contents.specs.Stores.{body_changed};
-ghost use Rattle.cf_body.specs.declared.change.Change.TheVariants.{Insert, Replace, Remove, Fill, Clear, PutPair, RemovePair};
+ghost use Rattle.cf_body.specs.declared.change.BodyChange.TheVariants.{Insert, Replace, Remove, Fill, Clear, PutPair, RemovePair};
 
 use crate::body::{Body, Instance, Kind};
-use crate::change::{Change, Moved};
+use crate::change::{BodyChange, Moved};
 use crate::pairs::Pairs;
 use cf_array::Array;
 use cf_data::Bytes;
@@ -20,7 +20,7 @@ use std::mem;
 
 impl Body {
     /// Makes room for a change. It is refused only for want of memory, and that changes nothing.
-    pub fn reserve(&mut self, change: &Change) -> Result<(), NoMemory>
+    pub fn reserve(&mut self, change: &BodyChange) -> Result<(), NoMemory>
         requires can { CanBe change.now self.old.content }
         requires few { size_of self.old.content + members_for change.now < member_limit }
         ensures held { held_of self.new ≡ held_of self.old }
@@ -35,7 +35,7 @@ impl Body {
     }
 
     /// Does a change for which there is room, and tells what came in and went out.
-    pub fn change(&mut self, change: Change) -> Moved
+    pub fn change(&mut self, change: BodyChange) -> Moved
         requires can { CanBe change self.old.content }
         requires room { HasRoom change self.old }
         ensures held { held_of self.new ≡ body_changed (done_of change) (held_of self.old) }
@@ -47,7 +47,7 @@ impl Body {
 }
 
 /// Makes room for a change.
-fn reserve(kind: &mut Kind, change: &Change) -> Result<(), NoMemory>
+fn reserve(kind: &mut Kind, change: &BodyChange) -> Result<(), NoMemory>
     requires { CanBe change.now (content_of kind.old) }
     ensures content { content_of kind.new ≡ content_of kind.old }
     ensures room { OnOk result (room_for change.now ≤ room_of kind.new) }
@@ -66,7 +66,7 @@ fn reserve(kind: &mut Kind, change: &Change) -> Result<(), NoMemory>
 }
 
 /// Changes what an object contains.
-fn change_kind(kind: &mut Kind, change: Change) -> Moved
+fn change_kind(kind: &mut Kind, change: BodyChange) -> Moved
     requires can { CanBe change (content_of kind.old) }
     requires room { room_for change ≤ room_of kind.old }
     ensures { DoneTo change (content_of kind.old) (content_of kind.new) result }
@@ -82,13 +82,13 @@ fn change_kind(kind: &mut Kind, change: Change) -> Moved
 }
 
 /// Changes a text.
-fn change_text(mutable: bool, text: &mut Str, change: Change) -> Moved
+fn change_text(mutable: bool, text: &mut Str, change: BodyChange) -> Moved
     requires can { CanBe change (text_content mutable text.old.units) }
     requires room { room_for change ≤ text.old.room }
     ensures { DoneTo change (text_content mutable text.old.units) (text_content mutable text.new.units) result }
 {
     match change {
-        Change::Text {
+        BodyChange::Text {
             at,
             len,
             text: other,
@@ -101,13 +101,13 @@ fn change_text(mutable: bool, text: &mut Str, change: Change) -> Moved
 }
 
 /// Changes data.
-fn change_bytes(mutable: bool, bytes: &mut Bytes, change: Change) -> Moved
+fn change_bytes(mutable: bool, bytes: &mut Bytes, change: BodyChange) -> Moved
     requires can { CanBe change (data_content mutable bytes.old.items) }
     requires room { room_for change ≤ bytes.old.room }
     ensures { DoneTo change (data_content mutable bytes.old.items) (data_content mutable bytes.new.items) result }
 {
     match change {
-        Change::Data {
+        BodyChange::Data {
             at,
             len,
             bytes: other,
@@ -120,14 +120,14 @@ fn change_bytes(mutable: bool, bytes: &mut Bytes, change: Change) -> Moved
 }
 
 /// Changes the fields of an instance.
-fn change_fields(instance: &mut Instance, change: Change) -> Moved
+fn change_fields(instance: &mut Instance, change: BodyChange) -> Moved
     requires { CanBe change (instance_content instance.old.key instance.old.fields.items) }
     ensures { DoneTo change (instance_content instance.old.key instance.old.fields.items)
         (instance_content instance.new.key instance.new.fields.items) result }
 {
     match change {
-        Change::Fill { at, element } => fill_field(instance, at, element),
-        Change::Clear { at } => clear_field(instance, at),
+        BodyChange::Fill { at, element } => fill_field(instance, at, element),
+        BodyChange::Clear { at } => clear_field(instance, at),
         _ => Moved::nothing(),
     }
 }
@@ -159,15 +159,15 @@ fn clear_field(instance: &mut Instance, at: usize) -> Moved
 }
 
 /// Changes the elements of an array.
-fn change_elements(plain: bool, elements: &mut Array<ObjId>, change: Change) -> Moved
+fn change_elements(plain: bool, elements: &mut Array<ObjId>, change: BodyChange) -> Moved
     requires can { CanBe change (array_content plain elements.old.items) }
     requires room { room_for change ≤ elements.old.room }
     ensures { DoneTo change (array_content plain elements.old.items) (array_content plain elements.new.items) result }
 {
     match change {
-        Change::Insert { at, element } => insert_element(plain, elements, at, element),
-        Change::Replace { at, element } => replace_element(plain, elements, at, element),
-        Change::Remove { at } => remove_element(plain, elements, at),
+        BodyChange::Insert { at, element } => insert_element(plain, elements, at, element),
+        BodyChange::Replace { at, element } => replace_element(plain, elements, at, element),
+        BodyChange::Remove { at } => remove_element(plain, elements, at),
         _ => Moved::nothing(),
     }
 }
@@ -205,14 +205,15 @@ fn remove_element(plain: bool, elements: &mut Array<ObjId>, at: usize) -> Moved
 }
 
 /// Changes the pairs of a dictionary.
-fn change_pairs(pairs: &mut Pairs, change: Change) -> Moved
+fn change_pairs(pairs: &mut Pairs, change: BodyChange) -> Moved
     requires can { CanBe change (dictionary_content pairs.old.plain pairs.old.items) }
     requires room { room_for change ≤ pairs.old.room }
-    ensures { DoneTo change (dictionary_content pairs.old.plain pairs.old.items) (dictionary_content pairs.new.plain pairs.new.items) result }
+    ensures { DoneTo change (dictionary_content pairs.old.plain pairs.old.items)
+        (dictionary_content pairs.new.plain pairs.new.items) result }
 {
     match change {
-        Change::PutPair { key, value } => put_pair(pairs, key, value),
-        Change::RemovePair { key } => remove_pair(pairs, &key),
+        BodyChange::PutPair { key, value } => put_pair(pairs, key, value),
+        BodyChange::RemovePair { key } => remove_pair(pairs, &key),
         _ => Moved::nothing(),
     }
 }
@@ -220,7 +221,8 @@ fn change_pairs(pairs: &mut Pairs, change: Change) -> Moved
 /// Puts a pair in.
 fn put_pair(pairs: &mut Pairs, key: Cell, value: ObjId) -> Moved
     requires { 0 < pairs.old.room }
-    ensures { DoneTo (PutPair key value) (dictionary_content pairs.old.plain pairs.old.items) (dictionary_content pairs.new.plain pairs.new.items) result }
+    ensures { DoneTo (PutPair key value) (dictionary_content pairs.old.plain pairs.old.items)
+        (dictionary_content pairs.new.plain pairs.new.items) result }
 {
     let id = key.id;
     match pairs.put(key, value) {
@@ -231,7 +233,8 @@ fn put_pair(pairs: &mut Pairs, key: Cell, value: ObjId) -> Moved
 
 /// Removes a pair.
 fn remove_pair(pairs: &mut Pairs, key: &Cell) -> Moved
-    ensures { DoneTo (RemovePair key.now) (dictionary_content pairs.old.plain pairs.old.items) (dictionary_content pairs.new.plain pairs.new.items) result }
+    ensures { DoneTo (RemovePair key.now) (dictionary_content pairs.old.plain pairs.old.items)
+        (dictionary_content pairs.new.plain pairs.new.items) result }
 {
     match pairs.remove(key) {
         Some((key, value)) => {

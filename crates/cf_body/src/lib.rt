@@ -13,7 +13,7 @@ mod pairs;
 mod slots;
 
 pub use body::{Body, Instance, Kind};
-pub use change::{Change, Moved};
+pub use change::{BodyChange, Moved};
 pub use classes::{class_line, class_name};
 pub use description::describe;
 pub use keys::key_of;

@@ -3,7 +3,7 @@ ghost use Rattle.std.specs.Prelude.{◌≡◌, ◌+◌, ◌<◌, Some, slice_get
 ghost use Rattle.std.specs.Option.{option_map};
 ghost use Rattle.cf_contents.specs.Contents.{present, flat, unless_plain, slots_in};
 ghost use Rattle.cf_body.specs.Bodies.{content_of, held_of};
-ghost use Rattle.cf_contents.specs.Stores.{body_retired, body_dropped, left_to};
+ghost use Rattle.cf_contents.specs.Stores.{body_finalised, body_dropped, left_to};
 
 use crate::body::{Body, Kind};
 use crate::pairs::Pairs;
@@ -20,10 +20,10 @@ impl Body {
 
     /// Finalises the object.
     pub fn retire(&mut self)
-        ensures held { held_of self.new ≡ body_retired (held_of self.old) }
+        ensures held { held_of self.new ≡ body_finalised (held_of self.old) }
         ensures room { self.new.room ≡ self.old.room }
     {
-        self.is_dead = true;
+        self.is_finalised = true;
     }
 
     /// Gives up the first slot that is left, and tells its place and the object in it.

@@ -6,17 +6,20 @@ use Rattle.cf_contents.specs.Contents.{Object}
 use Rattle.cf_contents.specs.Deeds.{Change, changed_by, with_change}
 use Rattle.cf_contents.specs.Stores.{Held, objects_of, with_body, body_changed, bodies_changed}
 
-pub get-map : (bodies : List Held) (o : ℕ) → slice_get (objects_of bodies) o ≡ option_map (λ (h : Held). h.object) (slice_get bodies o)
+pub get-map : (bodies : List Held) (o : ℕ)
+    → slice_get (objects_of bodies) o ≡ option_map (λ (h : Held). h.object) (slice_get bodies o)
 get-map [] o = refl
 get-map (h ∷ hs) zero = refl
 get-map (h ∷ hs) (suc o) = get-map hs o
 
-pub get-own : (f : Held → Held) (o : ℕ) (bodies : List Held) → slice_get (with_body f o bodies) o ≡ option_map f (slice_get bodies o)
+pub get-own : (f : Held → Held) (o : ℕ) (bodies : List Held)
+    → slice_get (with_body f o bodies) o ≡ option_map f (slice_get bodies o)
 get-own f o [] = refl
 get-own f zero (h ∷ hs) = refl
 get-own f (suc o) (h ∷ hs) = get-own f o hs
 
-pub get-other : (f : Held → Held) (o p : ℕ) (bodies : List Held) → (o ≡ p → ⊥) → slice_get (with_body f o bodies) p ≡ slice_get bodies p
+pub get-other : (f : Held → Held) (o p : ℕ) (bodies : List Held) → (o ≡ p → ⊥)
+    → slice_get (with_body f o bodies) p ≡ slice_get bodies p
 get-other f o p [] h = refl
 get-other f zero zero (b ∷ bs) h = absurd (h refl)
 get-other f zero (suc p) (b ∷ bs) h = refl
@@ -33,16 +36,19 @@ length-objects [] = refl
 length-objects (h ∷ hs) = ap suc (length-objects hs)
 
 -- the objects after a change, and after one that leaves them
-objects-body : (o : ℕ) (change : Change) (bodies : List Held) → objects_of (with_body (body_changed change) o bodies) ≡ with_change o change (objects_of bodies)
+objects-body : (o : ℕ) (change : Change) (bodies : List Held)
+    → objects_of (with_body (body_changed change) o bodies) ≡ with_change o change (objects_of bodies)
 objects-body o change [] = refl
 objects-body zero change (h ∷ hs) = refl
 objects-body (suc o) change (h ∷ hs) = ap (λ (os : List Object). h.object ∷ os) (objects-body o change hs)
 
-pub objects-changed : (o : Option ℕ) (change : Change) (bodies : List Held) → objects_of (bodies_changed o change bodies) ≡ changed_by o change (objects_of bodies)
+pub objects-changed : (o : Option ℕ) (change : Change) (bodies : List Held)
+    → objects_of (bodies_changed o change bodies) ≡ changed_by o change (objects_of bodies)
 objects-changed None change bodies = refl
 objects-changed (Some o) change bodies = objects-body o change bodies
 
-pub objects-kept : (f : Held → Held) → ((h : Held) → (f h).object ≡ h.object) → (o : ℕ) (bodies : List Held) → objects_of (with_body f o bodies) ≡ objects_of bodies
+pub objects-kept : (f : Held → Held) → ((h : Held) → (f h).object ≡ h.object) → (o : ℕ) (bodies : List Held)
+    → objects_of (with_body f o bodies) ≡ objects_of bodies
 objects-kept f same o [] = refl
 objects-kept f same zero (h ∷ hs) = ap (λ (ob : Object). ob ∷ objects_of hs) (same h)
 objects-kept f same (suc o) (h ∷ hs) = ap (λ (os : List Object). h.object ∷ os) (objects-kept f same o hs)

@@ -7,23 +7,29 @@ use Rattle.cf_contents.specs.Contents.{Content, text_content, data_content, inst
 use Rattle.cf_contents.specs.Deeds.{Change, unchanged, in_text, in_data, in_places, put_pair, remove_pair, Splice, text_after, data_after, places_after, content_after, with_change, changed_by}
 use Rattle.cf_contents.specs.Keys.{compared_by}
 
-pub length-with_change : (o : ℕ) (change : Change) (objects : List Object) → length (with_change o change objects) ≡ length objects
+pub length-with_change : (o : ℕ) (change : Change) (objects : List Object)
+    → length (with_change o change objects) ≡ length objects
 length-with_change o change [] = refl
 length-with_change zero change (ob ∷ obs) = refl
 length-with_change (suc o) change (ob ∷ obs) = ap suc (length-with_change o change obs)
 
-pub length-changed_by : (o : Option ℕ) (change : Change) (objects : List Object) → length (changed_by o change objects) ≡ length objects
+pub length-changed_by : (o : Option ℕ) (change : Change) (objects : List Object)
+    → length (changed_by o change objects) ≡ length objects
 length-changed_by None change objects = refl
 length-changed_by (Some o) change objects = length-with_change o change objects
 
-pub class-with_change : (o : ℕ) (change : Change) (objects : List Object) (p : ℕ) → option_map (λ (ob : Object). ob.class) (slice_get (with_change o change objects) p) ≡ option_map (λ (ob : Object). ob.class) (slice_get objects p)
+pub class-with_change : (o : ℕ) (change : Change) (objects : List Object) (p : ℕ)
+    → option_map (λ (ob : Object). ob.class) (slice_get (with_change o change objects) p)
+    ≡ option_map (λ (ob : Object). ob.class) (slice_get objects p)
 class-with_change o change [] p = refl
 class-with_change zero change (ob ∷ obs) zero = refl
 class-with_change zero change (ob ∷ obs) (suc p) = refl
 class-with_change (suc o) change (ob ∷ obs) zero = refl
 class-with_change (suc o) change (ob ∷ obs) (suc p) = class-with_change o change obs p
 
-pub class-changed_by : (o : Option ℕ) (change : Change) (objects : List Object) (p : ℕ) → option_map (λ (ob : Object). ob.class) (slice_get (changed_by o change objects) p) ≡ option_map (λ (ob : Object). ob.class) (slice_get objects p)
+pub class-changed_by : (o : Option ℕ) (change : Change) (objects : List Object) (p : ℕ)
+    → option_map (λ (ob : Object). ob.class) (slice_get (changed_by o change objects) p)
+    ≡ option_map (λ (ob : Object). ob.class) (slice_get objects p)
 class-changed_by None change objects p = refl
 class-changed_by (Some o) change objects p = class-with_change o change objects p
 
@@ -37,20 +43,24 @@ changed_by-unchanged None objects = refl
 changed_by-unchanged (Some o) objects = with_change-unchanged o objects
 
 -- what an object is compared by stays
-form-text : (keyed : Bool) (o : ℕ) (e : Splice ℕ) (c : Content) → compared_by keyed o (text_after e c) ≡ compared_by keyed o c
+form-text : (keyed : Bool) (o : ℕ) (e : Splice ℕ) (c : Content)
+    → compared_by keyed o (text_after e c) ≡ compared_by keyed o c
 form-text keyed o e (text_content true units) = refl
 form-text keyed o e _ = refl
 
-form-data : (keyed : Bool) (o : ℕ) (e : Splice ℕ) (c : Content) → compared_by keyed o (data_after e c) ≡ compared_by keyed o c
+form-data : (keyed : Bool) (o : ℕ) (e : Splice ℕ) (c : Content)
+    → compared_by keyed o (data_after e c) ≡ compared_by keyed o c
 form-data keyed o e (data_content true bytes) = refl
 form-data keyed o e _ = refl
 
-form-places : (keyed : Bool) (o : ℕ) (e : Splice (Option ℕ)) (c : Content) → compared_by keyed o (places_after e c) ≡ compared_by keyed o c
+form-places : (keyed : Bool) (o : ℕ) (e : Splice (Option ℕ)) (c : Content)
+    → compared_by keyed o (places_after e c) ≡ compared_by keyed o c
 form-places keyed o e (instance_content key fields) = refl
 form-places keyed o e (array_content plain os) = refl
 form-places keyed o e _ = refl
 
-pub form-after : (keyed : Bool) (o : ℕ) (change : Change) (c : Content) → compared_by keyed o (content_after change c) ≡ compared_by keyed o c
+pub form-after : (keyed : Bool) (o : ℕ) (change : Change) (c : Content)
+    → compared_by keyed o (content_after change c) ≡ compared_by keyed o c
 form-after keyed o unchanged c = refl
 form-after keyed o (in_text e) c = form-text keyed o e c
 form-after keyed o (in_data e) c = form-data keyed o e c

@@ -10,24 +10,24 @@ use Rattle.cf_number.specs.Numbers.{Number}
 use Rattle.cf_number.specs.Kinds.{fits_kind}
 use Rattle.cf_string.specs.declared.faults.StrFault.{StrFault}
 use Rattle.cf_string.specs.declared.faults.StrFault.TheVariants.{Range, SplitsPair}
-use Rattle.cf_string.specs.Faults.{cut_fault}
+use Rattle.cf_string.specs.Faults.{split_fault}
 use Rattle.cf_types.specs.declared.cells.Cell.{Cell}
 use Rattle.cf_syntax.specs.declared.script.ClassLine.{ClassLine}
 use Rattle.cf_syntax.specs.declared.statement.Statement.{Statement}
 use Rattle.cf_syntax.specs.declared.statement.Statement.TheVariants as forms
-use Rattle.cf_syntax.specs.declared.statement.Touch.{Touch}
-use Rattle.cf_syntax.specs.declared.statement.Touch.TheVariants.{Nothing, Binds, Plus, Minus}
-use Rattle.cf_syntax.specs.Forms.{touch_of, makes_object}
+use Rattle.cf_syntax.specs.declared.statement.Ownership.{Ownership}
+use Rattle.cf_syntax.specs.declared.statement.Ownership.TheVariants.{Keeps, Binds, Retains, Releases}
+use Rattle.cf_syntax.specs.Forms.{ownership_of, makes_object}
 use Rattle.cf_contents.specs.Contents.{Content, text_content, data_content, number_content, instance_content, array_content, dictionary_content, times, present, slots_in, size_of, instance_of}
 use Rattle.cf_contents.specs.Keys.{Numbered, number_of, class_line}
-use Rattle.cf_contents.specs.Deeds.{Origin, nowhere, fresh, there, Change, unchanged, Deed, answered, made, changing, binding, with_object, with_key, text_in, mutable_text_in, mutable_data_in, number_in, fields_in, elements_in, pairs_in, with_text, with_mutable_text, with_mutable_data, with_number, with_fields, with_elements, with_pair, unless_cut, within, edited_text, edited_data, edited_places, as_kind, fresh_if, putting, adding_pair, setting_pair, replacing_pair, removing_pair, deed_of}
+use Rattle.cf_contents.specs.Deeds.{Origin, nowhere, fresh, there, Change, unchanged, Deed, answering, creating, changing, binding, with_object, with_key, text_in, mutable_text_in, mutable_data_in, number_in, fields_in, elements_in, pairs_in, with_text, with_mutable_text, with_mutable_data, with_number, with_fields, with_elements, with_pair, unless_split, within, text_edit, data_edit, places_edit, as_kind, fresh_if, putting, adding_pair, setting_pair, replacing_pair, removing_pair, deed_of}
 use Rattle.cf_contents.proofs.SlotLaws.{present-empty, MakesEmpty, named_in}
 
-abbrev pub ChangesFor : Touch → Change → Type 0
-ChangesFor Nothing change = Unit {0}
+abbrev pub ChangesFor : Ownership → Change → Type 0
+ChangesFor Keeps change = Unit {0}
 ChangesFor (Binds v) change = change ≡ unchanged
-ChangesFor (Plus v) change = change ≡ unchanged
-ChangesFor (Minus v) change = change ≡ unchanged
+ChangesFor (Retains v) change = change ≡ unchanged
+ChangesFor (Releases v) change = change ≡ unchanged
 
 -- an answer that names no object
 abbrev pub NamesNone : Answer → Type 0
@@ -52,21 +52,21 @@ pub record AreUsed (b c : Option Numbered) (ns : List ℕ) : Type 0 where
   pub among : (o : ℕ) → 0 < times o ns → (number_of b ≡ Some o) ⊎ (number_of c ≡ Some o)
   pub few : length ns ≤ 2
 
--- a deed that a statement with this touch may have, which makes an object or not, and uses these besides its first
+-- a deed that a statement with this ownership may have, which makes an object or not, and uses these besides its first
 -- object
-pub record Fits (touch : Touch) (making : Bool) (b c : Option Numbered) (d : Deed) : Type 0 where
+pub record Fits (ownership : Ownership) (making : Bool) (b c : Option Numbered) (d : Deed) : Type 0 where
   pub makes : MakesEmpty d.origin
   pub small : MakesSmall d.origin
   pub only : MakesOnly making d.origin
-  pub changes : ChangesFor touch d.change
+  pub changes : ChangesFor ownership d.change
   pub names : NamesNone d.answer
   pub used : AreUsed b c (named_in d.change)
 
-no_change : (touch : Touch) → ChangesFor touch unchanged
-no_change Nothing = tt
+no_change : (ownership : Ownership) → ChangesFor ownership unchanged
+no_change Keeps = tt
 no_change (Binds v) = refl
-no_change (Plus v) = refl
-no_change (Minus v) = refl
+no_change (Retains v) = refl
+no_change (Releases v) = refl
 
 no_making : (making : Bool) → MakesOnly making nowhere
 no_making true = tt
@@ -108,149 +108,164 @@ pair_used b c k v first second = record { among = pair_among b c k v first secon
 
 -- ---- by what a deed is made of: one that fits whatever it finds
 
-module _ (touch : Touch) (making : Bool) (b c : Option Numbered) where
-  answers : (a : Answer) → NamesNone a → Fits touch making b c (answered a)
-  answers a names = record { makes = tt; small = tt; only = no_making making; changes = no_change touch; names = names; used = none b c }
+module _ (ownership : Ownership) (making : Bool) (b c : Option Numbered) where
+  answers : (a : Answer) → NamesNone a → Fits ownership making b c (answering a)
+  answers a names = record { makes = tt; small = tt; only = no_making making; changes = no_change ownership; names = names; used = none b c }
 
-  by_object : (o : Option Numbered) (f : Numbered → Deed) → ((u : Numbered) → number_of o ≡ Some u.number → Fits touch making b c (f u))
-      → Fits touch making b c (with_object o f)
+  by_object : (o : Option Numbered) (f : Numbered → Deed)
+      → ((u : Numbered) → number_of o ≡ Some u.number → Fits ownership making b c (f u))
+      → Fits ownership making b c (with_object o f)
   by_object None f h = answers _ tt
   by_object (Some u) f h = h u refl
 
   by_key : (classes : List ClassLine) (o : Option Numbered) (f : Cell → Deed)
-      → ((key : Cell) → number_of o ≡ Some key.id → Fits touch making b c (f key)) → Fits touch making b c (with_key classes o f)
+      → ((key : Cell) → number_of o ≡ Some key.id → Fits ownership making b c (f key))
+      → Fits ownership making b c (with_key classes o f)
   by_key classes None f h = answers _ tt
   by_key classes (Some u) f h = h _ refl
 
-  in_text : (t : Content) (f : List ℕ → Deed) → ((xs : List ℕ) → Fits touch making b c (f xs)) → Fits touch making b c (text_in t f)
+  in_text : (t : Content) (f : List ℕ → Deed) → ((xs : List ℕ) → Fits ownership making b c (f xs))
+      → Fits ownership making b c (text_in t f)
   in_text (text_content mutable units) f h = h units
   in_text _ f h = answers _ tt
 
-  in_mutable_text : (t : Content) (f : List ℕ → Deed) → ((xs : List ℕ) → Fits touch making b c (f xs))
-      → Fits touch making b c (mutable_text_in t f)
+  in_mutable_text : (t : Content) (f : List ℕ → Deed) → ((xs : List ℕ) → Fits ownership making b c (f xs))
+      → Fits ownership making b c (mutable_text_in t f)
   in_mutable_text (text_content true units) f h = h units
   in_mutable_text _ f h = answers _ tt
 
-  in_mutable_data : (t : Content) (f : List ℕ → Deed) → ((xs : List ℕ) → Fits touch making b c (f xs))
-      → Fits touch making b c (mutable_data_in t f)
+  in_mutable_data : (t : Content) (f : List ℕ → Deed) → ((xs : List ℕ) → Fits ownership making b c (f xs))
+      → Fits ownership making b c (mutable_data_in t f)
   in_mutable_data (data_content true bytes) f h = h bytes
   in_mutable_data _ f h = answers _ tt
 
-  in_number : (t : Content) (f : Number → Deed) → ((n : Number) → Fits touch making b c (f n)) → Fits touch making b c (number_in t f)
+  in_number : (t : Content) (f : Number → Deed) → ((n : Number) → Fits ownership making b c (f n))
+      → Fits ownership making b c (number_in t f)
   in_number (number_content n) f h = h n
   in_number _ f h = answers _ tt
 
-  in_fields : (t : Content) (f : List (Option ℕ) → Deed) → ((fields : List (Option ℕ)) → Fits touch making b c (f fields))
-      → Fits touch making b c (fields_in t f)
+  in_fields : (t : Content) (f : List (Option ℕ) → Deed)
+      → ((fields : List (Option ℕ)) → Fits ownership making b c (f fields))
+      → Fits ownership making b c (fields_in t f)
   in_fields (instance_content key fields) f h = h fields
   in_fields _ f h = answers _ tt
 
-  in_elements : (t : Content) (f : List ℕ → Deed) → ((os : List ℕ) → Fits touch making b c (f os)) → Fits touch making b c (elements_in t f)
+  in_elements : (t : Content) (f : List ℕ → Deed) → ((os : List ℕ) → Fits ownership making b c (f os))
+      → Fits ownership making b c (elements_in t f)
   in_elements (array_content plain os) f h = h os
   in_elements _ f h = answers _ tt
 
-  in_pairs : (t : Content) (f : Bool → List (Cell × ℕ) → Deed) → ((plain : Bool) (pairs : List (Cell × ℕ)) → Fits touch making b c (f plain pairs))
-      → Fits touch making b c (pairs_in t f)
+  in_pairs : (t : Content) (f : Bool → List (Cell × ℕ) → Deed)
+      → ((plain : Bool) (pairs : List (Cell × ℕ)) → Fits ownership making b c (f plain pairs))
+      → Fits ownership making b c (pairs_in t f)
   in_pairs (dictionary_content plain pairs) f h = h plain pairs
   in_pairs _ f h = answers _ tt
 
-  by_text : (o : Option Numbered) (f : List ℕ → Deed) → ((xs : List ℕ) → Fits touch making b c (f xs)) → Fits touch making b c (with_text o f)
+  by_text : (o : Option Numbered) (f : List ℕ → Deed) → ((xs : List ℕ) → Fits ownership making b c (f xs))
+      → Fits ownership making b c (with_text o f)
   by_text o f h = by_object o _ (λ u e. in_text u.object.content f h)
 
-  by_mutable_text : (o : Option Numbered) (f : List ℕ → Deed) → ((xs : List ℕ) → Fits touch making b c (f xs))
-      → Fits touch making b c (with_mutable_text o f)
+  by_mutable_text : (o : Option Numbered) (f : List ℕ → Deed) → ((xs : List ℕ) → Fits ownership making b c (f xs))
+      → Fits ownership making b c (with_mutable_text o f)
   by_mutable_text o f h = by_object o _ (λ u e. in_mutable_text u.object.content f h)
 
-  by_mutable_data : (o : Option Numbered) (f : List ℕ → Deed) → ((xs : List ℕ) → Fits touch making b c (f xs))
-      → Fits touch making b c (with_mutable_data o f)
+  by_mutable_data : (o : Option Numbered) (f : List ℕ → Deed) → ((xs : List ℕ) → Fits ownership making b c (f xs))
+      → Fits ownership making b c (with_mutable_data o f)
   by_mutable_data o f h = by_object o _ (λ u e. in_mutable_data u.object.content f h)
 
-  by_number : (o : Option Numbered) (f : Number → Deed) → ((n : Number) → Fits touch making b c (f n)) → Fits touch making b c (with_number o f)
+  by_number : (o : Option Numbered) (f : Number → Deed) → ((n : Number) → Fits ownership making b c (f n))
+      → Fits ownership making b c (with_number o f)
   by_number o f h = by_object o _ (λ u e. in_number u.object.content f h)
 
-  by_fields : (o : Option Numbered) (f : List (Option ℕ) → Deed) → ((fields : List (Option ℕ)) → Fits touch making b c (f fields))
-      → Fits touch making b c (with_fields o f)
+  by_fields : (o : Option Numbered) (f : List (Option ℕ) → Deed)
+      → ((fields : List (Option ℕ)) → Fits ownership making b c (f fields))
+      → Fits ownership making b c (with_fields o f)
   by_fields o f h = by_object o _ (λ u e. in_fields u.object.content f h)
 
-  by_elements : (o : Option Numbered) (f : List ℕ → Deed) → ((os : List ℕ) → Fits touch making b c (f os))
-      → Fits touch making b c (with_elements o f)
+  by_elements : (o : Option Numbered) (f : List ℕ → Deed) → ((os : List ℕ) → Fits ownership making b c (f os))
+      → Fits ownership making b c (with_elements o f)
   by_elements o f h = by_object o _ (λ u e. in_elements u.object.content f h)
 
   by_pair : (classes : List ClassLine) (dictionary key : Option Numbered) (f : Cell → Option ℕ → Deed)
-      → ((k : Cell) (old : Option ℕ) → number_of key ≡ Some k.id → Fits touch making b c (f k old))
-      → Fits touch making b c (with_pair classes dictionary key f)
+      → ((k : Cell) (old : Option ℕ) → number_of key ≡ Some k.id → Fits ownership making b c (f k old))
+      → Fits ownership making b c (with_pair classes dictionary key f)
   by_pair classes dictionary key f h =
       by_object dictionary _ (λ u e. in_pairs u.object.content _ (λ plain pairs. by_key classes key _ (λ k named. h k _ named)))
 
-  by_cut : (fault : Option StrFault) (d : Deed) → Fits touch making b c d → Fits touch making b c (unless_cut fault d)
+  by_cut : (fault : Option StrFault) (d : Deed) → Fits ownership making b c d
+      → Fits ownership making b c (unless_split fault d)
   by_cut None d h = h
   by_cut (Some Range) d h = answers _ tt
   by_cut (Some SplitsPair) d h = answers _ tt
   by_cut (Some _) d h = answers _ tt
 
-  by_test : (t : Bool) (d e : Deed) → Fits touch making b c d → Fits touch making b c e → Fits touch making b c (cond t d e)
+  by_test : (t : Bool) (d e : Deed) → Fits ownership making b c d → Fits ownership making b c e
+      → Fits ownership making b c (cond t d e)
   by_test true d e p q = p
   by_test false d e p q = q
 
 -- a statement that makes an object, and one that binds what is there
-module _ (touch : Touch) (b c : Option Numbered) where
-  makes : (class : ℕ) (content : Content) → slots_in content ≡ [] → size_of content ≡ 0 → Fits touch true b c (made class content)
+module _ (ownership : Ownership) (b c : Option Numbered) where
+  makes : (class : ℕ) (content : Content) → slots_in content ≡ [] → size_of content ≡ 0
+      → Fits ownership true b c (creating class content)
   makes class content empty small =
-      record { makes = empty; small = small; only = tt; changes = no_change touch; names = tt; used = none b c }
+      record { makes = empty; small = small; only = tt; changes = no_change ownership; names = tt; used = none b c }
 
-  takes : (o : Option ℕ) → Fits touch false b c (binding o)
-  takes None = answers touch false b c _ tt
-  takes (Some o) = record { makes = tt; small = tt; only = tt; changes = no_change touch; names = tt; used = none b c }
+  takes : (o : Option ℕ) → Fits ownership false b c (binding o)
+  takes None = answers ownership false b c _ tt
+  takes (Some o) = record { makes = tt; small = tt; only = tt; changes = no_change ownership; names = tt; used = none b c }
 
-  makes_instance : (class : ℕ) (key : ℤ) (line : Option ClassLine) → Fits touch true b c (fresh_if (instance_of class key line))
-  makes_instance class key None = answers touch true b c _ tt
+  makes_instance : (class : ℕ) (key : ℤ) (line : Option ClassLine)
+      → Fits ownership true b c (fresh_if (instance_of class key line))
+  makes_instance class key None = answers ownership true b c _ tt
   makes_instance class key (Some line) =
-      record { makes = present-empty line.fields; small = refl; only = tt; changes = no_change touch; names = tt; used = none b c }
+      record { makes = present-empty line.fields; small = refl; only = tt; changes = no_change ownership; names = tt; used = none b c }
 
 -- a statement that changes an object
 module _ (b c : Option Numbered) where
-  changes : (a : Answer) (change : Change) → NamesNone a → AreUsed b c (named_in change) → Fits Nothing false b c (changing a change)
+  changes : (a : Answer) (change : Change) → NamesNone a → AreUsed b c (named_in change)
+      → Fits Keeps false b c (changing a change)
   changes a change names used = record { makes = tt; small = tt; only = tt; changes = tt; names = names; used = used }
 
-  changes_text : (at len : ℕ) (other units : List ℕ) → Fits Nothing false b c (edited_text units at len other)
-  changes_text at len other units = by_cut Nothing false b c (cut_fault units at len) _ (changes _ _ tt (none b c))
+  changes_text : (at len : ℕ) (other units : List ℕ) → Fits Keeps false b c (text_edit units at len other)
+  changes_text at len other units = by_cut Keeps false b c (split_fault units at len) _ (changes _ _ tt (none b c))
 
-  changes_data : (at len : ℕ) (other bytes : List ℕ) → Fits Nothing false b c (edited_data bytes at len other)
+  changes_data : (at len : ℕ) (other bytes : List ℕ) → Fits Keeps false b c (data_edit bytes at len other)
   changes_data at len other bytes =
-      by_test Nothing false b c (nat_le (at + len) (length bytes)) _ _ (changes _ _ tt (none b c)) (answers Nothing false b c _ tt)
+      by_test Keeps false b c (nat_le (at + len) (length bytes)) _ _ (changes _ _ tt (none b c)) (answers Keeps false b c _ tt)
 
   changes_within : (t : Bool) (at out : ℕ) (enter : List (Option ℕ))
-      → AreUsed b c (present enter) → Fits Nothing false b c (within t (edited_places at out enter))
-  changes_within t at out enter used = by_test Nothing false b c t _ _ (changes _ _ tt used) (answers Nothing false b c _ tt)
+      → AreUsed b c (present enter) → Fits Keeps false b c (within t (places_edit at out enter))
+  changes_within t at out enter used = by_test Keeps false b c t _ _ (changes _ _ tt used) (answers Keeps false b c _ tt)
 
-  reads_as : (kind : NumKind) (n : Number) → Fits Nothing false b c (as_kind kind n)
-  reads_as kind n = by_test Nothing false b c (fits_kind kind n.value) _ _ (answers Nothing false b c _ tt) (answers Nothing false b c _ tt)
+  reads_as : (kind : NumKind) (n : Number) → Fits Keeps false b c (as_kind kind n)
+  reads_as kind n = by_test Keeps false b c (fits_kind kind n.value) _ _ (answers Keeps false b c _ tt) (answers Keeps false b c _ tt)
 
   -- by a key that is the second object, and a value that is the third
   module _ (key : Cell) (value : ℕ) (first : number_of b ≡ Some key.id) (second : number_of c ≡ Some value) where
-    puts : (a : Answer) → NamesNone a → Fits Nothing false b c (putting a key value)
+    puts : (a : Answer) → NamesNone a → Fits Keeps false b c (putting a key value)
     puts a names = changes a _ names (pair_used b c key.id value first second)
 
-    adds_pair : (old : Option ℕ) → Fits Nothing false b c (adding_pair key value old)
+    adds_pair : (old : Option ℕ) → Fits Keeps false b c (adding_pair key value old)
     adds_pair None = puts _ tt
-    adds_pair (Some old) = answers Nothing false b c _ tt
+    adds_pair (Some old) = answers Keeps false b c _ tt
 
-    sets_pair : (old : Option ℕ) → Fits Nothing false b c (setting_pair key value old)
+    sets_pair : (old : Option ℕ) → Fits Keeps false b c (setting_pair key value old)
     sets_pair None = puts _ tt
     sets_pair (Some old) = puts _ tt
 
-    replaces_pair : (old : Option ℕ) → Fits Nothing false b c (replacing_pair key value old)
-    replaces_pair None = answers Nothing false b c _ tt
+    replaces_pair : (old : Option ℕ) → Fits Keeps false b c (replacing_pair key value old)
+    replaces_pair None = answers Keeps false b c _ tt
     replaces_pair (Some old) = puts _ tt
 
-  removes_pair : (key : Cell) (old : Option ℕ) → Fits Nothing false b c (removing_pair key old)
-  removes_pair key None = answers Nothing false b c _ tt
+  removes_pair : (key : Cell) (old : Option ℕ) → Fits Keeps false b c (removing_pair key old)
+  removes_pair key None = answers Keeps false b c _ tt
   removes_pair key (Some old) = changes _ _ tt (none b c)
 
 -- ---- by forms
 
 pub form_fits : (classes : List ClassLine) (s : Statement) (a b c : Option Numbered)
-    → Fits (touch_of s) (makes_object s) b c (deed_of classes s a b c)
+    → Fits (ownership_of s) (makes_object s) b c (deed_of classes s a b c)
 form_fits classes (forms.MakeString v text) a b c = makes (Binds v) b c _ _ refl refl
 form_fits classes (forms.MakeMstring v text) a b c = makes (Binds v) b c _ _ refl refl
 form_fits classes (forms.MakeData v bytes) a b c = makes (Binds v) b c _ _ refl refl
@@ -262,43 +277,43 @@ form_fits classes (forms.MakeDict v true) a b c = makes (Binds v) b c _ _ refl r
 form_fits classes (forms.MakeDict v false) a b c = makes (Binds v) b c _ _ refl refl
 form_fits classes (forms.New v None key) a b c = answers (Binds v) true b c _ tt
 form_fits classes (forms.New v (Some class) key) a b c = makes_instance (Binds v) b c class key (class_line classes class)
-form_fits classes (forms.Retain v) a b c = answers (Plus v) false b c _ tt
-form_fits classes (forms.Release v) a b c = answers (Minus v) false b c _ tt
-form_fits classes (forms.Show v) a b c = by_object Nothing false b c a _ (λ u e. answers Nothing false b c _ tt)
+form_fits classes (forms.Retain v) a b c = answers (Retains v) false b c _ tt
+form_fits classes (forms.Release v) a b c = answers (Releases v) false b c _ tt
+form_fits classes (forms.Show v) a b c = by_object Keeps false b c a _ (λ u e. answers Keeps false b c _ tt)
 form_fits classes (forms.StrAppend v other) a b c =
-    by_mutable_text Nothing false b c a _ (λ units. by_text Nothing false b c b _ (λ more. changes_text b c (length units) 0 more units))
-form_fits classes (forms.StrInsert v at text) a b c = by_mutable_text Nothing false b c a _ (changes_text b c at 0 text)
-form_fits classes (forms.StrDelete v at len) a b c = by_mutable_text Nothing false b c a _ (changes_text b c at len [])
-form_fits classes (forms.StrReplace v at len text) a b c = by_mutable_text Nothing false b c a _ (changes_text b c at len text)
+    by_mutable_text Keeps false b c a _ (λ units. by_text Keeps false b c b _ (λ more. changes_text b c (length units) 0 more units))
+form_fits classes (forms.StrInsert v at text) a b c = by_mutable_text Keeps false b c a _ (changes_text b c at 0 text)
+form_fits classes (forms.StrDelete v at len) a b c = by_mutable_text Keeps false b c a _ (changes_text b c at len [])
+form_fits classes (forms.StrReplace v at len text) a b c = by_mutable_text Keeps false b c a _ (changes_text b c at len text)
 form_fits classes (forms.StrSub v text at len) a b c =
-    by_text (Binds v) true b c a _ (λ units. by_cut (Binds v) true b c (cut_fault units at len) _ (makes (Binds v) b c _ _ refl refl))
-form_fits classes (forms.DataAppend v bytes) a b c = by_mutable_data Nothing false b c a _ (λ old. changes_data b c (length old) 0 bytes old)
-form_fits classes (forms.DataReplace v at len bytes) a b c = by_mutable_data Nothing false b c a _ (changes_data b c at len bytes)
-form_fits classes (forms.DataDelete v at len) a b c = by_mutable_data Nothing false b c a _ (changes_data b c at len [])
-form_fits classes (forms.NumAs v kind) a b c = by_number Nothing false b c a _ (reads_as b c kind)
+    by_text (Binds v) true b c a _ (λ units. by_cut (Binds v) true b c (split_fault units at len) _ (makes (Binds v) b c _ _ refl refl))
+form_fits classes (forms.DataAppend v bytes) a b c = by_mutable_data Keeps false b c a _ (λ old. changes_data b c (length old) 0 bytes old)
+form_fits classes (forms.DataReplace v at len bytes) a b c = by_mutable_data Keeps false b c a _ (changes_data b c at len bytes)
+form_fits classes (forms.DataDelete v at len) a b c = by_mutable_data Keeps false b c a _ (changes_data b c at len [])
+form_fits classes (forms.NumAs v kind) a b c = by_number Keeps false b c a _ (reads_as b c kind)
 form_fits classes (forms.ArrAppend v x) a b c =
-    by_elements Nothing false b c a _ (λ os. by_object Nothing false b c b _ (λ u e. changes b c _ _ tt (second_used b c u.number e)))
+    by_elements Keeps false b c a _ (λ os. by_object Keeps false b c b _ (λ u e. changes b c _ _ tt (second_used b c u.number e)))
 form_fits classes (forms.ArrInsert v at x) a b c =
-    by_elements Nothing false b c a _
-    (λ os. by_object Nothing false b c b _ (λ u e. changes_within b c (nat_le at (length os)) at 0 _ (second_used b c u.number e)))
+    by_elements Keeps false b c a _
+    (λ os. by_object Keeps false b c b _ (λ u e. changes_within b c (nat_le at (length os)) at 0 _ (second_used b c u.number e)))
 form_fits classes (forms.ArrSet v at x) a b c =
-    by_elements Nothing false b c a _
-    (λ os. by_object Nothing false b c b _ (λ u e. changes_within b c (nat_le at (length os)) at 1 _ (second_used b c u.number e)))
+    by_elements Keeps false b c a _
+    (λ os. by_object Keeps false b c b _ (λ u e. changes_within b c (nat_le at (length os)) at 1 _ (second_used b c u.number e)))
 form_fits classes (forms.ArrRemove v at) a b c =
-    by_elements Nothing false b c a _ (λ os. changes_within b c (nat_lt at (length os)) at 1 _ (none b c))
+    by_elements Keeps false b c a _ (λ os. changes_within b c (nat_lt at (length os)) at 1 _ (none b c))
 form_fits classes (forms.ArrTake v array at) a b c = by_elements (Binds v) false b c a _ (λ os. takes (Binds v) b c _)
 form_fits classes (forms.DictAdd v k x) a b c =
-    by_pair Nothing false b c classes a b _ (λ key old named. by_object Nothing false b c c _ (λ u e. adds_pair b c key u.number named e old))
+    by_pair Keeps false b c classes a b _ (λ key old named. by_object Keeps false b c c _ (λ u e. adds_pair b c key u.number named e old))
 form_fits classes (forms.DictSet v k x) a b c =
-    by_pair Nothing false b c classes a b _ (λ key old named. by_object Nothing false b c c _ (λ u e. sets_pair b c key u.number named e old))
+    by_pair Keeps false b c classes a b _ (λ key old named. by_object Keeps false b c c _ (λ u e. sets_pair b c key u.number named e old))
 form_fits classes (forms.DictReplace v k x) a b c =
-    by_pair Nothing false b c classes a b _ (λ key old named. by_object Nothing false b c c _ (λ u e. replaces_pair b c key u.number named e old))
-form_fits classes (forms.DictRemove v k) a b c = by_pair Nothing false b c classes a b _ (λ key old named. removes_pair b c key old)
+    by_pair Keeps false b c classes a b _ (λ key old named. by_object Keeps false b c c _ (λ u e. replaces_pair b c key u.number named e old))
+form_fits classes (forms.DictRemove v k) a b c = by_pair Keeps false b c classes a b _ (λ key old named. removes_pair b c key old)
 form_fits classes (forms.DictTake v dictionary k) a b c =
     by_pair (Binds v) false b c classes a b _ (λ key old named. takes (Binds v) b c old)
 form_fits classes (forms.FieldSet v at x) a b c =
-    by_fields Nothing false b c a _
-    (λ fields. by_object Nothing false b c b _ (λ u e. changes_within b c (nat_lt at (length fields)) at 1 _ (second_used b c u.number e)))
+    by_fields Keeps false b c a _
+    (λ fields. by_object Keeps false b c b _ (λ u e. changes_within b c (nat_lt at (length fields)) at 1 _ (second_used b c u.number e)))
 form_fits classes (forms.FieldClear v at) a b c =
-    by_fields Nothing false b c a _ (λ fields. changes_within b c (nat_lt at (length fields)) at 1 _ (none b c))
+    by_fields Keeps false b c a _ (λ fields. changes_within b c (nat_lt at (length fields)) at 1 _ (none b c))
 form_fits classes (forms.FieldTake v instance at) a b c = by_fields (Binds v) false b c a _ (λ fields. takes (Binds v) b c _)

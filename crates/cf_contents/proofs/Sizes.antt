@@ -11,7 +11,8 @@ use Rattle.cf_contents.specs.Keys.{equal_to}
 use Rattle.cf_contents.specs.Deeds.{Splice, Change, unchanged, in_text, in_data, in_places, put_pair, remove_pair, elements, text_after, data_after, places_after, put_after, removed_after, content_after, with_change, changed_by}
 use Rattle.cf_contents.proofs.SlotLaws.{named_in}
 
-pub length-splice : {A : Type 0} (xs : List A) (i out : ℕ) (ys : List A) → length (splice xs i (i + out) ys) ≤ length xs + length ys
+pub length-splice : {A : Type 0} (xs : List A) (i out : ℕ) (ys : List A)
+    → length (splice xs i (i + out) ys) ≤ length xs + length ys
 length-splice xs i out ys =
     omega (arith, length-append (take i xs) (ys ++ drop (i + out) xs), length-append ys (drop (i + out) xs), length-take i xs, length-drop (i + out) xs)
 
@@ -20,7 +21,8 @@ pub length-put : (test : Cell → Bool) (key : Cell) (value : ℕ) (pairs : List
 length-put test key value pairs true = omega (arith, length-set_value test pairs value)
 length-put test key value pairs false = omega (arith, length-append pairs ((key, value) ∷ []))
 
-shorter : (p : Cell × ℕ) (ps rest : List (Cell × ℕ)) (b : Bool) → length rest ≤ length ps → length (cond b ps (p ∷ rest)) ≤ suc (length ps)
+shorter : (p : Cell × ℕ) (ps rest : List (Cell × ℕ)) (b : Bool) → length rest ≤ length ps
+    → length (cond b ps (p ∷ rest)) ≤ suc (length ps)
 shorter p ps rest true h = omega arith
 shorter p ps rest false h = omega (arith, h)
 
@@ -36,7 +38,8 @@ data_size : (e : Splice ℕ) (c : Content) → size_of (data_after e c) ≤ size
 data_size e (data_content true bytes) = omega arith
 data_size e _ = omega arith
 
-places_size : (e : Splice (Option ℕ)) (c : Content) → size_of (places_after e c) ≤ size_of c + length (named_in (in_places e))
+places_size : (e : Splice (Option ℕ)) (c : Content)
+    → size_of (places_after e c) ≤ size_of c + length (named_in (in_places e))
 places_size e (instance_content key fields) = omega arith
 places_size e (array_content plain os) = length-splice os e.at e.out (elements e).enter
 places_size e _ = omega arith
@@ -50,7 +53,8 @@ removed_size : (key : Cell) (c : Content) → size_of (removed_after key c) ≤ 
 removed_size key (dictionary_content plain pairs) = length-removed (equal_to plain key) pairs
 removed_size key _ = omega arith
 
-content_size : (change : Change) (c : Content) → size_of (content_after change c) ≤ size_of c + length (named_in change)
+content_size : (change : Change) (c : Content)
+    → size_of (content_after change c) ≤ size_of c + length (named_in change)
 content_size unchanged c = omega arith
 content_size (in_text e) c = omega (arith, text_size e c)
 content_size (in_data e) c = omega (arith, data_size e c)

@@ -7,7 +7,7 @@ use Rattle.std.proofs.lemmas.List.{take-append-drop, drop-drop}
 use Rattle.cf_types.specs.declared.cells.Cell.{Cell}
 use Rattle.cf_contents.specs.Contents.{Content, text_content, data_content, number_content, instance_content, array_content, dictionary_content, Object, times, present, flat, unless_plain, slots_in, slots_at}
 use Rattle.cf_contents.specs.Keys.{equal_to}
-use Rattle.cf_contents.specs.Deeds.{Origin, nowhere, fresh, there, Splice, Change, unchanged, in_text, in_data, in_places, put_pair, remove_pair, spliced, removed, elements, coming_by, going_by, text_after, data_after, places_after, entering, leaving, put_after, put_entering, put_leaving, removed_after, removed_leaving, content_after, coming_in, going_out, taken_in, given_out, with_change}
+use Rattle.cf_contents.specs.Deeds.{Origin, nowhere, fresh, there, Splice, Change, unchanged, in_text, in_data, in_places, put_pair, remove_pair, splice_of, splice_out, elements, coming_by, going_by, text_after, data_after, places_after, entering, leaving, put_after, put_entering, put_leaving, removed_after, removed_leaving, content_after, coming_in, going_out, taken_in, given_out, with_change}
 
 pub times-append : (n : ℕ) (xs ys : List ℕ) → times n (xs ++ ys) ≡ times n xs + times n ys
 times-append n [] ys = omega arith
@@ -18,7 +18,8 @@ present-append [] ys = refl
 present-append (None ∷ xs) ys = present-append xs ys
 present-append (Some o ∷ xs) ys = ap (λ (os : List ℕ). o ∷ os) (present-append xs ys)
 
-times-present : (n : ℕ) (xs ys : List (Option ℕ)) → times n (present (xs ++ ys)) ≡ times n (present xs) + times n (present ys)
+times-present : (n : ℕ) (xs ys : List (Option ℕ))
+    → times n (present (xs ++ ys)) ≡ times n (present xs) + times n (present ys)
 times-present n xs ys = ap (times n) (present-append xs ys) ∙ times-append n (present xs) (present ys)
 
 times-flat : (n : ℕ) (xs ys : List (Cell × ℕ)) → times n (flat (xs ++ ys)) ≡ times n (flat xs) + times n (flat ys)
@@ -38,65 +39,85 @@ module _ {A : Type 0} (f : List A → ℕ) (adds : (xs ys : List A) → f (xs ++
   in_parts xs at out =
       sym (take-append-drop at xs) ∙ ap (λ (ps : List A). take at xs ++ ps) (sym (take-append-drop out (drop at xs)) ∙ ap (λ (ps : List A). take out (drop at xs) ++ ps) (drop-drop out at xs))
 
-  splice_law : (xs : List A) (e : Splice A) → f (spliced xs e) + f (removed xs e) ≡ f xs + f e.enter
+  splice_law : (xs : List A) (e : Splice A) → f (splice_of xs e) + f (splice_out xs e) ≡ f xs + f e.enter
   splice_law xs e =
       let front = take e.at xs in
-      let gone = removed xs e in
+      let gone = splice_out xs e in
       let behind = drop (e.at + e.out) xs in
       omega (arith, adds front (e.enter ++ behind), adds e.enter behind, adds front (gone ++ behind), adds gone behind, ap f (in_parts xs e.at e.out))
 
-  removed_most : (xs : List A) (e : Splice A) → f (removed xs e) ≤ f xs
+  removed_most : (xs : List A) (e : Splice A) → f (splice_out xs e) ≤ f xs
   removed_most xs e =
-      let gone = removed xs e in
+      let gone = splice_out xs e in
       let behind = drop (e.at + e.out) xs in
       omega (arith, adds (take e.at xs) (gone ++ behind), adds gone behind, ap f (in_parts xs e.at e.out))
 
 -- ---- edits of pairs
 
 -- the value of a key that is there is another
-set_head : (n v old : ℕ) (test : Cell → Bool) (p : Cell × ℕ) (ps : List (Cell × ℕ)) (b : Bool) → (lookup test ps ≡ Some old → times n (flat (set_value test ps v)) + times n (old ∷ []) ≡ times n (flat ps) + times n (v ∷ []))
-    → cond b (Some p.1) (lookup test ps) ≡ Some old → times n (flat (cond b ((p.0, v) ∷ ps) (p ∷ set_value test ps v))) + times n (old ∷ []) ≡ times n (flat (p ∷ ps)) + times n (v ∷ [])
+set_head : (n v old : ℕ) (test : Cell → Bool) (p : Cell × ℕ) (ps : List (Cell × ℕ)) (b : Bool)
+    → (lookup test ps ≡ Some old → times n (flat (set_value test ps v)) + times n (old ∷ []) ≡ times n (flat ps) + times n (v ∷ []))
+    → cond b (Some p.1) (lookup test ps) ≡ Some old
+    → times n (flat (cond b ((p.0, v) ∷ ps) (p ∷ set_value test ps v))) + times n (old ∷ [])
+    ≡ times n (flat (p ∷ ps)) + times n (v ∷ [])
 set_head n v old test p ps true rest h = let same : p.1 ≡ old = cc in omega (arith, ap (λ (o : ℕ). times n (o ∷ [])) same)
 set_head n v old test p ps false rest h = omega (arith, rest h)
 
-set_law : (n v old : ℕ) (test : Cell → Bool) (pairs : List (Cell × ℕ)) → lookup test pairs ≡ Some old → times n (flat (set_value test pairs v)) + times n (old ∷ []) ≡ times n (flat pairs) + times n (v ∷ [])
+set_law : (n v old : ℕ) (test : Cell → Bool) (pairs : List (Cell × ℕ)) → lookup test pairs ≡ Some old
+    → times n (flat (set_value test pairs v)) + times n (old ∷ []) ≡ times n (flat pairs) + times n (v ∷ [])
 set_law n v old test [] h = absurd cc
 set_law n v old test (p ∷ ps) h = set_head n v old test p ps (test p.0) (set_law n v old test ps) h
 
-put_law : (n : ℕ) (test : Cell → Bool) (pairs : List (Cell × ℕ)) (k : Cell) (v : ℕ) (found : Option ℕ) → lookup test pairs ≡ found → times n (flat (cond (is_some found) (set_value test pairs v) (pairs ++ (k, v) ∷ []))) + times n (option_to_list found) ≡ times n (flat pairs) + times n (cond (is_some found) (v ∷ []) (k.id ∷ v ∷ []))
+put_law : (n : ℕ) (test : Cell → Bool) (pairs : List (Cell × ℕ)) (k : Cell) (v : ℕ) (found : Option ℕ)
+    → lookup test pairs ≡ found
+    → times n (flat (cond (is_some found) (set_value test pairs v) (pairs ++ (k, v) ∷ [])))
+    + times n (option_to_list found) ≡ times n (flat pairs)
+    + times n (cond (is_some found) (v ∷ []) (k.id ∷ v ∷ []))
 put_law n test pairs k v None h = omega (arith, times-flat n pairs ((k, v) ∷ []))
 put_law n test pairs k v (Some old) h = set_law n v old test pairs h
 
 -- a pair that is taken out
-take_head : (n : ℕ) (test : Cell → Bool) (p : Cell × ℕ) (ps : List (Cell × ℕ)) (b : Bool) → times n (flat (remove_entry test ps)) + times n (flat (option_to_list (lookup_entry test ps))) ≡ times n (flat ps)
-    → times n (flat (cond b ps (p ∷ remove_entry test ps))) + times n (flat (option_to_list (cond b (Some p) (lookup_entry test ps)))) ≡ times n (flat (p ∷ ps))
+take_head : (n : ℕ) (test : Cell → Bool) (p : Cell × ℕ) (ps : List (Cell × ℕ)) (b : Bool)
+    → times n (flat (remove_entry test ps)) + times n (flat (option_to_list (lookup_entry test ps)))
+    ≡ times n (flat ps)
+    → times n (flat (cond b ps (p ∷ remove_entry test ps)))
+    + times n (flat (option_to_list (cond b (Some p) (lookup_entry test ps)))) ≡ times n (flat (p ∷ ps))
 take_head n test p ps true rest = omega arith
 take_head n test p ps false rest = omega (arith, rest)
 
-take_law : (n : ℕ) (test : Cell → Bool) (pairs : List (Cell × ℕ)) → times n (flat (remove_entry test pairs)) + times n (flat (option_to_list (lookup_entry test pairs))) ≡ times n (flat pairs)
+take_law : (n : ℕ) (test : Cell → Bool) (pairs : List (Cell × ℕ))
+    → times n (flat (remove_entry test pairs)) + times n (flat (option_to_list (lookup_entry test pairs)))
+    ≡ times n (flat pairs)
 take_law n test [] = refl
 take_law n test (p ∷ ps) = take_head n test p ps (test p.0) (take_law n test ps)
 
 -- a value that is looked up stands among the pairs
-found_head : (n : ℕ) (test : Cell → Bool) (p : Cell × ℕ) (ps : List (Cell × ℕ)) (b : Bool) → times n (option_to_list (lookup test ps)) ≤ times n (flat ps) → times n (option_to_list (cond b (Some p.1) (lookup test ps))) ≤ times n (flat (p ∷ ps))
+found_head : (n : ℕ) (test : Cell → Bool) (p : Cell × ℕ) (ps : List (Cell × ℕ)) (b : Bool)
+    → times n (option_to_list (lookup test ps)) ≤ times n (flat ps)
+    → times n (option_to_list (cond b (Some p.1) (lookup test ps))) ≤ times n (flat (p ∷ ps))
 found_head n test p ps true rest = omega arith
 found_head n test p ps false rest = omega (arith, rest)
 
-found_most : (n : ℕ) (test : Cell → Bool) (pairs : List (Cell × ℕ)) → times n (option_to_list (lookup test pairs)) ≤ times n (flat pairs)
+found_most : (n : ℕ) (test : Cell → Bool) (pairs : List (Cell × ℕ))
+    → times n (option_to_list (lookup test pairs)) ≤ times n (flat pairs)
 found_most n test [] = omega arith
 found_most n test (p ∷ ps) = found_head n test p ps (test p.0) (found_most n test ps)
 
 -- ---- what holds of members holds of slots, of which a plain collection has none
 
-unless_law : (n : ℕ) (plain : Bool) (a b c d : List ℕ) → times n a + times n b ≡ times n c + times n d → times n (unless_plain plain a) + times n (unless_plain plain b) ≡ times n (unless_plain plain c) + times n (unless_plain plain d)
+unless_law : (n : ℕ) (plain : Bool) (a b c d : List ℕ) → times n a + times n b ≡ times n c + times n d
+    → times n (unless_plain plain a) + times n (unless_plain plain b)
+    ≡ times n (unless_plain plain c) + times n (unless_plain plain d)
 unless_law n true a b c d h = refl
 unless_law n false a b c d h = h
 
-unless_most : (n : ℕ) (plain : Bool) (a b : List ℕ) → times n a ≤ times n b → times n (unless_plain plain a) ≤ times n (unless_plain plain b)
+unless_most : (n : ℕ) (plain : Bool) (a b : List ℕ) → times n a ≤ times n b
+    → times n (unless_plain plain a) ≤ times n (unless_plain plain b)
 unless_most n true a b h = omega arith
 unless_most n false a b h = h
 
-unless_none : (n : ℕ) (plain : Bool) (a b c : List ℕ) → times n a + times n b ≡ times n c → times n (unless_plain plain a) + times n (unless_plain plain b) ≡ times n (unless_plain plain c) + times n []
+unless_none : (n : ℕ) (plain : Bool) (a b c : List ℕ) → times n a + times n b ≡ times n c
+    → times n (unless_plain plain a) + times n (unless_plain plain b) ≡ times n (unless_plain plain c) + times n []
 unless_none n true a b c h = refl
 unless_none n false a b c h = omega (arith, h)
 
@@ -108,7 +129,8 @@ data_law : (n : ℕ) (e : Splice ℕ) (c : Content) → slots_in (data_after e c
 data_law n e (data_content true bytes) = refl
 data_law n e _ = refl
 
-places_law : (n : ℕ) (e : Splice (Option ℕ)) (c : Content) → times n (slots_in (places_after e c)) + times n (leaving e c) ≡ times n (slots_in c) + times n (entering e c)
+places_law : (n : ℕ) (e : Splice (Option ℕ)) (c : Content)
+    → times n (slots_in (places_after e c)) + times n (leaving e c) ≡ times n (slots_in c) + times n (entering e c)
 places_law n e (instance_content key fields) = splice_law (λ (ps : List (Option ℕ)). times n (present ps)) (times-present n) fields e
 places_law n e (array_content plain os) = unless_law n plain _ _ _ _ (splice_law (times n) (times-append n) os (elements e))
 places_law n e (text_content mutable units) = refl
@@ -117,7 +139,8 @@ places_law n e (number_content k) = refl
 places_law n e (dictionary_content plain pairs) = omega arith
 
 pair_law : (n : ℕ) (key : Cell) (value : ℕ) (c : Content)
-    → times n (slots_in (put_after key value c)) + times n (put_leaving key c) ≡ times n (slots_in c) + times n (put_entering key value c)
+    → times n (slots_in (put_after key value c)) + times n (put_leaving key c)
+    ≡ times n (slots_in c) + times n (put_entering key value c)
 pair_law n key value (dictionary_content plain pairs) =
     unless_law n plain _ _ _ _ (put_law n (equal_to plain key) pairs key value (lookup (equal_to plain key) pairs) refl)
 pair_law n key value (text_content mutable units) = refl
@@ -126,7 +149,8 @@ pair_law n key value (number_content k) = refl
 pair_law n key value (instance_content k fields) = omega arith
 pair_law n key value (array_content plain os) = omega arith
 
-removed_law : (n : ℕ) (key : Cell) (c : Content) → times n (slots_in (removed_after key c)) + times n (removed_leaving key c) ≡ times n (slots_in c) + times n []
+removed_law : (n : ℕ) (key : Cell) (c : Content)
+    → times n (slots_in (removed_after key c)) + times n (removed_leaving key c) ≡ times n (slots_in c) + times n []
 removed_law n key (dictionary_content plain pairs) = unless_none n plain _ _ _ (take_law n (equal_to plain key) pairs)
 removed_law n key (text_content mutable units) = refl
 removed_law n key (data_content mutable bytes) = refl
@@ -135,7 +159,9 @@ removed_law n key (instance_content k fields) = omega arith
 removed_law n key (array_content plain os) = omega arith
 
 -- the slots after a change, with what it gives out, are those before it with what it takes in
-content_law : (n : ℕ) (change : Change) (c : Content) → times n (slots_in (content_after change c)) + times n (going_out change c) ≡ times n (slots_in c) + times n (coming_in change c)
+content_law : (n : ℕ) (change : Change) (c : Content)
+    → times n (slots_in (content_after change c)) + times n (going_out change c)
+    ≡ times n (slots_in c) + times n (coming_in change c)
 content_law n unchanged c = refl
 content_law n (in_text e) c = rw (text_law n e c) refl
 content_law n (in_data e) c = rw (data_law n e c) refl
@@ -143,13 +169,17 @@ content_law n (in_places e) c = places_law n e c
 content_law n (put_pair key value) c = pair_law n key value c
 content_law n (remove_pair key) c = removed_law n key c
 
-pub change_law : (n o : ℕ) (change : Change) (objects : List Object) → times n (slots_at (slice_get (with_change o change objects) o)) + times n (given_out (slice_get objects o) change) ≡ times n (slots_at (slice_get objects o)) + times n (taken_in (slice_get objects o) change)
+pub change_law : (n o : ℕ) (change : Change) (objects : List Object)
+    → times n (slots_at (slice_get (with_change o change objects) o))
+    + times n (given_out (slice_get objects o) change) ≡ times n (slots_at (slice_get objects o))
+    + times n (taken_in (slice_get objects o) change)
 change_law n o change [] = refl
 change_law n zero change (ob ∷ obs) = content_law n change ob.content
 change_law n (suc o) change (ob ∷ obs) = change_law n o change obs
 
 -- the other objects keep theirs
-pub others_keep : (o p : ℕ) (change : Change) (objects : List Object) → (o ≡ p → ⊥) → slice_get (with_change o change objects) p ≡ slice_get objects p
+pub others_keep : (o p : ℕ) (change : Change) (objects : List Object) → (o ≡ p → ⊥)
+    → slice_get (with_change o change objects) p ≡ slice_get objects p
 others_keep o p change [] h = refl
 others_keep zero zero change (ob ∷ obs) h = absurd (h refl)
 others_keep zero (suc p) change (ob ∷ obs) h = refl
@@ -188,7 +218,8 @@ MakesEmpty nowhere = Unit {0}
 MakesEmpty (fresh ob) = slots_in ob.content ≡ []
 MakesEmpty (there o) = Unit {0}
 
-pub slots-more : (objects : List Object) (ob : Object) (b : ℕ) → slots_in ob.content ≡ [] → slots_at (slice_get (objects ++ ob ∷ []) b) ≡ slots_at (slice_get objects b)
+pub slots-more : (objects : List Object) (ob : Object) (b : ℕ) → slots_in ob.content ≡ []
+    → slots_at (slice_get (objects ++ ob ∷ []) b) ≡ slots_at (slice_get objects b)
 slots-more [] ob zero h = h
 slots-more [] ob (suc b) h = refl
 slots-more (o ∷ os) ob zero h = refl
@@ -218,7 +249,8 @@ coming_fewer : (n : ℕ) (known : Bool) (k v : ℕ) → times n (cond known (v �
 coming_fewer n true k v = omega arith
 coming_fewer n false k v = omega arith
 
-coming_most : (n : ℕ) (key : Cell) (value : ℕ) (c : Content) → times n (put_entering key value c) ≤ times n (key.id ∷ value ∷ [])
+coming_most : (n : ℕ) (key : Cell) (value : ℕ) (c : Content)
+    → times n (put_entering key value c) ≤ times n (key.id ∷ value ∷ [])
 coming_most n key value (dictionary_content plain pairs) =
     let some = coming_fewer n (is_some (lookup (equal_to plain key) pairs)) key.id value in
     omega (arith, some, unless_fewer n plain (coming_by plain pairs key value))
@@ -232,6 +264,7 @@ in_most n (in_places e) c = entering_most n e c
 in_most n (put_pair key value) c = coming_most n key value c
 in_most n (remove_pair key) c = omega arith
 
-pub taken_most : (n : ℕ) (change : Change) (ob : Option Object) → times n (taken_in ob change) ≤ times n (named_in change)
+pub taken_most : (n : ℕ) (change : Change) (ob : Option Object)
+    → times n (taken_in ob change) ≤ times n (named_in change)
 taken_most n change None = omega arith
 taken_most n change (Some ob) = in_most n change ob.content

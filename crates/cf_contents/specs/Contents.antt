@@ -100,4 +100,5 @@ first_class = 14
 -- a new instance has all fields empty
 abbrev pub instance_of : ℕ → ℤ → Option ClassLine → Option Object
 instance_of class key None = None
-instance_of class key (Some line) = Some (record { class = class; content = instance_content key (replicate line.fields None) })
+instance_of class key (Some line) =
+    Some (record { class = class; content = instance_content key (replicate line.fields None) })

@@ -11,7 +11,7 @@ use Rattle.cf_number.specs.Kinds.{fits_kind}
 use Rattle.cf_number.specs.Numbers.{Number}
 use Rattle.cf_string.specs.declared.faults.StrFault.{StrFault}
 use Rattle.cf_string.specs.declared.faults.StrFault.TheVariants.{Range, SplitsPair}
-use Rattle.cf_string.specs.Faults.{cut_fault}
+use Rattle.cf_string.specs.Faults.{split_fault}
 use Rattle.cf_types.specs.declared.cells.Cell.{Cell}
 use Rattle.cf_basichash.specs.Tables.{pairs_with}
 use Rattle.cf_syntax.specs.declared.script.ClassLine.{ClassLine}
@@ -51,16 +51,17 @@ pub record Deed : Type 0 where
   pub change : Change
 
 -- the deed that answers, and does nothing else
-abbrev pub answered : Answer → Deed
-answered a = record { answer = a; origin = nowhere; change = unchanged }
+abbrev pub answering : Answer → Deed
+answering a = record { answer = a; origin = nowhere; change = unchanged }
 
 -- the deed of a statement that found nothing to act on
-abbrev pub skipped : Deed
-skipped = answered answers.Skip
+abbrev pub skipping : Deed
+skipping = answering answers.Skip
 
 -- the deed that makes an object of a type with this content
-abbrev pub made : ℕ → Content → Deed
-made class content = record { answer = answers.Skip; origin = fresh (record { class = class; content = content }); change = unchanged }
+abbrev pub creating : ℕ → Content → Deed
+creating class content =
+    record { answer = answers.Skip; origin = fresh (record { class = class; content = content }); change = unchanged }
 
 -- the deed that changes the first object that is used
 abbrev pub changing : Answer → Change → Deed
@@ -68,54 +69,54 @@ changing a change = record { answer = a; origin = nowhere; change = change }
 
 -- the deed that binds an object, if one is found; it stays where it is
 abbrev pub binding : Option ℕ → Deed
-binding None = answered answers.Nil
+binding None = answering answers.Nil
 binding (Some o) = record { answer = answers.Nil; origin = there o; change = unchanged }
 
 -- a deed by an object; without one the statement is skipped. The words below do the same with what the object is: if
 -- it is of another kind, the statement is skipped
 abbrev pub with_object : Option Numbered → (Numbered → Deed) → Deed
-with_object None deed = skipped
+with_object None deed = skipping
 with_object (Some u) deed = deed u
 
 -- a deed by an object as a key; without an object the statement is skipped
 abbrev pub with_key : List ClassLine → Option Numbered → (Cell → Deed) → Deed
-with_key classes None deed = skipped
+with_key classes None deed = skipping
 with_key classes (Some u) deed = deed (cell_of classes u)
 
 -- a deed by the units of a text
 abbrev pub text_in : Content → (List ℕ → Deed) → Deed
 text_in (text_content mutable units) deed = deed units
-text_in _ deed = skipped
+text_in _ deed = skipping
 
 -- a deed by the units of a mutable text
 abbrev pub mutable_text_in : Content → (List ℕ → Deed) → Deed
 mutable_text_in (text_content true units) deed = deed units
-mutable_text_in _ deed = skipped
+mutable_text_in _ deed = skipping
 
 -- a deed by the bytes of mutable data
 abbrev pub mutable_data_in : Content → (List ℕ → Deed) → Deed
 mutable_data_in (data_content true bytes) deed = deed bytes
-mutable_data_in _ deed = skipped
+mutable_data_in _ deed = skipping
 
 -- a deed by a number
 abbrev pub number_in : Content → (Number → Deed) → Deed
 number_in (number_content n) deed = deed n
-number_in _ deed = skipped
+number_in _ deed = skipping
 
 -- a deed by the fields of an instance
 abbrev pub fields_in : Content → (List (Option ℕ) → Deed) → Deed
 fields_in (instance_content key fields) deed = deed fields
-fields_in _ deed = skipped
+fields_in _ deed = skipping
 
 -- a deed by the elements of an array
 abbrev pub elements_in : Content → (List ℕ → Deed) → Deed
 elements_in (array_content plain elements) deed = deed elements
-elements_in _ deed = skipped
+elements_in _ deed = skipping
 
 -- a deed by the pairs of a dictionary, and by whether it is plain
 abbrev pub pairs_in : Content → (Bool → List (Cell × ℕ) → Deed) → Deed
 pairs_in (dictionary_content plain pairs) deed = deed plain pairs
-pairs_in _ deed = skipped
+pairs_in _ deed = skipping
 
 -- a deed by the text of an object
 abbrev pub with_text : Option Numbered → (List ℕ → Deed) → Deed
@@ -148,39 +149,44 @@ with_pair classes dictionary key deed =
     (λ u. pairs_in u.object.content (λ plain pairs. with_key classes key (λ cell. deed cell (lookup (equal_to plain cell) pairs))))
 
 -- a deed on a range of a text, unless the range passes its length or cuts a surrogate pair
-abbrev pub unless_cut : Option StrFault → Deed → Deed
-unless_cut None deed = deed
-unless_cut (Some Range) deed = answered answers.Range
-unless_cut (Some SplitsPair) deed = answered answers.Split
-unless_cut (Some _) deed = skipped
+abbrev pub unless_split : Option StrFault → Deed → Deed
+unless_split None deed = deed
+unless_split (Some Range) deed = answering answers.Range
+unless_split (Some SplitsPair) deed = answering answers.Split
+unless_split (Some _) deed = skipping
 
 -- a deed if a test holds; else a place or a range passes the length
 abbrev pub within : Bool → Deed → Deed
-within test deed = if test then deed else answered answers.Range
+within test deed = if test then deed else answering answers.Range
 
 -- the `len` units from `at` on are replaced by others
-abbrev pub edited_text : List ℕ → ℕ → ℕ → List ℕ → Deed
-edited_text units at len other = unless_cut (cut_fault units at len) (changing answers.Ok (in_text (record { at = at; out = len; enter = other })))
+abbrev pub text_edit : List ℕ → ℕ → ℕ → List ℕ → Deed
+text_edit units at len other =
+    unless_split (split_fault units at len)
+    (changing answers.Ok (in_text (record { at = at; out = len; enter = other })))
 
 -- the `len` bytes from `at` on are replaced by others
-abbrev pub edited_data : List ℕ → ℕ → ℕ → List ℕ → Deed
-edited_data bytes at len other = within (nat_le (at + len) (length bytes)) (changing answers.Ok (in_data (record { at = at; out = len; enter = other })))
+abbrev pub data_edit : List ℕ → ℕ → ℕ → List ℕ → Deed
+data_edit bytes at len other =
+    within (nat_le (at + len) (length bytes))
+    (changing answers.Ok (in_data (record { at = at; out = len; enter = other })))
 
 -- so many fields or elements from a place on are replaced by an object, by nothing in a field, or by no element
-abbrev pub edited_places : ℕ → ℕ → List (Option ℕ) → Deed
-edited_places at out enter = changing answers.Ok (in_places (record { at = at; out = out; enter = enter }))
+abbrev pub places_edit : ℕ → ℕ → List (Option ℕ) → Deed
+places_edit at out enter = changing answers.Ok (in_places (record { at = at; out = out; enter = enter }))
 
 -- the units of a range are made a new string
 abbrev pub part_of : List ℕ → ℕ → ℕ → Deed
-part_of units at len = unless_cut (cut_fault units at len) (made string_class (text_content false (take len (drop at units))))
+part_of units at len =
+    unless_split (split_fault units at len) (creating string_class (text_content false (take len (drop at units))))
 
 -- a number is read as one of a kind, or the value does not fit
 abbrev pub as_kind : NumKind → Number → Deed
-as_kind kind n = if fits_kind kind n.value then answered (answers.Number n.value) else answered answers.Lossy
+as_kind kind n = if fits_kind kind n.value then answering (answers.Number n.value) else answering answers.Lossy
 
 -- an object is made, if there is one to make; else the statement is skipped
 abbrev pub fresh_if : Option Object → Deed
-fresh_if None = skipped
+fresh_if None = skipping
 fresh_if (Some o) = record { answer = answers.Skip; origin = fresh o; change = unchanged }
 
 -- a key and an object are put in as a pair, with this answer
@@ -190,7 +196,7 @@ putting a key value = changing a (put_pair key value)
 -- a pair is added, unless its key is there
 abbrev pub adding_pair : Cell → ℕ → Option ℕ → Deed
 adding_pair key value None = putting answers.Ok key value
-adding_pair key value (Some old) = answered answers.Present
+adding_pair key value (Some old) = answering answers.Present
 
 -- a pair is set: the answer says whether its key was there
 abbrev pub setting_pair : Cell → ℕ → Option ℕ → Deed
@@ -199,12 +205,12 @@ setting_pair key value (Some old) = putting answers.Changed key value
 
 -- the value of a key is replaced, if the key is there
 abbrev pub replacing_pair : Cell → ℕ → Option ℕ → Deed
-replacing_pair key value None = answered answers.Absent
+replacing_pair key value None = answering answers.Absent
 replacing_pair key value (Some old) = putting answers.Ok key value
 
 -- the pair of a key is removed, if the key is there
 abbrev pub removing_pair : Cell → Option ℕ → Deed
-removing_pair key None = answered answers.Absent
+removing_pair key None = answering answers.Absent
 removing_pair key (Some old) = changing answers.Ok (remove_pair key)
 
 -- the object in a field, if there is one
@@ -214,40 +220,52 @@ in_field (Some field) = field
 
 -- the deed of a statement, by the classes of the script and by the objects that it uses
 abbrev pub deed_of : List ClassLine → Statement → (first second third : Option Numbered) → Deed
-deed_of classes (forms.MakeString v text) a b c = made string_class (text_content false text)
-deed_of classes (forms.MakeMstring v text) a b c = made string_class (text_content true text)
-deed_of classes (forms.MakeData v bytes) a b c = made data_class (data_content false bytes)
-deed_of classes (forms.MakeMdata v bytes) a b c = made data_class (data_content true bytes)
-deed_of classes (forms.MakeNumber v n) a b c = made number_class (number_content n)
-deed_of classes (forms.MakeArray v plain) a b c = made array_class (array_content plain [])
-deed_of classes (forms.MakeDict v plain) a b c = made dictionary_class (dictionary_content plain [])
-deed_of classes (forms.New v None key) a b c = skipped
+deed_of classes (forms.MakeString v text) a b c = creating string_class (text_content false text)
+deed_of classes (forms.MakeMstring v text) a b c = creating string_class (text_content true text)
+deed_of classes (forms.MakeData v bytes) a b c = creating data_class (data_content false bytes)
+deed_of classes (forms.MakeMdata v bytes) a b c = creating data_class (data_content true bytes)
+deed_of classes (forms.MakeNumber v n) a b c = creating number_class (number_content n)
+deed_of classes (forms.MakeArray v plain) a b c = creating array_class (array_content plain [])
+deed_of classes (forms.MakeDict v plain) a b c = creating dictionary_class (dictionary_content plain [])
+deed_of classes (forms.New v None key) a b c = skipping
 deed_of classes (forms.New v (Some class) key) a b c = fresh_if (instance_of class key (class_line classes class))
-deed_of classes (forms.Retain v) a b c = answered answers.Ok
-deed_of classes (forms.Release v) a b c = answered answers.Ok
-deed_of classes (forms.Show v) a b c = with_object a (λ u. answered (answers.Shown (description classes u.object)))
-deed_of classes (forms.StrAppend v other) a b c = with_mutable_text a (λ units. with_text b (λ more. edited_text units (length units) 0 more))
-deed_of classes (forms.StrInsert v at text) a b c = with_mutable_text a (λ units. edited_text units at 0 text)
-deed_of classes (forms.StrDelete v at len) a b c = with_mutable_text a (λ units. edited_text units at len [])
-deed_of classes (forms.StrReplace v at len text) a b c = with_mutable_text a (λ units. edited_text units at len text)
+deed_of classes (forms.Retain v) a b c = answering answers.Ok
+deed_of classes (forms.Release v) a b c = answering answers.Ok
+deed_of classes (forms.Show v) a b c = with_object a (λ u. answering (answers.Shown (description classes u.object)))
+deed_of classes (forms.StrAppend v other) a b c =
+    with_mutable_text a (λ units. with_text b (λ more. text_edit units (length units) 0 more))
+deed_of classes (forms.StrInsert v at text) a b c = with_mutable_text a (λ units. text_edit units at 0 text)
+deed_of classes (forms.StrDelete v at len) a b c = with_mutable_text a (λ units. text_edit units at len [])
+deed_of classes (forms.StrReplace v at len text) a b c = with_mutable_text a (λ units. text_edit units at len text)
 deed_of classes (forms.StrSub v text at len) a b c = with_text a (λ units. part_of units at len)
-deed_of classes (forms.DataAppend v bytes) a b c = with_mutable_data a (λ old. edited_data old (length old) 0 bytes)
-deed_of classes (forms.DataReplace v at len bytes) a b c = with_mutable_data a (λ old. edited_data old at len bytes)
-deed_of classes (forms.DataDelete v at len) a b c = with_mutable_data a (λ old. edited_data old at len [])
+deed_of classes (forms.DataAppend v bytes) a b c = with_mutable_data a (λ old. data_edit old (length old) 0 bytes)
+deed_of classes (forms.DataReplace v at len bytes) a b c = with_mutable_data a (λ old. data_edit old at len bytes)
+deed_of classes (forms.DataDelete v at len) a b c = with_mutable_data a (λ old. data_edit old at len [])
 deed_of classes (forms.NumAs v kind) a b c = with_number a (as_kind kind)
-deed_of classes (forms.ArrAppend v x) a b c = with_elements a (λ os. with_object b (λ u. edited_places (length os) 0 (Some u.number ∷ [])))
-deed_of classes (forms.ArrInsert v at x) a b c = with_elements a (λ os. with_object b (λ u. within (nat_le at (length os)) (edited_places at 0 (Some u.number ∷ []))))
-deed_of classes (forms.ArrSet v at x) a b c = with_elements a (λ os. with_object b (λ u. within (nat_le at (length os)) (edited_places at 1 (Some u.number ∷ []))))
-deed_of classes (forms.ArrRemove v at) a b c = with_elements a (λ os. within (nat_lt at (length os)) (edited_places at 1 []))
+deed_of classes (forms.ArrAppend v x) a b c =
+    with_elements a (λ os. with_object b (λ u. places_edit (length os) 0 (Some u.number ∷ [])))
+deed_of classes (forms.ArrInsert v at x) a b c =
+    with_elements a (λ os. with_object b (λ u. within (nat_le at (length os)) (places_edit at 0 (Some u.number ∷ []))))
+deed_of classes (forms.ArrSet v at x) a b c =
+    with_elements a (λ os. with_object b (λ u. within (nat_le at (length os)) (places_edit at 1 (Some u.number ∷ []))))
+deed_of classes (forms.ArrRemove v at) a b c =
+    with_elements a (λ os. within (nat_lt at (length os)) (places_edit at 1 []))
 deed_of classes (forms.ArrTake v array at) a b c = with_elements a (λ os. binding (slice_get os at))
-deed_of classes (forms.DictAdd v k x) a b c = with_pair classes a b (λ key old. with_object c (λ u. adding_pair key u.number old))
-deed_of classes (forms.DictSet v k x) a b c = with_pair classes a b (λ key old. with_object c (λ u. setting_pair key u.number old))
-deed_of classes (forms.DictReplace v k x) a b c = with_pair classes a b (λ key old. with_object c (λ u. replacing_pair key u.number old))
+deed_of classes (forms.DictAdd v k x) a b c =
+    with_pair classes a b (λ key old. with_object c (λ u. adding_pair key u.number old))
+deed_of classes (forms.DictSet v k x) a b c =
+    with_pair classes a b (λ key old. with_object c (λ u. setting_pair key u.number old))
+deed_of classes (forms.DictReplace v k x) a b c =
+    with_pair classes a b (λ key old. with_object c (λ u. replacing_pair key u.number old))
 deed_of classes (forms.DictRemove v k) a b c = with_pair classes a b removing_pair
 deed_of classes (forms.DictTake v dictionary k) a b c = with_pair classes a b (λ key old. binding old)
-deed_of classes (forms.FieldSet v at x) a b c = with_fields a (λ fields. with_object b (λ u. within (nat_lt at (length fields)) (edited_places at 1 (Some u.number ∷ []))))
-deed_of classes (forms.FieldClear v at) a b c = with_fields a (λ fields. within (nat_lt at (length fields)) (edited_places at 1 (None ∷ [])))
-deed_of classes (forms.FieldTake v instance at) a b c = with_fields a (λ fields. binding (in_field (slice_get fields at)))
+deed_of classes (forms.FieldSet v at x) a b c =
+    with_fields a
+    (λ fields. with_object b (λ u. within (nat_lt at (length fields)) (places_edit at 1 (Some u.number ∷ []))))
+deed_of classes (forms.FieldClear v at) a b c =
+    with_fields a (λ fields. within (nat_lt at (length fields)) (places_edit at 1 (None ∷ [])))
+deed_of classes (forms.FieldTake v instance at) a b c =
+    with_fields a (λ fields. binding (in_field (slice_get fields at)))
 
 -- one of the objects that are used, by its number among them
 abbrev pub used_at : List (Option ℕ) → ℕ → Option ℕ
@@ -270,12 +288,12 @@ deed_at classes objects s used =
     deed_of classes s (numbered objects (used_at used 0)) (numbered objects (used_at used 1)) (numbered objects (used_at used 2))
 
 -- a list after an edit
-abbrev pub spliced : {A : Type 0} → List A → Splice A → List A
-spliced xs e = splice xs e.at (e.at + e.out) e.enter
+abbrev pub splice_of : {A : Type 0} → List A → Splice A → List A
+splice_of xs e = splice xs e.at (e.at + e.out) e.enter
 
 -- what an edit takes out of a list
-abbrev pub removed : {A : Type 0} → List A → Splice A → List A
-removed xs e = take e.out (drop e.at xs)
+abbrev pub splice_out : {A : Type 0} → List A → Splice A → List A
+splice_out xs e = take e.out (drop e.at xs)
 
 -- an edit of fields as one of elements: nothing comes in for what is empty
 abbrev pub elements : Splice (Option ℕ) → Splice ℕ
@@ -283,7 +301,8 @@ elements e = record { at = e.at; out = e.out; enter = present e.enter }
 
 -- what comes in as a pair is put in: its value, and its key too if that is not there
 abbrev pub coming_by : Bool → List (Cell × ℕ) → Cell → ℕ → List ℕ
-coming_by plain pairs key value = if is_some (lookup (equal_to plain key) pairs) then value ∷ [] else key.id ∷ value ∷ []
+coming_by plain pairs key value =
+    if is_some (lookup (equal_to plain key) pairs) then value ∷ [] else key.id ∷ value ∷ []
 
 -- what goes out as a pair is put in: the old value, if its key is there
 abbrev pub going_by : Bool → List (Cell × ℕ) → Cell → List ℕ
@@ -291,18 +310,18 @@ going_by plain pairs key = option_to_list (lookup (equal_to plain key) pairs)
 
 -- a text after an edit: only a mutable one is edited
 abbrev pub text_after : Splice ℕ → Content → Content
-text_after e (text_content true units) = text_content true (spliced units e)
+text_after e (text_content true units) = text_content true (splice_of units e)
 text_after e c = c
 
 -- data after an edit: only mutable data is edited
 abbrev pub data_after : Splice ℕ → Content → Content
-data_after e (data_content true bytes) = data_content true (spliced bytes e)
+data_after e (data_content true bytes) = data_content true (splice_of bytes e)
 data_after e c = c
 
 -- fields or elements after an edit
 abbrev pub places_after : Splice (Option ℕ) → Content → Content
-places_after e (instance_content key fields) = instance_content key (spliced fields e)
-places_after e (array_content plain os) = array_content plain (spliced os (elements e))
+places_after e (instance_content key fields) = instance_content key (splice_of fields e)
+places_after e (array_content plain os) = array_content plain (splice_of os (elements e))
 places_after e c = c
 
 -- the objects that an edit of places takes in
@@ -313,13 +332,14 @@ entering e _ = []
 
 -- the objects that an edit of places gives out
 abbrev pub leaving : Splice (Option ℕ) → Content → List ℕ
-leaving e (instance_content key fields) = present (removed fields e)
-leaving e (array_content plain os) = unless_plain plain (removed os (elements e))
+leaving e (instance_content key fields) = present (splice_out fields e)
+leaving e (array_content plain os) = unless_plain plain (splice_out os (elements e))
 leaving e _ = []
 
 -- the pairs after one is put in
 abbrev pub put_after : Cell → ℕ → Content → Content
-put_after key value (dictionary_content plain pairs) = dictionary_content plain (pairs_with (equal_to plain key) pairs key value)
+put_after key value (dictionary_content plain pairs) =
+    dictionary_content plain (pairs_with (equal_to plain key) pairs key value)
 put_after key value c = c
 
 -- the objects that a pair which is put in takes in
@@ -381,13 +401,13 @@ given_out None change = []
 given_out (Some ob) change = going_out change ob.content
 
 -- an object after a change
-abbrev pub changed : Change → Object → Object
-changed change ob = record { class = ob.class; content = content_after change ob.content }
+abbrev pub object_after : Change → Object → Object
+object_after change ob = record { class = ob.class; content = content_after change ob.content }
 
 -- the objects with the one of a number changed
 abbrev pub with_change : ℕ → Change → List Object → List Object
 with_change o change [] = []
-with_change zero change (ob ∷ obs) = changed change ob ∷ obs
+with_change zero change (ob ∷ obs) = object_after change ob ∷ obs
 with_change (suc o) change (ob ∷ obs) = ob ∷ with_change o change obs
 
 -- the objects with the one of a number changed, if there is a number

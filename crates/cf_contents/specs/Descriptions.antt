@@ -46,7 +46,8 @@ shown_text units =
 
 -- bytes in hexadecimal digits, 32 of them at most
 abbrev pub shown_bytes : List ℕ → List ℕ
-shown_bytes bytes = if length bytes == 0 then codes "-" else encode_lower (take 32 bytes) ++ more_if (nat_lt 32 (length bytes))
+shown_bytes bytes =
+    if length bytes == 0 then codes "-" else encode_lower (take 32 bytes) ++ more_if (nat_lt 32 (length bytes))
 
 -- the word of a number's kind
 abbrev pub kind_word : NumKind → List ℕ
@@ -65,20 +66,20 @@ abbrev pub pair_word : Cell × ℕ → List ℕ
 pair_word p = number_word p.0.id ++ codes ":" ++ number_word p.1
 
 -- members in brackets, by their words: eight of them at most
-abbrev pub bracketed : {A : Type 0} → (A → List ℕ) → List A → List ℕ
-bracketed word members =
+abbrev pub in_brackets : {A : Type 0} → (A → List ℕ) → List A → List ℕ
+in_brackets word members =
     codes "[" ++ join_with_byte 32 (map word (take 8 members)) ++ more_if (nat_lt 8 (length members)) ++ codes "]"
 
 -- how many members there are, and then the members in brackets
 abbrev pub counted_members : {A : Type 0} → (A → List ℕ) → List A → List ℕ
-counted_members word members = decimal (length members) ++ codes " " ++ bracketed word members
+counted_members word members = decimal (length members) ++ codes " " ++ in_brackets word members
 
 -- a content as a description shows it
 abbrev pub shown_content : Content → List ℕ
 shown_content (text_content mutable units) = shown_text units
 shown_content (data_content mutable bytes) = shown_bytes bytes
 shown_content (number_content n) = kind_word n.kind ++ codes " " ++ signed_decimal n.value
-shown_content (instance_content key fields) = signed_decimal key ++ codes " " ++ bracketed member_word fields
+shown_content (instance_content key fields) = signed_decimal key ++ codes " " ++ in_brackets member_word fields
 shown_content (array_content plain elements) = counted_members number_word elements
 shown_content (dictionary_content plain pairs) = counted_members pair_word pairs
 

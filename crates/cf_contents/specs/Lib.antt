@@ -4,4 +4,4 @@ pub mod Keys
 pub mod Deeds
 pub mod Descriptions
 pub mod Stores
-pub mod Rows
+pub mod Examples

@@ -4,12 +4,12 @@ use Rattle.std.specs.Prelude.{ℕ, zero, suc, ◌+◌, ◌<◌, Bool, true, fals
 use Rattle.cf_syntax.specs.declared.script.ClassLine.{ClassLine}
 use Rattle.cf_syntax.specs.declared.statement.Statement.{Statement}
 use Rattle.cf_contents.specs.Contents.{Object, slots_in, size_at, member_limit}
-use Rattle.cf_contents.specs.Deeds.{Deed, Change, deed_at, first_of, changed}
+use Rattle.cf_contents.specs.Deeds.{Deed, Change, deed_at, first_of, object_after}
 
 -- a body: its object, whether that is finalised, and how many of its slots it has given up
 pub record Held : Type 0 where
   pub object : Object
-  pub is_dead : Bool
+  pub is_finalised : Bool
   pub given_up : ℕ
 
 -- a deed that can be done, on the first object that its statement uses
@@ -24,14 +24,14 @@ pub record StoreView : Type 0 where
 
 -- a new body
 abbrev pub live : Object → Held
-live ob = record { object = ob; is_dead = false; given_up = 0 }
+live ob = record { object = ob; is_finalised = false; given_up = 0 }
 
 abbrev pub objects_of : List Held → List Object
 objects_of bodies = map (λ (h : Held). h.object) bodies
 
 -- the deed of a statement among bodies
-abbrev pub readied : List ClassLine → List Held → Statement → List (Option ℕ) → Ready
-readied classes bodies s used =
+abbrev pub ready_deed : List ClassLine → List Held → Statement → List (Option ℕ) → Ready
+ready_deed classes bodies s used =
     record { object = first_of used; deed = deed_at classes (objects_of bodies) s used }
 
 -- bodies with one of them changed in its content, finalised, and with a slot given up
@@ -41,13 +41,14 @@ with_body f zero (h ∷ hs) = f h ∷ hs
 with_body f (suc o) (h ∷ hs) = h ∷ with_body f o hs
 
 abbrev pub body_changed : Change → Held → Held
-body_changed change h = record { object = changed change h.object; is_dead = h.is_dead; given_up = h.given_up }
+body_changed change h =
+    record { object = object_after change h.object; is_finalised = h.is_finalised; given_up = h.given_up }
 
-abbrev pub body_retired : Held → Held
-body_retired h = record { object = h.object; is_dead = true; given_up = h.given_up }
+abbrev pub body_finalised : Held → Held
+body_finalised h = record { object = h.object; is_finalised = true; given_up = h.given_up }
 
 abbrev pub body_dropped : Held → Held
-body_dropped h = record { object = h.object; is_dead = h.is_dead; given_up = h.given_up + 1 }
+body_dropped h = record { object = h.object; is_finalised = h.is_finalised; given_up = h.given_up + 1 }
 
 abbrev pub bodies_changed : Option ℕ → Change → List Held → List Held
 bodies_changed None change bodies = bodies
@@ -56,7 +57,7 @@ bodies_changed (Some o) change bodies = with_body (body_changed change) o bodies
 -- what is known of the body of an object, where it was made
 abbrev pub is_live_body : Option Held → Bool
 is_live_body None = false
-is_live_body (Some h) = not h.is_dead
+is_live_body (Some h) = not h.is_finalised
 
 abbrev pub is_live_in : List Held → ℕ → Bool
 is_live_in bodies o = is_live_body (slice_get bodies o)

@@ -6,5 +6,6 @@ ghost use Rattle.cf_contents.specs.Keys.{compared_by};
 
 /// No change alters what an object is compared by, so a key of a dictionary stays what it was.
 pub fn changes_keep_keys()
-    ensures { (keyed : Bool) (o : ℕ) (change : Change) (content : Content) → compared_by keyed o (content_after change content) ≡ compared_by keyed o content }
+    ensures { (keyed : Bool) (o : ℕ) (change : Change) (content : Content)
+        → compared_by keyed o (content_after change content) ≡ compared_by keyed o content }
 {}

@@ -2,8 +2,8 @@
 //! definitions that a journal's legality and the store both cite.
 #![tactic(auto)]
 
+mod examples;
 mod laws;
-mod rows;
 
+pub use examples::{answers_of_edits, descriptions_of_objects, edits_of_members};
 pub use laws::changes_keep_keys;
-pub use rows::{answers_of_edits, descriptions_of_objects, edits_of_members};

@@ -2,7 +2,7 @@
 ghost use Rattle.std.specs.Prelude.{◌≡◌, ◌+◌, ◌-◌, ◌≤◌, ◌↔◌, [], ◌++◌, length, take, drop, vec_len, vec_capacity, IsOk, OnOk, OnErr, IfOk};
 ghost use Rattle.std.specs.List.{splice};
 
-use crate::edits::{cut, insert_all, push_all};
+use crate::edits::{insert_all, push_all, take_out};
 use std::alloc::{AllocError as NoMemory, Global};
 use std::marker::Model;
 
@@ -109,7 +109,7 @@ impl Bytes {
         if all < at || all - at < len {
             return Err(Range);
         }
-        cut(&mut self.bytes, at, len);
+        take_out(&mut self.bytes, at, len);
         Ok(())
     }
 }

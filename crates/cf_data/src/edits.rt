@@ -15,7 +15,7 @@ pub fn push_all(v: &mut Vec<u8>, b: &[u8])
 }
 
 /// Takes out `len` bytes from `at` on, and moves those after them down.
-pub fn cut(v: &mut Vec<u8>, at: usize, len: usize)
+pub fn take_out(v: &mut Vec<u8>, at: usize, len: usize)
     requires { at + len ≤ vec_len v.old }
     ensures items { v.new.items ≡ take at v.old.items ++ drop (at + len) v.old.items }
     ensures len { vec_len v.new + len ≡ vec_len v.old }

@@ -1,7 +1,7 @@
 -- The one law of counts: what a weight is after operations, for every weight.
 use Rattle.std.proofs.Common.{◌≡◌, ℕ, ◌+◌, ◌<◌, ◌≤◌, Bool, true, false, List, [], ◌∷◌, ◌++◌, refl, ap, arith}
 use Rattle.cf_graph.specs.Edges.{Reference, same, weigh, one, counted}
-use Rattle.cf_graph.specs.Operations.{Operation, add, move, cut, without, left_by, run, CanDo, CanRun, won_by, lost_by, won, lost}
+use Rattle.cf_graph.specs.Operations.{Operation, add, move, remove, without, left_by, run, CanDo, CanRun, won_by, lost_by, won, lost}
 use Rattle.cf_graph.proofs.Same.{same-equal, same-refl}
 
 without_cases : (g : Reference → ℕ) (r e : Reference) (es : List Reference) (b : Bool) → same r e ≡ b
@@ -23,7 +23,7 @@ weigh-left_by : (g : Reference → ℕ) (op : Operation) (es : List Reference) �
     → weigh g (left_by op es) + lost_by g op ≡ weigh g es + won_by g op
 weigh-left_by g (add r) es h = omega arith
 weigh-left_by g (move r k) es h = omega (arith, weigh-without g r es h)
-weigh-left_by g (cut r) es h = omega (arith, weigh-without g r es h)
+weigh-left_by g (remove r) es h = omega (arith, weigh-without g r es h)
 
 -- what operations leave and lose is what was there and what they win
 pub weigh-run : (g : Reference → ℕ) (ops : List Operation) (es : List Reference) → CanRun ops es
@@ -38,7 +38,7 @@ can_do : (op : Operation) (es : List Reference) → ((r : Reference) → lost_by
     → CanDo op es
 can_do (add r) es h = tt
 can_do (move r k) es h = omega (arith, h r, one-refl r)
-can_do (cut r) es h = omega (arith, h r, one-refl r)
+can_do (remove r) es h = omega (arith, h r, one-refl r)
 
 -- operations can be done where no more of each reference is lost than is there
 pub can_run : (ops : List Operation) (es : List Reference) → ((r : Reference) → lost (one r) ops ≤ weigh (one r) es)

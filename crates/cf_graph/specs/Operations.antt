@@ -7,7 +7,7 @@ use Rattle.cf_graph.specs.Edges.{Reference, same, weigh, one}
 pub data Operation : Type 0 where
   add : Reference → Operation
   move : Reference → Holder → Operation
-  cut : Reference → Operation
+  remove : Reference → Operation
 
 -- the references without one that is this very one
 abbrev pub without : Reference → List Reference → List Reference
@@ -22,7 +22,7 @@ moved r h = record { holder = h; object = r.object }
 abbrev pub left_by : Operation → List Reference → List Reference
 left_by (add r) es = r ∷ es
 left_by (move r h) es = moved r h ∷ without r es
-left_by (cut r) es = without r es
+left_by (remove r) es = without r es
 
 -- what a list of operations leaves, one after another
 abbrev pub run : List Operation → List Reference → List Reference
@@ -33,7 +33,7 @@ run (op ∷ ops) es = run ops (left_by op es)
 abbrev pub CanDo : Operation → List Reference → Type 0
 CanDo (add r) es = Unit {0}
 CanDo (move r h) es = 0 < weigh (one r) es
-CanDo (cut r) es = 0 < weigh (one r) es
+CanDo (remove r) es = 0 < weigh (one r) es
 
 -- operations can be done one after another
 abbrev pub CanRun : List Operation → List Reference → Type 0
@@ -44,13 +44,13 @@ CanRun (op ∷ ops) es = CanDo op es × CanRun ops (left_by op es)
 abbrev pub won_by : (Reference → ℕ) → Operation → ℕ
 won_by g (add r) = g r
 won_by g (move r h) = g (moved r h)
-won_by g (cut r) = 0
+won_by g (remove r) = 0
 
 -- what a weight loses by an operation
 abbrev pub lost_by : (Reference → ℕ) → Operation → ℕ
 lost_by g (add r) = 0
 lost_by g (move r h) = g r
-lost_by g (cut r) = g r
+lost_by g (remove r) = g r
 
 -- what a weight wins by a list of operations
 abbrev pub won : (Reference → ℕ) → List Operation → ℕ

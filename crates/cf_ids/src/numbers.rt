@@ -1,5 +1,6 @@
 //! Numbers that mean different things have different types, and each type keeps its range.
 ghost use Rattle.std.specs.Prelude.{ℕ, ◌<◌, Some};
+ghost use Rattle.cf_ids.specs.declared.limits.TheConstants.{HANDLERS, MODES, NOTICES, VARIABLES};
 ghost use Rattle.cf_ids.specs.Ranges.{IsObjectNumber, IsThread, IsTypeNumber};
 ghost use Rattle.cf_ids.specs.Words.{thread_word, number_word};
 
@@ -95,7 +96,7 @@ impl Model for VarId {
 
     ghost view = { λ id. id.0 };
 
-    ghost invariant = { λ id. id.0 < 256 };
+    ghost invariant = { λ id. id.0 < VARIABLES };
 
     ghost inverse = { λ n. record { 0 = n } };
 }
@@ -109,7 +110,7 @@ impl Model for ModeId {
 
     ghost view = { λ id. id.0 };
 
-    ghost invariant = { λ id. id.0 < 1024 };
+    ghost invariant = { λ id. id.0 < MODES };
 
     ghost inverse = { λ n. record { 0 = n } };
 }
@@ -128,7 +129,7 @@ impl Model for HandlerId {
 
     ghost view = { λ id. id.0 };
 
-    ghost invariant = { λ id. id.0 < 1024 };
+    ghost invariant = { λ id. id.0 < HANDLERS };
 
     ghost inverse = { λ n. record { 0 = n } };
 }
@@ -142,7 +143,7 @@ impl Model for NameId {
 
     ghost view = { λ id. id.0 };
 
-    ghost invariant = { λ id. id.0 < 1024 };
+    ghost invariant = { λ id. id.0 < NOTICES };
 
     ghost inverse = { λ n. record { 0 = n } };
 }

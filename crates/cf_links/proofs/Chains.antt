@@ -200,18 +200,21 @@ joined_before w l from (m ∷ ms) n goes among =
       | inr differs ↦ joined_before w l (Some m) ms n goes.2 (rw (ne_eqb n m differs) at among)
     ]
 
-pub joined_last : (w : Web) (l : ℕ) (from : Option ℕ) (ns : List ℕ) → GoesOn w l from ns → AreJoined w l (w.last l) None
+pub joined_last : (w : Web) (l : ℕ) (from : Option ℕ) (ns : List ℕ) → GoesOn w l from ns
+    → AreJoined w l (w.last l) None
 joined_last w l from [] goes = rw goes.backwards goes
 joined_last w l from (m ∷ ms) goes = joined_last w l (Some m) ms goes.2
 
 -- the same of the other side, by turning the links round
-pub next_marked : (w : Web) (l : ℕ) (ns : List ℕ) (n b : ℕ) → GoesOn w l None ns → is_in n ns ≡ true → w.next n ≡ Some b
+pub next_marked : (w : Web) (l : ℕ) (ns : List ℕ) (n b : ℕ) → GoesOn w l None ns → is_in n ns ≡ true
+    → w.next n ≡ Some b
     → w.list b ≡ Some l
 next_marked w l ns n b goes among found =
     prev_marked (turned w) l None (reverse ns) n b (λ e. absurd (cc)) (GoesOn-turned w l ns goes)
     (is_in-reverse n ns among) found
 
-pub first_marked : (w : Web) (l : ℕ) (ns : List ℕ) (b : ℕ) → GoesOn w l None ns → w.first l ≡ Some b → w.list b ≡ Some l
+pub first_marked : (w : Web) (l : ℕ) (ns : List ℕ) (b : ℕ) → GoesOn w l None ns → w.first l ≡ Some b
+    → w.list b ≡ Some l
 first_marked w l ns b goes found =
     last_marked (turned w) l None (reverse ns) b (λ e. absurd (cc)) (GoesOn-turned w l ns goes) found
 

@@ -10,7 +10,7 @@ use Rattle.std.proofs.lemmas.List.{with_items_is, map-set, set-get_or, get_or_pa
 use Rattle.std.proofs.lemmas.List.Sums.{sum_by-cons}
 use Rattle.std.proofs.lemmas.Option.{slice_get_within, slice_get_past, slice_get-get_or, slice_get_read}
 use Rattle.slab.specs.Slab.{Slab, Updates, get, with_value}
-use Rattle.cf_links.specs.declared.joins.Entry.{Entry}
+use Rattle.cf_links.specs.declared.joins.NodeRecord.{NodeRecord}
 use Rattle.cf_links.specs.declared.joins.Ends.{Ends}
 use Rattle.cf_links.specs.declared.joins.Gap.{Gap}
 use Rattle.cf_links.specs.declared.joins.Side.{Side}
@@ -70,17 +70,18 @@ none_from None test = refl
 none_from (Some x) test = absurd (cc)
 
 module _ {T : Type 0} where
-  value_in : (slots : List (Option (Entry T))) (n : ℕ)
+  value_in : (slots : List (Option (NodeRecord T))) (n : ℕ)
       → get_or (map (option_map (λ e. e.value)) slots) n None ≡ option_map (λ e. e.value) (get_or slots n None)
   value_in [] n = refl
   value_in (slot ∷ rest) zero = refl
   value_in (slot ∷ rest) (suc n) = value_in rest n
 
   -- a write of a node that keeps its value
-  pub same_nodes : (nodes : Slab (Entry T)) (n : ℕ) (old new : Entry T) → get nodes n ≡ Some old → new.value ≡ old.value
+  pub same_nodes : (nodes : Slab (NodeRecord T)) (n : ℕ) (old new : NodeRecord T) → get nodes n ≡ Some old
+      → new.value ≡ old.value
       → SameNodes nodes (with_value nodes n new)
   same_nodes nodes n old new found kept =
-      let view : Option (Entry T) → Option T = option_map (λ e. e.value) in
+      let view : Option (NodeRecord T) → Option T = option_map (λ e. e.value) in
       let was : get_or (map view nodes.slots) n None ≡ Some new.value =
       value_in nodes.slots n ∙ ap view found ∙ ap Some (sym kept) in
       record {
@@ -90,18 +91,19 @@ module _ {T : Type 0} where
         capacity = refl;
       }
 
-  next_kept : (nodes : Slab (Entry T)) (ends : List Ends) (l : ℕ) (new : Ends) (x : Option ℕ) → x ≢ None
+  next_kept : (nodes : Slab (NodeRecord T)) (ends : List Ends) (l : ℕ) (new : Ends) (x : Option ℕ) → x ≢ None
       → next_from (web_of nodes (set ends l new)) l x ≡ next_from (web_of nodes ends) l x
   next_kept nodes ends l new None apart = absurd (apart refl)
   next_kept nodes ends l new (Some n) apart = refl
 
-  prev_kept : (nodes : Slab (Entry T)) (ends : List Ends) (l : ℕ) (new : Ends) (x : Option ℕ) → x ≢ None
+  prev_kept : (nodes : Slab (NodeRecord T)) (ends : List Ends) (l : ℕ) (new : Ends) (x : Option ℕ) → x ≢ None
       → next_from (turned (web_of nodes (set ends l new))) l x ≡ next_from (turned (web_of nodes ends)) l x
   prev_kept nodes ends l new None apart = absurd (apart refl)
   prev_kept nodes ends l new (Some n) apart = refl
 
   -- a write of a list's ends
-  pub leads_first : (nodes : Slab (Entry T)) (ends : List Ends) (l : ℕ) (old : Ends) (to : Option ℕ) → l < length ends
+  pub leads_first : (nodes : Slab (NodeRecord T)) (ends : List Ends) (l : ℕ) (old : Ends) (to : Option ℕ)
+      → l < length ends
       → slice_get ends l ≡ Some old
       → Leads (web_of nodes ends) (web_of nodes (set ends l (record { first = to; last = old.last }))) l None to
   leads_first nodes ends l old to within found =
@@ -115,7 +117,8 @@ module _ {T : Type 0} where
         marks = λ n. refl;
       }
 
-  pub leads_last : (nodes : Slab (Entry T)) (ends : List Ends) (l : ℕ) (old : Ends) (to : Option ℕ) → l < length ends
+  pub leads_last : (nodes : Slab (NodeRecord T)) (ends : List Ends) (l : ℕ) (old : Ends) (to : Option ℕ)
+      → l < length ends
       → slice_get ends l ≡ Some old
       → Leads (turned (web_of nodes ends)) (turned (web_of nodes
       (set ends l (record { first = old.first; last = to })))) l None to
@@ -131,7 +134,7 @@ module _ {T : Type 0} where
       }
 
   -- ---- the lists that the fields make
-  within_from : {X : Type 0} (part : Entry T → Option X) (nodes : Slab (Entry T)) (n : ℕ) (x : X)
+  within_from : {X : Type 0} (part : NodeRecord T → Option X) (nodes : Slab (NodeRecord T)) (n : ℕ) (x : X)
       → option_and_then part (get nodes n) ≡ Some x → n < length nodes.slots
   within_from part nodes n x found =
       elim (cases_lt n (length nodes.slots)) [
@@ -141,13 +144,14 @@ module _ {T : Type 0} where
       ]
 
   -- a list has no more nodes than there are slots
-  fits : (nodes : Slab (Entry T)) (ends : List Ends) (l : ℕ) (ns : List ℕ) → GoesOn (web_of nodes ends) l None ns
+  fits : (nodes : Slab (NodeRecord T)) (ends : List Ends) (l : ℕ) (ns : List ℕ) → GoesOn (web_of nodes ends) l None ns
       → length ns ≤ length nodes.slots
   fits nodes ends l ns goes =
       length-le_from_distinct_below ns (length nodes.slots) (distinct (web_of nodes ends) l ns goes)
       (λ q among. within_from (λ e. e.list) nodes q l (list_in (web_of nodes ends) l None ns q goes among))
 
-  pub seen : (nodes : Slab (Entry T)) (ends : List Ends) (lists : List (List ℕ)) → AreLists (web_of nodes ends) lists
+  pub seen : (nodes : Slab (NodeRecord T)) (ends : List Ends) (lists : List (List ℕ))
+      → AreLists (web_of nodes ends) lists
       → length lists ≡ length ends → lists_of nodes ends ≡ lists
   seen nodes ends lists are count =
       let walked : Ends → List ℕ = λ e. walk (length nodes.slots) (web_of nodes ends).next e.first in
@@ -162,37 +166,42 @@ module _ {T : Type 0} where
       (fits nodes ends l (nodes_of lists l) goes) goes)
 
   -- the new fields make these lists
-  pub record Makes (nodes : Slab (Entry T)) (ends : List Ends) (lists : List (List ℕ)) : Type 0 where
+  pub record Makes (nodes : Slab (NodeRecord T)) (ends : List Ends) (lists : List (List ℕ)) : Type 0 where
     pub sound : IsSound nodes ends
     pub seen_as : lists_of nodes ends ≡ lists
 
-  pub makes : (nodes : Slab (Entry T)) (ends : List Ends) (lists : List (List ℕ)) → AreLists (web_of nodes ends) lists
+  pub makes : (nodes : Slab (NodeRecord T)) (ends : List Ends) (lists : List (List ℕ))
+      → AreLists (web_of nodes ends) lists
       → length lists ≡ length ends → Makes nodes ends lists
   makes nodes ends lists are count =
       let here = seen nodes ends lists are count in
       record { sound = rw here are; seen_as = here }
 
-  count_of : (nodes : Slab (Entry T)) (ends : List Ends) → length (lists_of nodes ends) ≡ length ends
+  count_of : (nodes : Slab (NodeRecord T)) (ends : List Ends) → length (lists_of nodes ends) ≡ length ends
   count_of nodes ends = length-map ends _
 
   -- ---- what is found in the fields
-  pub next_seen : (nodes : Slab (Entry T)) (ends : List Ends) (n : ℕ) (found : Option (Entry T)) → IsSound nodes ends
+  pub next_seen : (nodes : Slab (NodeRecord T)) (ends : List Ends) (n : ℕ) (found : Option (NodeRecord T))
+      → IsSound nodes ends
       → get nodes n ≡ found → option_and_then (λ e. e.next) found ≡ next_of (lists_of nodes ends) n
   next_seen nodes ends n found sound is =
       rw (← is) (sym (next_of_link (web_of nodes ends) (lists_of nodes ends) n sound))
 
-  pub prev_seen : (nodes : Slab (Entry T)) (ends : List Ends) (n : ℕ) (found : Option (Entry T)) → IsSound nodes ends
+  pub prev_seen : (nodes : Slab (NodeRecord T)) (ends : List Ends) (n : ℕ) (found : Option (NodeRecord T))
+      → IsSound nodes ends
       → get nodes n ≡ found → option_and_then (λ e. e.prev) found ≡ prev_of (lists_of nodes ends) n
   prev_seen nodes ends n found sound is =
       rw (← is) (sym (prev_of_link (web_of nodes ends) (lists_of nodes ends) n sound))
 
-  pub list_seen : (nodes : Slab (Entry T)) (ends : List Ends) (n : ℕ) (found : Option (Entry T)) → IsSound nodes ends
+  pub list_seen : (nodes : Slab (NodeRecord T)) (ends : List Ends) (n : ℕ) (found : Option (NodeRecord T))
+      → IsSound nodes ends
       → get nodes n ≡ found → option_and_then (λ e. e.list) found ≡ list_of (lists_of nodes ends) n
   list_seen nodes ends n found sound is =
       rw (← is) (sym (list_of_mark (web_of nodes ends) (lists_of nodes ends) n sound))
 
-  pub first_seen : (nodes : Slab (Entry T)) (ends : List Ends) (l : ℕ) (found : Option Ends) → IsSound nodes ends
-      → slice_get ends l ≡ found → option_and_then (λ e. e.first) found ≡ slice_get (nodes_of (lists_of nodes ends) l) 0
+  pub first_seen : (nodes : Slab (NodeRecord T)) (ends : List Ends) (l : ℕ) (found : Option Ends) → IsSound nodes ends
+      → slice_get ends l ≡ found
+      → option_and_then (λ e. e.first) found ≡ slice_get (nodes_of (lists_of nodes ends) l) 0
   first_seen nodes ends l found sound is =
       elim (cases_lt l (length ends)) [
         | inl within ↦ rw (← is) (sym (first_link (web_of nodes ends) (lists_of nodes ends) l sound
@@ -204,17 +213,18 @@ module _ {T : Type 0} where
             rw (none, empty) refl
       ]
 
-  some_from : {X : Type 0} (part : Entry T → Option X) (o : Option (Entry T)) (x : X) → option_and_then part o ≡ Some x
+  some_from : {X : Type 0} (part : NodeRecord T → Option X) (o : Option (NodeRecord T)) (x : X)
+      → option_and_then part o ≡ Some x
       → IsSome (option_map (λ e. e.value) o)
   some_from part None x found = absurd (cc)
   some_from part (Some e) x found = refl
 
   -- a node with a mark is there
-  pub there_from : (nodes : Slab (Entry T)) (ends : List Ends) (n l : ℕ) → (web_of nodes ends).list n ≡ Some l
+  pub there_from : (nodes : Slab (NodeRecord T)) (ends : List Ends) (n l : ℕ) → (web_of nodes ends).list n ≡ Some l
       → IsThere nodes n
   there_from nodes ends n l mark = rw (value_in nodes.slots n) (some_from (λ e. e.list) (get nodes n) l mark)
 
-  pub valid_seen : (nodes : Slab (Entry T)) (ends : List Ends) (s : Lists T) → IsSound nodes ends
+  pub valid_seen : (nodes : Slab (NodeRecord T)) (ends : List Ends) (s : Lists T) → IsSound nodes ends
       → lists_of nodes ends ≡ s.lists → values_of nodes ≡ s.values → IsValid s
   valid_seen nodes ends s sound lists values =
       let w = web_of nodes ends in
@@ -226,20 +236,20 @@ module _ {T : Type 0} where
 
   -- ---- what is known before an edit
   -- a node that is in no list has no mark
-  pub no_mark : (nodes : Slab (Entry T)) (ends : List Ends) (n : ℕ) → IsSound nodes ends
+  pub no_mark : (nodes : Slab (NodeRecord T)) (ends : List Ends) (n : ℕ) → IsSound nodes ends
       → list_of (lists_of nodes ends) n ≡ None → (web_of nodes ends).list n ≡ None
   no_mark nodes ends n sound loose = sym (list_of_mark (web_of nodes ends) (lists_of nodes ends) n sound) ∙ loose
 
-  pub has_mark : (nodes : Slab (Entry T)) (ends : List Ends) (n l : ℕ) → IsSound nodes ends
+  pub has_mark : (nodes : Slab (NodeRecord T)) (ends : List Ends) (n l : ℕ) → IsSound nodes ends
       → list_of (lists_of nodes ends) n ≡ Some l → (web_of nodes ends).list n ≡ Some l
   has_mark nodes ends n l sound linked = sym (list_of_mark (web_of nodes ends) (lists_of nodes ends) n sound) ∙ linked
 
   -- a node of a list is there, and is not one that is in none
-  record Stands (nodes : Slab (Entry T)) (ends : List Ends) (o : Option ℕ) : Type 0 where
+  record Stands (nodes : Slab (NodeRecord T)) (ends : List Ends) (o : Option ℕ) : Type 0 where
     pub there : (b : ℕ) → o ≡ Some b → IsThere nodes b
     pub apart : (n : ℕ) → list_of (lists_of nodes ends) n ≡ None → o ≢ Some n
 
-  stands : (nodes : Slab (Entry T)) (ends : List Ends) (l : ℕ) (o : Option ℕ) → IsSound nodes ends
+  stands : (nodes : Slab (NodeRecord T)) (ends : List Ends) (l : ℕ) (o : Option ℕ) → IsSound nodes ends
       → ((b : ℕ) → o ≡ Some b → (web_of nodes ends).list b ≡ Some l) → Stands nodes ends o
   stands nodes ends l o sound marked =
       record {
@@ -249,34 +259,34 @@ module _ {T : Type 0} where
       }
 
   -- the ends that are read of a list that was made
-  ends_at : (nodes : Slab (Entry T)) (ends : List Ends) (l : ℕ) (e : Ends) → l < length (lists_of nodes ends)
+  ends_at : (nodes : Slab (NodeRecord T)) (ends : List Ends) (l : ℕ) (e : Ends) → l < length (lists_of nodes ends)
       → e ≡ get_or ends l e → slice_get ends l ≡ Some e
   ends_at nodes ends l e made read =
       slice_get_read ends (length ends) l e refl (omega (arith, made, count_of nodes ends)) read
 
-  none_stands : (nodes : Slab (Entry T)) (ends : List Ends) → Stands nodes ends None
+  none_stands : (nodes : Slab (NodeRecord T)) (ends : List Ends) → Stands nodes ends None
   none_stands nodes ends = record { there = λ b found. absurd (cc); apart = λ n loose found. absurd (cc) }
 
-  self_stands : (nodes : Slab (Entry T)) (ends : List Ends) (n l : ℕ) → IsSound nodes ends
+  self_stands : (nodes : Slab (NodeRecord T)) (ends : List Ends) (n l : ℕ) → IsSound nodes ends
       → list_of (lists_of nodes ends) n ≡ Some l → Stands nodes ends (Some n)
   self_stands nodes ends n l sound linked =
       stands nodes ends l (Some n) sound (λ b found. let here : n ≡ b = cc in
       rw (← here) (has_mark nodes ends n l sound linked))
 
-  next_stands : (nodes : Slab (Entry T)) (ends : List Ends) (n l : ℕ) → IsSound nodes ends
+  next_stands : (nodes : Slab (NodeRecord T)) (ends : List Ends) (n l : ℕ) → IsSound nodes ends
       → list_of (lists_of nodes ends) n ≡ Some l → Stands nodes ends (next_of (lists_of nodes ends) n)
   next_stands nodes ends n l sound linked =
       stands nodes ends l _ sound (λ b found. next_of_marked (web_of nodes ends) (lists_of nodes ends) n l b sound
       linked found)
 
-  prev_stands : (nodes : Slab (Entry T)) (ends : List Ends) (n l : ℕ) → IsSound nodes ends
+  prev_stands : (nodes : Slab (NodeRecord T)) (ends : List Ends) (n l : ℕ) → IsSound nodes ends
       → list_of (lists_of nodes ends) n ≡ Some l → Stands nodes ends (prev_of (lists_of nodes ends) n)
   prev_stands nodes ends n l sound linked =
       stands nodes ends l _ sound (λ b found. prev_of_marked (web_of nodes ends) (lists_of nodes ends) n l b sound
       linked found)
 
   -- a node that is in no list can come in between two that stand
-  can_stand : (nodes : Slab (Entry T)) (ends : List Ends) (l n : ℕ) (gap : Gap) → IsThere nodes n
+  can_stand : (nodes : Slab (NodeRecord T)) (ends : List Ends) (l n : ℕ) (gap : Gap) → IsThere nodes n
       → list_of (lists_of nodes ends) n ≡ None → l < length (lists_of nodes ends) → Stands nodes ends gap.from
       → Stands nodes ends gap.to → CanStand nodes ends l n gap
   can_stand nodes ends l n gap there loose made from to =
@@ -289,7 +299,8 @@ module _ {T : Type 0} where
         made = omega (arith, made, count_of nodes ends);
       }
 
-  pub can_push : (side : Side) (nodes : Slab (Entry T)) (ends : List Ends) (l n : ℕ) (e : Ends) → IsSound nodes ends
+  pub can_push : (side : Side) (nodes : Slab (NodeRecord T)) (ends : List Ends) (l n : ℕ) (e : Ends)
+      → IsSound nodes ends
       → IsThere nodes n → list_of (lists_of nodes ends) n ≡ None → l < length (lists_of nodes ends)
       → e ≡ get_or ends l e → CanStand nodes ends l n (end_gap side e.first e.last)
   can_push Before nodes ends l n e sound there loose made read =
@@ -305,12 +316,12 @@ module _ {T : Type 0} where
       (none_stands nodes ends)
 
   -- a list that a node is in was made
-  made_from_list_of : (nodes : Slab (Entry T)) (ends : List Ends) (n l : ℕ) → IsSound nodes ends
+  made_from_list_of : (nodes : Slab (NodeRecord T)) (ends : List Ends) (n l : ℕ) → IsSound nodes ends
       → list_of (lists_of nodes ends) n ≡ Some l → l < length (lists_of nodes ends)
   made_from_list_of nodes ends n l sound linked =
       made_from_in (lists_of nodes ends) l n (sound.listed n l (has_mark nodes ends n l sound linked))
 
-  pub can_insert : (side : Side) (nodes : Slab (Entry T)) (ends : List Ends) (l at n : ℕ) → IsSound nodes ends
+  pub can_insert : (side : Side) (nodes : Slab (NodeRecord T)) (ends : List Ends) (l at n : ℕ) → IsSound nodes ends
       → IsThere nodes n → list_of (lists_of nodes ends) n ≡ None → list_of (lists_of nodes ends) at ≡ Some l
       → CanStand nodes ends l n (gap_beside side at (prev_of (lists_of nodes ends) at)
       (next_of (lists_of nodes ends) at))
@@ -323,7 +334,7 @@ module _ {T : Type 0} where
       (made_from_list_of nodes ends at l sound linked) (self_stands nodes ends at l sound linked)
       (next_stands nodes ends at l sound linked)
 
-  pub can_remove : (nodes : Slab (Entry T)) (ends : List Ends) (l n : ℕ) → IsSound nodes ends
+  pub can_remove : (nodes : Slab (NodeRecord T)) (ends : List Ends) (l n : ℕ) → IsSound nodes ends
       → list_of (lists_of nodes ends) n ≡ Some l
       → CanStand nodes ends l n (record {
         from = prev_of (lists_of nodes ends) n;
@@ -342,26 +353,28 @@ module _ {T : Type 0} where
   -- ---- what an edit leaves
   module _ {Z : Type 0} where
     -- the fields are sound, and show these lists, and what they showed before beside them
-    pub record Edited (nodes : Slab (Entry T)) (ends : Vec Ends Z) (new : Slab (Entry T)) (new_ends : List Ends)
+    pub record Edited (nodes : Slab (NodeRecord T)) (ends : Vec Ends Z) (new : Slab (NodeRecord T)) (new_ends : List Ends)
         (lists : List (List ℕ)) : Type 0 where
       pub sound : IsSound new (with_items ends new_ends).items
       pub shows : view_of new (with_items ends new_ends) ≡ record (view_of nodes ends) { lists = lists }
 
     -- what each edit of links keeps
-    pub record Kept (nodes : Slab (Entry T)) (ends : Vec Ends Z) (new : Slab (Entry T)) (new_ends : List Ends) : Type 0
+    pub record Kept (nodes : Slab (NodeRecord T)) (ends : Vec Ends Z) (new : Slab (NodeRecord T))
+        (new_ends : List Ends) : Type 0
       where
         pub sound : IsSound nodes ends.items
         pub fits : length ends.items ≡ vec_len ends
         pub count : length new_ends ≡ length ends.items
         pub same : SameNodes nodes new
 
-    pub kept_from : (nodes : Slab (Entry T)) (ends : Vec Ends Z) (new : Slab (Entry T)) (new_ends slice : List Ends)
+    pub kept_from : (nodes : Slab (NodeRecord T)) (ends : Vec Ends Z) (new : Slab (NodeRecord T))
+        (new_ends slice : List Ends)
         → IsSound nodes ends.items → slice ≡ ends.items → length slice ≡ vec_len ends → length new_ends ≡ length slice
         → SameNodes nodes new → Kept nodes ends new new_ends
     kept_from nodes ends new new_ends slice sound is fits count same =
         record { sound = sound; fits = rw is at fits; count = count ∙ ap length is; same = same }
 
-    edited : (nodes : Slab (Entry T)) (ends : Vec Ends Z) (new : Slab (Entry T)) (new_ends : List Ends)
+    edited : (nodes : Slab (NodeRecord T)) (ends : Vec Ends Z) (new : Slab (NodeRecord T)) (new_ends : List Ends)
         (lists : List (List ℕ)) → Kept nodes ends new new_ends → AreLists (web_of new new_ends) lists
         → length lists ≡ length (lists_of nodes ends.items) → Edited nodes ends new new_ends lists
     edited nodes ends new new_ends lists kept are count =
@@ -373,7 +386,7 @@ module _ {T : Type 0} where
           shows = rw (items, made.seen_as, kept.same.values, kept.same.len, kept.same.capacity) refl;
         }
 
-    pub push_seen : (side : Side) (nodes : Slab (Entry T)) (ends : Vec Ends Z) (new : Slab (Entry T))
+    pub push_seen : (side : Side) (nodes : Slab (NodeRecord T)) (ends : Vec Ends Z) (new : Slab (NodeRecord T))
         (new_ends : List Ends) (l n : ℕ) (e : Ends) → Kept nodes ends new new_ends
         → l < length (lists_of nodes ends.items) → e ≡ get_or ends.items l e
         → list_of (lists_of nodes ends.items) n ≡ None
@@ -390,7 +403,7 @@ module _ {T : Type 0} where
         (no_mark nodes ends.items n kept.sound loose) (rw (first, last) puts))
         (count-with_end side (lists_of nodes ends.items) l n)
 
-    pub insert_seen : (side : Side) (nodes : Slab (Entry T)) (ends : Vec Ends Z) (new : Slab (Entry T))
+    pub insert_seen : (side : Side) (nodes : Slab (NodeRecord T)) (ends : Vec Ends Z) (new : Slab (NodeRecord T))
         (new_ends : List Ends) (l at n : ℕ) → Kept nodes ends new new_ends
         → list_of (lists_of nodes ends.items) at ≡ Some l → list_of (lists_of nodes ends.items) n ≡ None
         → Puts (web_of nodes ends.items) (web_of new new_ends) l n
@@ -408,7 +421,8 @@ module _ {T : Type 0} where
         (has_mark nodes ends.items at l kept.sound linked) (no_mark nodes ends.items n kept.sound loose) puts_at)
         (length-map lists _)
 
-    pub unlink_seen : (nodes : Slab (Entry T)) (ends : Vec Ends Z) (new : Slab (Entry T)) (new_ends : List Ends)
+    pub unlink_seen : (nodes : Slab (NodeRecord T)) (ends : Vec Ends Z) (new : Slab (NodeRecord T))
+        (new_ends : List Ends)
         (l n : ℕ) → Kept nodes ends new new_ends → list_of (lists_of nodes ends.items) n ≡ Some l
         → Removes (web_of nodes ends.items) (web_of new new_ends) l n (prev_of (lists_of nodes ends.items) n)
         (next_of (lists_of nodes ends.items) n)
@@ -426,11 +440,11 @@ module _ {T : Type 0} where
 
   -- ---- lists and nodes that are made, and nodes that go
   -- the values and the links at a node's number
-  pub value_seen : (nodes : Slab (Entry T)) (n : ℕ)
+  pub value_seen : (nodes : Slab (NodeRecord T)) (n : ℕ)
       → get_or (values_of nodes) n None ≡ option_map (λ e. e.value) (get nodes n)
   value_seen nodes n = value_in nodes.slots n
 
-  pub make_list_seen : (nodes : Slab (Entry T)) (ends : List Ends) → IsSound nodes ends
+  pub make_list_seen : (nodes : Slab (NodeRecord T)) (ends : List Ends) → IsSound nodes ends
       → Makes nodes (ends ++ record { first = None; last = None } ∷ []) (lists_of nodes ends ++ [] ∷ [])
   make_list_seen nodes ends sound =
       let new : Ends = record { first = None; last = None } in
@@ -452,7 +466,7 @@ module _ {T : Type 0} where
       (omega (arith, count, length-append ends (new ∷ []), length-append (lists_of nodes ends) ([] ∷ [])))
 
   -- a slot that changes between nothing and a node that is in no list
-  pub same_seen : (nodes new : Slab (Entry T)) (ends : List Ends)
+  pub same_seen : (nodes new : Slab (NodeRecord T)) (ends : List Ends)
       → ((m : ℕ) → (option_and_then (λ e. e.next) (get new m) ≡ option_and_then (λ e. e.next) (get nodes m))
       × (option_and_then (λ e. e.prev) (get new m) ≡ option_and_then (λ e. e.prev) (get nodes m))
       × (option_and_then (λ e. e.list) (get new m) ≡ option_and_then (λ e. e.list) (get nodes m))) → IsSound nodes ends
@@ -461,7 +475,7 @@ module _ {T : Type 0} where
       makes new ends (lists_of nodes ends) (same_web (web_of nodes ends) (web_of new ends) (lists_of nodes ends) same
       (λ l. (refl, refl)) sound) (count_of nodes ends)
 
-  pub make_seen : (nodes new : Slab (Entry T)) (ends : List Ends) (n : ℕ) (v : T) → IsSound nodes ends
+  pub make_seen : (nodes new : Slab (NodeRecord T)) (ends : List Ends) (n : ℕ) (v : T) → IsSound nodes ends
       → get nodes n ≡ None → Updates nodes new n (Some (record { value = v; list = None; prev = None; next = None }))
       → Makes new ends (lists_of nodes ends)
   make_seen nodes new ends n v sound vacant updates =
@@ -471,11 +485,11 @@ module _ {T : Type 0} where
         | inr differs ↦ rw (updates.others m differs) (refl, refl, refl)
       ]) sound
 
-  pub make_loose : (nodes : Slab (Entry T)) (ends : List Ends) (n : ℕ) → IsSound nodes ends → get nodes n ≡ None
+  pub make_loose : (nodes : Slab (NodeRecord T)) (ends : List Ends) (n : ℕ) → IsSound nodes ends → get nodes n ≡ None
       → list_of (lists_of nodes ends) n ≡ None
   make_loose nodes ends n sound vacant = sym (list_seen nodes ends n None sound vacant)
 
-  pub free_seen : (nodes new : Slab (Entry T)) (ends : List Ends) (n : ℕ) → IsSound nodes ends
+  pub free_seen : (nodes new : Slab (NodeRecord T)) (ends : List Ends) (n : ℕ) → IsSound nodes ends
       → list_of (lists_of nodes ends) n ≡ None → Updates nodes new n None → Makes new ends (lists_of nodes ends)
   free_seen nodes new ends n sound loose updates =
       let nothing = sound.loose n (no_mark nodes ends n sound loose) in
@@ -485,7 +499,7 @@ module _ {T : Type 0} where
         | inr differs ↦ rw (updates.others m differs) (refl, refl, refl)
       ]) sound
 
-  pub values_freed : (nodes new : Slab (Entry T)) (n : ℕ) → new.slots ≡ set nodes.slots n None
+  pub values_freed : (nodes new : Slab (NodeRecord T)) (n : ℕ) → new.slots ≡ set nodes.slots n None
       → values_of new ≡ set (values_of nodes) n None
   values_freed nodes new n slots = ap (map (option_map (λ e. e.value))) slots
       ∙ map-set (option_map (λ e. e.value)) nodes.slots n None

@@ -19,7 +19,8 @@ place_from_in n (m ∷ ms) among =
 pub in_from_place : (n : ℕ) (ns : List ℕ) (i : ℕ) → slice_get ns i ≡ Some n → is_in n ns ≡ true
 in_from_place n ns i found = any_passes_from_place (eqb n) ns i n found (eq-eqb n n refl)
 
-node_after_place : (n : ℕ) (ns : List ℕ) (i : ℕ) → slice_get ns i ≡ Some n → ((j : ℕ) → slice_get ns j ≡ Some n → j ≡ i)
+node_after_place : (n : ℕ) (ns : List ℕ) (i : ℕ) → slice_get ns i ≡ Some n
+    → ((j : ℕ) → slice_get ns j ≡ Some n → j ≡ i)
     → node_after n ns ≡ slice_get ns (suc i)
 node_after_place n [] i found once = absurd (cc)
 node_after_place n (m ∷ ms) zero found once = let here : m ≡ n = cc in rw (eq-eqb n m (sym here)) refl
@@ -71,7 +72,8 @@ pub prev_of_place : {T : Type 0} (s : Lists T) (valid : IsValid s) (l i n : ℕ)
 unfolding place_before
 prev_of_place s valid l i n here = prev_at s valid l (suc i) n here
 
-pub prev_of_first : {T : Type 0} (s : Lists T) (valid : IsValid s) (l n : ℕ) → slice_get (nodes_of s.lists l) 0 ≡ Some n
+pub prev_of_first : {T : Type 0} (s : Lists T) (valid : IsValid s) (l n : ℕ)
+    → slice_get (nodes_of s.lists l) 0 ≡ Some n
     → prev_of s.lists n ≡ None
 unfolding place_before
 prev_of_first s valid l n here = prev_at s valid l 0 n here

@@ -11,7 +11,7 @@ use slab::Slab;
 
 // A node: its value, the list that it is in, and its neighbours there.
 #[derive(Drop)]
-pub struct Entry<T> {
+pub struct NodeRecord<T> {
     pub value: T,
     pub list: Option<ListId>,
     pub prev: Option<Node>,
@@ -73,7 +73,7 @@ pub fn gap_beside(side: Side, at: Node, prev: Option<Node>, next: Option<Node>) 
 
 // Lets the link onwards from `from`, or from the list itself, lead to `to`.
 fn set_next<T>(
-    nodes: &mut Slab<Entry<T>>,
+    nodes: &mut Slab<NodeRecord<T>>,
     ends: &mut [Ends],
     list: ListId,
     from: Option<Node>,
@@ -99,7 +99,7 @@ fn set_next<T>(
 
 // Lets the link backwards from `from`, or from the list itself, lead to `to`.
 fn set_prev<T>(
-    nodes: &mut Slab<Entry<T>>,
+    nodes: &mut Slab<NodeRecord<T>>,
     ends: &mut [Ends],
     list: ListId,
     from: Option<Node>,
@@ -125,7 +125,7 @@ fn set_prev<T>(
 
 // Lets `to` come right after `from`. `None` stands for the list itself.
 fn join<T>(
-    nodes: &mut Slab<Entry<T>>,
+    nodes: &mut Slab<NodeRecord<T>>,
     ends: &mut [Ends],
     list: ListId,
     from: Option<Node>,
@@ -145,7 +145,7 @@ fn join<T>(
 }
 
 // Gives a node the mark of a list.
-fn mark<T>(nodes: &mut Slab<Entry<T>>, n: Node, list: ListId)
+fn mark<T>(nodes: &mut Slab<NodeRecord<T>>, n: Node, list: ListId)
     requires there { IsThere nodes.old n }
     ensures marks { (ends : List Ends) → Marks (web_of nodes.old ends) (web_of nodes.new ends) n (Some list) }
     ensures same { SameNodes nodes.old nodes.new }
@@ -155,7 +155,7 @@ fn mark<T>(nodes: &mut Slab<Entry<T>>, n: Node, list: ListId)
 }
 
 // Clears the mark and the neighbours of a node.
-fn clear<T>(nodes: &mut Slab<Entry<T>>, n: Node)
+fn clear<T>(nodes: &mut Slab<NodeRecord<T>>, n: Node)
     requires there { IsThere nodes.old n }
     ensures clears { (ends : List Ends) → Clears (web_of nodes.old ends) (web_of nodes.new ends) n }
     ensures same { SameNodes nodes.old nodes.new }
@@ -167,7 +167,7 @@ fn clear<T>(nodes: &mut Slab<Entry<T>>, n: Node)
 }
 
 // Puts a node into a list, in a gap of it.
-pub fn put<T>(nodes: &mut Slab<Entry<T>>, ends: &mut [Ends], list: ListId, n: Node, gap: Gap)
+pub fn put<T>(nodes: &mut Slab<NodeRecord<T>>, ends: &mut [Ends], list: ListId, n: Node, gap: Gap)
     requires { CanStand nodes.old ends.old list n gap }
     ensures puts { Puts (web_of nodes.old ends.old) (web_of nodes.new ends.new) list n gap.from gap.to }
     ensures same { SameNodes nodes.old nodes.new }
@@ -179,7 +179,13 @@ pub fn put<T>(nodes: &mut Slab<Entry<T>>, ends: &mut [Ends], list: ListId, n: No
 }
 
 // Removes a node from a list, where it stands in this gap.
-pub fn remove<T>(nodes: &mut Slab<Entry<T>>, ends: &mut [Ends], list: ListId, n: Node, gap: Gap)
+pub fn remove<T>(
+    nodes: &mut Slab<NodeRecord<T>>,
+    ends: &mut [Ends],
+    list: ListId,
+    n: Node,
+    gap: Gap,
+)
     requires { CanStand nodes.old ends.old list n gap }
     ensures removes { Removes (web_of nodes.old ends.old) (web_of nodes.new ends.new) list n gap.from gap.to }
     ensures same { SameNodes nodes.old nodes.new }

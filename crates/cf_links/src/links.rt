@@ -5,7 +5,7 @@ ghost use Rattle.cf_links.specs.Sides.{with_end, put_beside};
 ghost use Rattle.cf_links.specs.Lists.{value_at, loose_value, nodes_of, list_of, next_of, prev_of, with_first, with_last, put_before, put_after, without, without_node, IsValid};
 
 use crate::NoMemory;
-use crate::joins::{Ends, Entry, Gap, Side, end_gap, gap_beside, put, remove};
+use crate::joins::{Ends, Gap, NodeRecord, Side, end_gap, gap_beside, put, remove};
 use crate::numbers::{ListId, Node};
 use slab::Slab;
 use std::alloc::Global;
@@ -16,7 +16,7 @@ use std::marker::Model;
 /// No call walks a list, and only `reserve` takes memory.
 #[derive(Drop)]
 pub struct Links<T> {
-    nodes: Slab<Entry<T>>,
+    nodes: Slab<NodeRecord<T>>,
     ends: Vec<Ends>,
 }
 
@@ -98,7 +98,7 @@ impl<T> Links<T> {
         } }
     {
         Node(
-            self.nodes.insert_reserved(Entry {
+            self.nodes.insert_reserved(NodeRecord {
                 value: v,
                 list: None,
                 prev: None,
@@ -245,7 +245,7 @@ impl<T> Links<T> {
 }
 
 // Makes room for more nodes. A slab that has the room is left alone.
-fn reserve_nodes<T>(nodes: &mut Slab<Entry<T>>, more: usize) -> Result<(), NoMemory>
+fn reserve_nodes<T>(nodes: &mut Slab<NodeRecord<T>>, more: usize) -> Result<(), NoMemory>
     ensures kept { nodes.new ≡ record nodes.old { capacity = nodes.new.capacity } }
     ensures grown { nodes.old.capacity ≤ nodes.new.capacity }
     ensures fits { OnOk result (more ≤ nodes.new.capacity - slab_len nodes.new) }

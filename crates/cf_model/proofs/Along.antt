@@ -4,9 +4,9 @@ use Rattle.cf_ids.specs.declared.answer.Answer.{Answer}
 use Rattle.cf_syntax.specs.declared.script.Script.{Script}
 use Rattle.cf_syntax.specs.declared.script.ClassLine.{ClassLine}
 use Rattle.cf_syntax.specs.declared.statement.Statement.{Statement}
-use Rattle.cf_syntax.specs.declared.statement.Touch.{Touch}
-use Rattle.cf_syntax.specs.declared.statement.Touch.TheVariants.{Nothing, Binds, Plus, Minus}
-use Rattle.cf_syntax.specs.Forms.{touch_of}
+use Rattle.cf_syntax.specs.declared.statement.Ownership.{Ownership}
+use Rattle.cf_syntax.specs.declared.statement.Ownership.TheVariants.{Keeps, Binds, Retains, Releases}
+use Rattle.cf_syntax.specs.Forms.{ownership_of}
 use Rattle.cf_contents.specs.Contents.{Object, times}
 use Rattle.cf_contents.specs.Deeds.{Origin, Change, first_of, object_of, deed_at, used_at, taken_in}
 use Rattle.cf_contents.specs.Keys.{number_of, numbered, with_number_of}
@@ -61,17 +61,17 @@ taken_live classes x st t body used uses o ob some =
       | inr third ↦ used_live st t body used 2 o uses (number_found st.objects (used_at used 2) o third)
     ]
 
-touch_kept : (t : ℕ) (touch : Touch) (answer : Answer) (origin : Origin) (used : Option ℕ) (change : Change) (st : State) → IsKept st → MakesEmpty origin → IsLiveIf st used → ((o : ℕ) → 0 < times o (taken_in (object_of st.objects used) change) → IsLive st o) → KeepsStep st (touch_step t touch answer origin used change st)
-touch_kept t Nothing answer origin used change st h makes live enters = change_kept t answer used change st h live enters
+touch_kept : (t : ℕ) (ownership : Ownership) (answer : Answer) (origin : Origin) (used : Option ℕ) (change : Change) (st : State) → IsKept st → MakesEmpty origin → IsLiveIf st used → ((o : ℕ) → 0 < times o (taken_in (object_of st.objects used) change) → IsLive st o) → KeepsStep st (touch_step t ownership answer origin used change st)
+touch_kept t Keeps answer origin used change st h makes live enters = change_kept t answer used change st h live enters
 touch_kept t (Binds v) answer origin used change st h makes live enters = reference_kept t (Binds v) answer origin (found st origin) st h makes (found_is st origin)
-touch_kept t (Plus v) answer origin used change st h makes live enters = reference_kept t (Plus v) answer origin used st h makes live
-touch_kept t (Minus v) answer origin used change st h makes live enters = reference_kept t (Minus v) answer origin used st h makes live
+touch_kept t (Retains v) answer origin used change st h makes live enters = reference_kept t (Retains v) answer origin used st h makes live
+touch_kept t (Releases v) answer origin used change st h makes live enters = reference_kept t (Releases v) answer origin used st h makes live
 
 -- the step of each statement, by what its form keeps of slots
 pub statement_kept : (classes : List ClassLine) (t : ℕ) (body : Option ℕ) (x : Statement) (used : List (Option ℕ)) (st : State) → IsKept st → MayUseAll st t body used → KeepsStep st (statement_step classes t x used st)
 statement_kept classes t body x used st h uses =
     let deed = deed_at classes st.objects x used in
-    touch_kept t (touch_of x) deed.answer deed.origin (first_of used) deed.change st h (form_fits classes x _ _ _).makes
+    touch_kept t (ownership_of x) deed.answer deed.origin (first_of used) deed.change st h (form_fits classes x _ _ _).makes
     (live_if st t body used uses) (λ o some. taken_live classes x st t body used uses o (object_of st.objects (first_of used)) some)
 
 frame_kept : (classes : List ClassLine) (t : ℕ) (st : State) (o : Option Statement) → IsKept st → MayUseAll st t (named_of (next_of st.frame o)) (used_of (next_of st.frame o)) → KeepsStep st (frame_step classes t st o)

@@ -5,7 +5,7 @@ use Rattle.std.proofs.lemmas.Bool.Decides.{nat_tests, eqb_tells}
 use Rattle.std.proofs.lemmas.Bool.{eqb-true, eq-eqb, cases_lt}
 use Rattle.std.specs.Prelude.{nat_lt}
 use Rattle.cf_graph.specs.Edges.{Reference, same, leading_to, counted}
-use Rattle.cf_graph.specs.Operations.{Operation, add, move, cut, without, moved, run, CanRun}
+use Rattle.cf_graph.specs.Operations.{Operation, add, move, remove, without, moved, run, CanRun}
 use Rattle.cf_graph.proofs.Same.{same-equal}
 use Rattle.cf_graph.proofs.Counts.{weigh-without}
 use Rattle.cf_model.specs.State.{State, times, degree}
@@ -55,19 +55,19 @@ abbrev pub CutsNothing : List Operation → Type 0
 CutsNothing [] = Unit {0}
 CutsNothing (add r ∷ ops) = CutsNothing ops
 CutsNothing (move r h ∷ ops) = CutsNothing ops
-CutsNothing (cut r ∷ ops) = ⊥
+CutsNothing (remove r ∷ ops) = ⊥
 
 abbrev pub added : ℕ → List Operation → ℕ
 added o [] = 0
 added o (add r ∷ ops) = leading_to o r + added o ops
 added o (move r h ∷ ops) = added o ops
-added o (cut r ∷ ops) = added o ops
+added o (remove r ∷ ops) = added o ops
 
 pub degree-grown : (o : ℕ) (ops : List Operation) (es : List Reference) → CutsNothing ops → CanRun ops es → degree o (run ops es) ≡ degree o es + added o ops
 degree-grown o [] es n c = omega arith
 degree-grown o (add r ∷ ops) es n c = omega (arith, degree-grown o ops (r ∷ es) n c.1)
 degree-grown o (move r h ∷ ops) es n c = omega (arith, degree-grown o ops (moved r h ∷ without r es) n c.1, weigh-without (leading_to o) r es c.0)
-degree-grown o (cut r ∷ ops) es n c = absurd n
+degree-grown o (remove r ∷ ops) es n c = absurd n
 
 -- what operations add references to: objects that are live, and the new object, if there is one
 pub record Adds (finalised : List ℕ) (made size : ℕ) (ops : List Operation) : Type 0 where
@@ -135,7 +135,7 @@ pub record Grows (st : State) (step : Step) : Type 0 where
 -- a step that cuts one reference, to a live object
 pub record Shrinks (st : State) (step : Step) : Type 0 where
   pub reference : Reference
-  pub operations : step.operations ≡ cut reference ∷ []
+  pub operations : step.operations ≡ remove reference ∷ []
   pub cuts : step.cuts ≡ Some reference.object
   pub size : length step.objects ≡ length st.objects
   pub live : times reference.object st.finalised ≡ 0

@@ -4,13 +4,13 @@ use Rattle.std.proofs.Common.{◌≡◌, ℕ, ◌+◌, List, [], ◌∷◌, ◌+
 use Rattle.std.specs.Prelude.{slice_get}
 use Rattle.cf_ids.specs.declared.answer.Answer.{Answer}
 use Rattle.cf_graph.specs.Edges.{Reference, leading_to, weigh, one}
-use Rattle.cf_graph.specs.Operations.{Operation, add, move, cut, run, without, moved, CanRun}
+use Rattle.cf_graph.specs.Operations.{Operation, add, move, remove, run, without, moved, CanRun}
 use Rattle.cf_graph.proofs.Counts.{weigh-without}
 use Rattle.cf_syntax.specs.declared.script.Script.{Script}
 use Rattle.cf_syntax.specs.declared.statement.Statement.{Statement}
-use Rattle.cf_syntax.specs.declared.statement.Touch.{Touch}
-use Rattle.cf_syntax.specs.declared.statement.Touch.TheVariants.{Nothing, Binds, Plus, Minus}
-use Rattle.cf_syntax.specs.Forms.{touch_of, read_by}
+use Rattle.cf_syntax.specs.declared.statement.Ownership.{Ownership}
+use Rattle.cf_syntax.specs.declared.statement.Ownership.TheVariants.{Keeps, Binds, Retains, Releases}
+use Rattle.cf_syntax.specs.Forms.{ownership_of, read_by}
 use Rattle.cf_syntax.specs.Owned.{Owned}
 use Rattle.cf_contents.specs.Contents.{times}
 use Rattle.cf_contents.specs.Deeds.{Origin, Change, first_of, object_of, deed_at, taken_in, given_out}
@@ -35,28 +35,28 @@ abbrev cut_in : ℕ → List Operation → ℕ
 cut_in o [] = 0
 cut_in o (add r ∷ ops) = cut_in o ops
 cut_in o (move r h ∷ ops) = cut_in o ops
-cut_in o (cut r ∷ ops) = leading_to o r + cut_in o ops
+cut_in o (remove r ∷ ops) = leading_to o r + cut_in o ops
 
 degree-run : (o : ℕ) (ops : List Operation) (es : List Reference) → CanRun ops es → degree o (run ops es) + cut_in o ops ≡ degree o es + times o (gained_by ops)
 degree-run o [] es c = refl
 degree-run o (add r ∷ ops) es c = omega (arith, degree-run o ops (r ∷ es) c.1)
 degree-run o (move r h ∷ ops) es c = omega (arith, degree-run o ops (moved r h ∷ without r es) c.1, weigh-without (leading_to o) r es c.0)
-degree-run o (cut r ∷ ops) es c = omega (arith, degree-run o ops (without r es) c.1, weigh-without (leading_to o) r es c.0)
+degree-run o (remove r ∷ ops) es c = omega (arith, degree-run o ops (without r es) c.1, weigh-without (leading_to o) r es c.0)
 
 -- a step whose operations can be done, and cut what it says
 pub record IsCounted (st : State) (step : Step) : Type 0 where
   pub can : CanRun step.operations st.edges
   pub cuts : (o : ℕ) → cut_in o step.operations ≡ one_at o step.cuts
 
-touch_cuts : (t : ℕ) (touch : Touch) (object : Option ℕ) (o : ℕ) → cut_in o (operations_of t touch object) ≡ one_at o (cut_by touch object)
-touch_cuts t Nothing None o = refl
-touch_cuts t Nothing (Some p) o = refl
+touch_cuts : (t : ℕ) (ownership : Ownership) (object : Option ℕ) (o : ℕ) → cut_in o (operations_of t ownership object) ≡ one_at o (cut_by ownership object)
+touch_cuts t Keeps None o = refl
+touch_cuts t Keeps (Some p) o = refl
 touch_cuts t (Binds v) None o = refl
 touch_cuts t (Binds v) (Some p) o = refl
-touch_cuts t (Plus v) None o = refl
-touch_cuts t (Plus v) (Some p) o = refl
-touch_cuts t (Minus v) None o = refl
-touch_cuts t (Minus v) (Some p) o = omega arith
+touch_cuts t (Retains v) None o = refl
+touch_cuts t (Retains v) (Some p) o = refl
+touch_cuts t (Releases v) None o = refl
+touch_cuts t (Releases v) (Some p) o = omega arith
 
 no_cuts : (o t b : ℕ) (ts gs : List ℕ) → cut_in o (adds_to b ts ++ moves_from t b gs) ≡ 0
 no_cuts o t b [] [] = refl
@@ -71,19 +71,19 @@ binds_can : (v : ℕ) (object : Option ℕ) (es : List Reference) → CanRun (op
 binds_can v None es = tt
 binds_can v (Some p) es = (tt, tt)
 
-plus_can : (v : ℕ) (object : Option ℕ) (es : List Reference) → CanRun (operations_of 0 (Plus v) object) es
+plus_can : (v : ℕ) (object : Option ℕ) (es : List Reference) → CanRun (operations_of 0 (Retains v) object) es
 plus_can v None es = tt
 plus_can v (Some p) es = (tt, tt)
 
-minus_can : (st : State) (v : ℕ) (object : Option ℕ) → TouchesThere st (Minus v) object → CanRun (operations_of 0 (Minus v) object) st.edges
+minus_can : (st : State) (v : ℕ) (object : Option ℕ) → TouchesThere st (Releases v) object → CanRun (operations_of 0 (Releases v) object) st.edges
 minus_can st v None there = tt
 minus_can st v (Some o) there = (there.reference, tt)
 
-touch_counted : (touch : Touch) (answer : Answer) (origin : Origin) (used : Option ℕ) (change : Change) (st : State) → TakesFirst touch st.frame.bindings used → TouchesThere st touch (looked touch st.frame.bindings) → ((b : ℕ) → used ≡ Some b → CanRun (operations_in 0 b (slice_get st.objects b) change) st.edges) → IsCounted st (touch_step 0 touch answer origin used change st)
-touch_counted Nothing answer origin used change st first there can = change_counted answer used change st can
+touch_counted : (ownership : Ownership) (answer : Answer) (origin : Origin) (used : Option ℕ) (change : Change) (st : State) → TakesFirst ownership st.frame.bindings used → TouchesThere st ownership (looked ownership st.frame.bindings) → ((b : ℕ) → used ≡ Some b → CanRun (operations_in 0 b (slice_get st.objects b) change) st.edges) → IsCounted st (touch_step 0 ownership answer origin used change st)
+touch_counted Keeps answer origin used change st first there can = change_counted answer used change st can
 touch_counted (Binds v) answer origin used change st first there can = record { can = binds_can v (found st origin) st.edges; cuts = touch_cuts 0 (Binds v) (found st origin) }
-touch_counted (Plus v) answer origin used change st first there can = record { can = plus_can v used st.edges; cuts = touch_cuts 0 (Plus v) used }
-touch_counted (Minus v) answer origin used change st first there can = record { can = minus_can st v used (subst (TouchesThere st (Minus v)) (sym first) there); cuts = touch_cuts 0 (Minus v) used }
+touch_counted (Retains v) answer origin used change st first there can = record { can = plus_can v used st.edges; cuts = touch_cuts 0 (Retains v) used }
+touch_counted (Releases v) answer origin used change st first there can = record { can = minus_can st v used (subst (TouchesThere st (Releases v)) (sym first) there); cuts = touch_cuts 0 (Releases v) used }
 
 frame_counted : (s : Script) (st : State) (o : Option Statement) → Owned s → IsSound s st → slice_get (setup s) st.frame.number ≡ o → MayUseAll st 0 (named_of (next_of st.frame o)) (used_of (next_of st.frame o)) → IsCounted st (frame_step s.classes 0 st o)
 frame_counted s st None own h e uses = record { can = tt; cuts = λ o. refl }
@@ -93,8 +93,8 @@ frame_counted s st (Some x) own h e uses =
     let deed = deed_at s.classes st.objects x used in
     let may = subst (MayUseAll st 0 (named_of (next_of st.frame (Some x)))) (used_of-action_of x site) uses in
     let body = named_of (next_of st.frame (Some x)) in
-    touch_counted (touch_of x) deed.answer deed.origin (first_of used) deed.change st
-    (first_used (touch_of x) (read_by x) st.frame.bindings) (touches_there s st x own h e)
+    touch_counted (ownership_of x) deed.answer deed.origin (first_of used) deed.change st
+    (first_used (ownership_of x) (read_by x) st.frame.bindings) (touches_there s st x own h e)
     (can_used (first_of used) deed.change st h.kept (live_if st 0 body used may) (λ o some. taken_live s.classes x st 0 body used may o (object_of st.objects (first_of used)) some))
 
 owed_counted : (o : ℕ) (rest : List Work) (s : Script) (st : State) → IsSound s st → st.frame.work ≡ release_of o ∷ rest → IsCounted st (owed_step 0 o st)

@@ -11,9 +11,9 @@ use Rattle.cf_ids.specs.declared.answer.Answer.TheVariants as answers
 use Rattle.cf_syntax.specs.declared.script.Script.{Script}
 use Rattle.cf_syntax.specs.declared.script.ClassLine.{ClassLine}
 use Rattle.cf_syntax.specs.declared.statement.Statement.{Statement}
-use Rattle.cf_syntax.specs.declared.statement.Touch.{Touch}
-use Rattle.cf_syntax.specs.declared.statement.Touch.TheVariants.{Nothing, Binds, Plus, Minus}
-use Rattle.cf_syntax.specs.Forms.{touch_of}
+use Rattle.cf_syntax.specs.declared.statement.Ownership.{Ownership}
+use Rattle.cf_syntax.specs.declared.statement.Ownership.TheVariants.{Keeps, Binds, Retains, Releases}
+use Rattle.cf_syntax.specs.Forms.{ownership_of}
 use Rattle.cf_contents.specs.Contents.{Object}
 use Rattle.cf_contents.specs.Deeds.{Origin, nowhere, fresh, there, Change, first_of, deed_at}
 use Rattle.cf_contents.proofs.FormLaws.{NamesNone, form_fits}
@@ -38,13 +38,13 @@ cut_if o q objects left other fin false e = rw e (omega arith)
 cut_finals : (o q : ℕ) (objects : List Object) (left : List Reference) (other : Answer) (fin : List ℕ) → one_at q (final_if (cut_answer (Some o) objects left other) (Some o)) + times q fin ≡ times q (finals_of (Some o) left ++ fin)
 cut_finals o q objects left other fin = cut_if o q objects left other fin (degree o left == 0) refl
 
--- the object that a touch finalises by its answer, and those that its step does
-touch_finals : (t : ℕ) (touch : Touch) (answer : Answer) (origin : Origin) (used : Option ℕ) (change : Change) (q : ℕ) (st : State) → let step = touch_step t touch answer origin used change st in one_at q (final_at touch (step_answer step st) used) + times q st.finalised ≡ times q (state_after step st).finalised
-touch_finals t Nothing answer origin used change q st = omega arith
+-- the object that an ownership finalises by its answer, and those that its step does
+touch_finals : (t : ℕ) (ownership : Ownership) (answer : Answer) (origin : Origin) (used : Option ℕ) (change : Change) (q : ℕ) (st : State) → let step = touch_step t ownership answer origin used change st in one_at q (final_at ownership (step_answer step st) used) + times q st.finalised ≡ times q (state_after step st).finalised
+touch_finals t Keeps answer origin used change q st = omega arith
 touch_finals t (Binds v) answer origin used change q st = omega arith
-touch_finals t (Plus v) answer origin used change q st = omega arith
-touch_finals t (Minus v) answer origin None change q st = omega arith
-touch_finals t (Minus v) answer origin (Some o) change q st = cut_finals o q st.objects (without (reference t v o) st.edges) answer st.finalised
+touch_finals t (Retains v) answer origin used change q st = omega arith
+touch_finals t (Releases v) answer origin None change q st = omega arith
+touch_finals t (Releases v) answer origin (Some o) change q st = cut_finals o q st.objects (without (reference t v o) st.edges) answer st.finalised
 
 frame_finals : (classes : List ClassLine) (t q : ℕ) (st : State) (o : Option Statement) → one_at q (final_of (next_of st.frame o) (step_answer (frame_step classes t st o) st)) + times q st.finalised ≡ times q (state_after (frame_step classes t st o) st).finalised
 frame_finals classes t q st None = omega arith
@@ -52,7 +52,7 @@ frame_finals classes t q st (Some x) =
     let site = site_in st.frame x in
     let deed = deed_at classes st.objects x site.used in
     rw (final_of-action_of x site (step_answer (frame_step classes t st (Some x)) st))
-    (touch_finals t (touch_of x) deed.answer deed.origin (first_of site.used) deed.change q st)
+    (touch_finals t (ownership_of x) deed.answer deed.origin (first_of site.used) deed.change q st)
 
 abbrev FinalFits : Script → ℕ → ℕ → State → Action → Type 0
 FinalFits s t q st a = one_at q (final_of a (answer_to s t st a)) + times q st.finalised ≡ times q (effect s t st a).finalised
@@ -116,24 +116,24 @@ cut_live st (Some o) objects left other h = if_live (degree o left == 0)
     if_live true = tt
     if_live false = tt
 
-touch_live : (t : ℕ) (touch : Touch) (answer : Answer) (origin : Origin) (used : Option ℕ) (change : Change) (st : State) → IsBalanced st → NamesNone answer → BindsLive st (step_answer (touch_step t touch answer origin used change st) st)
-touch_live t Nothing answer origin used change st b names = names_live st answer names
+touch_live : (t : ℕ) (ownership : Ownership) (answer : Answer) (origin : Origin) (used : Option ℕ) (change : Change) (st : State) → IsBalanced st → NamesNone answer → BindsLive st (step_answer (touch_step t ownership answer origin used change st) st)
+touch_live t Keeps answer origin used change st b names = names_live st answer names
 touch_live t (Binds v) answer origin used change st b names = bound_live (found st origin) (found_is st origin)
   where
     bound_live : (object : Option ℕ) → IsFound st origin object → BindsLive st (step_answer (reference_step t (Binds v) answer origin object st) st)
     bound_live None h = found_live st origin None answer b h names
     bound_live (Some o) h = found_live st origin (Some o) answer b h names
-touch_live t (Plus v) answer origin None change st b names = tt
-touch_live t (Plus v) answer origin (Some o) change st b names = names_live st answer names
-touch_live t (Minus v) answer origin None change st b names = tt
-touch_live t (Minus v) answer origin (Some o) change st b names = cut_live st (Some o) st.objects (without (reference t v o) st.edges) answer (names_live st answer names)
+touch_live t (Retains v) answer origin None change st b names = tt
+touch_live t (Retains v) answer origin (Some o) change st b names = names_live st answer names
+touch_live t (Releases v) answer origin None change st b names = tt
+touch_live t (Releases v) answer origin (Some o) change st b names = cut_live st (Some o) st.objects (without (reference t v o) st.edges) answer (names_live st answer names)
 
 frame_live : (classes : List ClassLine) (t : ℕ) (st : State) (o : Option Statement) → IsBalanced st → BindsLive st (step_answer (frame_step classes t st o) st)
 frame_live classes t st None b = tt
 frame_live classes t st (Some x) b =
     let site = site_in st.frame x in
     let deed = deed_at classes st.objects x site.used in
-    touch_live t (touch_of x) deed.answer deed.origin (first_of site.used) deed.change st b (form_fits classes x _ _ _).names
+    touch_live t (ownership_of x) deed.answer deed.origin (first_of site.used) deed.change st b (form_fits classes x _ _ _).names
 
 action_live : (s : Script) (t : ℕ) (st : State) (a : Action) → IsBalanced st → Demand s st st.frame.work a → BindsLive st (answer_to s t st a)
 action_live s t st a b (of_frame w e) =

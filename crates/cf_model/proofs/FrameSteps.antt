@@ -4,9 +4,9 @@ use Rattle.cf_syntax.specs.declared.script.Script.{Script}
 use Rattle.cf_syntax.specs.declared.script.ClassLine.{ClassLine}
 use Rattle.cf_syntax.specs.declared.statement.Statement.{Statement}
 use Rattle.cf_syntax.specs.declared.statement.Statement.TheVariants as forms
-use Rattle.cf_syntax.specs.declared.statement.Touch.{Touch}
-use Rattle.cf_syntax.specs.declared.statement.Touch.TheVariants.{Nothing, Binds, Plus, Minus}
-use Rattle.cf_syntax.specs.Forms.{touch_of}
+use Rattle.cf_syntax.specs.declared.statement.Ownership.{Ownership}
+use Rattle.cf_syntax.specs.declared.statement.Ownership.TheVariants.{Keeps, Binds, Retains, Releases}
+use Rattle.cf_syntax.specs.Forms.{ownership_of}
 use Rattle.cf_ids.specs.declared.answer.Answer.{Answer}
 use Rattle.cf_ids.specs.declared.answer.Answer.TheVariants as answers
 use Rattle.cf_contents.specs.Deeds.{first_of}
@@ -46,22 +46,22 @@ pub used_of-action_of : (x : Statement) (site : Site) → used_of (action_of x s
 used_of-action_of (forms.Release v) site = refl
 used_of-action_of _ site = refl
 
--- only a touch that takes a reference finalises
-abbrev pub final_at : Touch → Answer → Option ℕ → Option ℕ
-final_at Nothing answer o = None
+-- only an ownership that takes a reference finalises
+abbrev pub final_at : Ownership → Answer → Option ℕ → Option ℕ
+final_at Keeps answer o = None
 final_at (Binds v) answer o = None
-final_at (Plus v) answer o = None
-final_at (Minus v) answer o = final_if answer o
+final_at (Retains v) answer o = None
+final_at (Releases v) answer o = final_if answer o
 
 final_none : (answer : Answer) → final_if answer None ≡ None
 final_none (answers.Final c) = refl
 final_none _ = refl
 
-pub final_of-action_of : (s : Statement) (site : Site) (answer : Answer) → final_of (action_of s site) answer ≡ final_at (touch_of s) answer (first_of site.used)
+pub final_of-action_of : (s : Statement) (site : Site) (answer : Answer) → final_of (action_of s site) answer ≡ final_at (ownership_of s) answer (first_of site.used)
 final_of-action_of (forms.Release v) site answer = refl
 final_of-action_of _ site answer = final_none answer
 
 -- the object to which a statement takes a reference away
-pub cut_of-action_of : (s : Statement) (site : Site) → cut_of (action_of s site) ≡ cut_by (touch_of s) (first_of site.used)
+pub cut_of-action_of : (s : Statement) (site : Site) → cut_of (action_of s site) ≡ cut_by (ownership_of s) (first_of site.used)
 cut_of-action_of (forms.Release v) site = refl
 cut_of-action_of _ site = refl

@@ -9,10 +9,10 @@ use Rattle.cf_graph.specs.Operations.{run}
 use Rattle.cf_graph.proofs.Same.{same-equal, same-refl}
 use Rattle.cf_graph.proofs.Counts.{weigh-without}
 use Rattle.cf_syntax.specs.declared.statement.Statement.{Statement}
-use Rattle.cf_syntax.specs.declared.statement.Touch.{Touch}
-use Rattle.cf_syntax.specs.declared.statement.Touch.TheVariants.{Nothing, Binds, Plus, Minus}
-use Rattle.cf_syntax.specs.Forms.{touch_of, touched}
-use Rattle.cf_syntax.specs.Owned.{one_of, bound_by, given_by, taken_by, total, bound, given, taken, may_use, may_use_all, may_touch}
+use Rattle.cf_syntax.specs.declared.statement.Ownership.{Ownership}
+use Rattle.cf_syntax.specs.declared.statement.Ownership.TheVariants.{Keeps, Binds, Retains, Releases}
+use Rattle.cf_syntax.specs.Forms.{ownership_of, subject_of}
+use Rattle.cf_syntax.specs.Owned.{one_of, bound_by, given_by, released_by, total, bound, given, released, may_use, may_use_all, may_bind}
 use Rattle.cf_syntax.proofs.OwnedLaws.{total_push}
 use Rattle.cf_model.specs.State.{Binding, look}
 use Rattle.cf_model.specs.Steps.{reference, operations_of, bindings_by}
@@ -23,8 +23,8 @@ variable_of r = (code_of r.holder).second
 
 -- what is held by a thread's variables, after statements: each holds references to its own object alone
 pub record Holds (earlier : List Statement) (bindings : List Binding) (es : List Reference) : Type 0 where
-  pub held : (v o : ℕ) → look v bindings ≡ Some o → weigh (one (reference 0 v o)) es + taken v earlier ≡ given v earlier
-  pub unbound : (v : ℕ) → bound v earlier ≡ 0 → (given v earlier ≡ 0) × (taken v earlier ≡ 0) × (look v bindings ≡ None)
+  pub held : (v o : ℕ) → look v bindings ≡ Some o → weigh (one (reference 0 v o)) es + released v earlier ≡ given v earlier
+  pub unbound : (v : ℕ) → bound v earlier ≡ 0 → (given v earlier ≡ 0) × (released v earlier ≡ 0) × (look v bindings ≡ None)
   pub loose : (v o : ℕ) → (look v bindings ≡ Some o → ⊥) → weigh (one (reference 0 v o)) es ≡ 0
 
 -- a reference that another variable holds is another
@@ -48,30 +48,30 @@ one_of_zero : (v w : ℕ) → one_of v w ≡ 0 → v ≡ w → ⊥
 one_of_zero v w e h = grind (arith, nat_tests)
 
 -- the sums after one statement more
-sum_more : (f : Touch → ℕ) (earlier : List Statement) (x : Statement) (touch : Touch) → touch_of x ≡ touch → total f (earlier ++ x ∷ []) ≡ total f earlier + f touch
-sum_more f earlier x touch t = total_push f earlier x ∙ ap (λ (u : Touch). total f earlier + f u) t
+sum_more : (f : Ownership → ℕ) (earlier : List Statement) (x : Statement) (ownership : Ownership) → ownership_of x ≡ ownership → total f (earlier ++ x ∷ []) ≡ total f earlier + f ownership
+sum_more f earlier x ownership t = total_push f earlier x ∙ ap (λ (u : Ownership). total f earlier + f u) t
 
--- the object of the variable that a touch uses
-abbrev pub looked : Touch → List Binding → Option ℕ
-looked Nothing bindings = None
+-- the object of the variable that an ownership uses
+abbrev pub looked : Ownership → List Binding → Option ℕ
+looked Keeps bindings = None
 looked (Binds v) bindings = None
-looked (Plus v) bindings = look v bindings
-looked (Minus v) bindings = look v bindings
+looked (Retains v) bindings = look v bindings
+looked (Releases v) bindings = look v bindings
 
--- the object whose references a touch changes: what it binds, or what its variable has
-abbrev pub aimed : Touch → Option ℕ → List Binding → Option ℕ
-aimed Nothing bound bindings = None
+-- the object whose references an ownership changes: what it binds, or what its variable has
+abbrev pub aimed : Ownership → Option ℕ → List Binding → Option ℕ
+aimed Keeps bound bindings = None
 aimed (Binds v) bound bindings = bound
-aimed (Plus v) bound bindings = look v bindings
-aimed (Minus v) bound bindings = look v bindings
+aimed (Retains v) bound bindings = look v bindings
+aimed (Releases v) bound bindings = look v bindings
 
-abbrev pub HoldsAfter : Touch → Option ℕ → List Statement → Statement → List Binding → List Reference → Type 0
-HoldsAfter touch object earlier x bindings es = Holds (earlier ++ x ∷ []) (bindings_by touch object ++ bindings) (run (operations_of 0 touch object) es)
+abbrev pub HoldsAfter : Ownership → Option ℕ → List Statement → Statement → List Binding → List Reference → Type 0
+HoldsAfter ownership object earlier x bindings es = Holds (earlier ++ x ∷ []) (bindings_by ownership object ++ bindings) (run (operations_of 0 ownership object) es)
 
-pub may_use_parts : (earlier : List Statement) (v : ℕ) → may_use earlier v ≡ true → (0 < bound v earlier) × (taken v earlier < given v earlier)
+pub may_use_parts : (earlier : List Statement) (v : ℕ) → may_use earlier v ≡ true → (0 < bound v earlier) × (released v earlier < given v earlier)
 may_use_parts earlier v h =
-    let p = and_parts (ltb 0 (bound v earlier)) (ltb (taken v earlier) (given v earlier)) h in
-    (ltb-true 0 (bound v earlier) p.0, ltb-true (taken v earlier) (given v earlier) p.1)
+    let p = and_parts (ltb 0 (bound v earlier)) (ltb (released v earlier) (given v earlier)) h in
+    (ltb-true 0 (bound v earlier) p.0, ltb-true (released v earlier) (given v earlier) p.1)
 
 -- an object that is named is one
 pub some_is : (o p : ℕ) → ◌≡◌ {A = Option ℕ} (Some o) (Some p) → o ≡ p
@@ -116,7 +116,7 @@ module _ (x : Statement) (earlier : List Statement) (bindings : List Binding) (e
   binds_loose v o None free = refl
   binds_loose v o (Some p) free = omega (arith, one_held v v o p (record { variable = v; object = Some p } ∷ []) (look_same v (Some p) []) (λ q. free (sym (look_same v (Some p) []) ∙ q)))
 
-  binds_holds : (v : ℕ) (object : Option ℕ) → touch_of x ≡ Binds v → bound v earlier ≡ 0 → HoldsAfter (Binds v) object earlier x bindings es
+  binds_holds : (v : ℕ) (object : Option ℕ) → ownership_of x ≡ Binds v → bound v earlier ≡ 0 → HoldsAfter (Binds v) object earlier x bindings es
   binds_holds v object t new = record {
     held = λ w o e. elim (eqb_tells v w) [
       | inl p ↦
@@ -125,16 +125,16 @@ module _ (x : Statement) (earlier : List Statement) (bindings : List Binding) (e
           let unbound : bound w earlier ≡ 0 = subst (λ (k : ℕ). bound k earlier ≡ 0) p.1 new in
           let u = h.unbound w unbound in
           let gives : one_of w v ≡ 1 = subst (λ (k : ℕ). one_of k v ≡ 1) p.1 (one_of_same v) in
-          omega (arith, here, h.loose w o (none_is_not (look w bindings) o u.2), u.0, u.1, gives, sum_more (given_by w) earlier x (Binds v) t, sum_more (taken_by w) earlier x (Binds v) t)
+          omega (arith, here, h.loose w o (none_is_not (look w bindings) o u.2), u.0, u.1, gives, sum_more (given_by w) earlier x (Binds v) t, sum_more (released_by w) earlier x (Binds v) t)
       | inr p ↦
           let apart : w ≡ v → ⊥ = λ q. p.1 (sym q) in
-          omega (arith, binds_other v w o object apart, h.held w o (sym (look_other v w object bindings p.0) ∙ e), sum_more (given_by w) earlier x (Binds v) t, sum_more (taken_by w) earlier x (Binds v) t, one_of_other w v apart)
+          omega (arith, binds_other v w o object apart, h.held w o (sym (look_other v w object bindings p.0) ∙ e), sum_more (given_by w) earlier x (Binds v) t, sum_more (released_by w) earlier x (Binds v) t, one_of_other w v apart)
     ];
     unbound = λ w none_bound.
         let apart = one_of_zero w v (omega (arith, none_bound, sum_more (bound_by w) earlier x (Binds v) t)) in
         let u = h.unbound w (omega (arith, none_bound, sum_more (bound_by w) earlier x (Binds v) t)) in (
           omega (arith, u.0, one_of_other w v apart, sum_more (given_by w) earlier x (Binds v) t),
-          omega (arith, u.1, sum_more (taken_by w) earlier x (Binds v) t),
+          omega (arith, u.1, sum_more (released_by w) earlier x (Binds v) t),
           look_other v w object bindings (grind (arith, nat_tests)) ∙ u.2,
         );
     loose = λ w o free. elim (eqb_tells v w) [
@@ -148,26 +148,26 @@ module _ (x : Statement) (earlier : List Statement) (bindings : List Binding) (e
   }
 
   -- what is not bound was not bound before, and is no variable that is used
-  before : (touch : Touch) (w : ℕ) → touch_of x ≡ touch → ((u : ℕ) → bound_by u touch ≡ 0) → bound w (earlier ++ x ∷ []) ≡ 0 → bound w earlier ≡ 0
-  before touch w t binds none = omega (arith, none, sum_more (bound_by w) earlier x touch t, binds w)
+  before : (ownership : Ownership) (w : ℕ) → ownership_of x ≡ ownership → ((u : ℕ) → bound_by u ownership ≡ 0) → bound w (earlier ++ x ∷ []) ≡ 0 → bound w earlier ≡ 0
+  before ownership w t binds none = omega (arith, none, sum_more (bound_by w) earlier x ownership t, binds w)
 
   used_apart : (v w : ℕ) → 0 < bound v earlier → bound w earlier ≡ 0 → w ≡ v → ⊥
   used_apart v w some none q = omega (arith, none, some, ap (λ (k : ℕ). bound k earlier) q)
 
   -- what a used variable leaves of the others
-  used_unbound : (touch : Touch) (v w : ℕ) → touch_of x ≡ touch → 0 < bound v earlier → ((u : ℕ) → bound_by u touch ≡ 0) → ((u : ℕ) → (u ≡ v → ⊥) → (given_by u touch ≡ 0) × (taken_by u touch ≡ 0)) → bound w (earlier ++ x ∷ []) ≡ 0 → (given w (earlier ++ x ∷ []) ≡ 0) × (taken w (earlier ++ x ∷ []) ≡ 0) × (look w bindings ≡ None)
-  used_unbound touch v w t some binds others none_bound =
-      let none = before touch w t binds none_bound in
+  used_unbound : (ownership : Ownership) (v w : ℕ) → ownership_of x ≡ ownership → 0 < bound v earlier → ((u : ℕ) → bound_by u ownership ≡ 0) → ((u : ℕ) → (u ≡ v → ⊥) → (given_by u ownership ≡ 0) × (released_by u ownership ≡ 0)) → bound w (earlier ++ x ∷ []) ≡ 0 → (given w (earlier ++ x ∷ []) ≡ 0) × (released w (earlier ++ x ∷ []) ≡ 0) × (look w bindings ≡ None)
+  used_unbound ownership v w t some binds others none_bound =
+      let none = before ownership w t binds none_bound in
       let u = h.unbound w none in
       let o = others w (used_apart v w some none) in
-      (omega (arith, u.0, o.0, sum_more (given_by w) earlier x touch t), omega (arith, u.1, o.1, sum_more (taken_by w) earlier x touch t), u.2)
+      (omega (arith, u.0, o.0, sum_more (given_by w) earlier x ownership t), omega (arith, u.1, o.1, sum_more (released_by w) earlier x ownership t), u.2)
 
-  plus_holds : (v : ℕ) (object : Option ℕ) → touch_of x ≡ Plus v → look v bindings ≡ object → 0 < bound v earlier → HoldsAfter (Plus v) object earlier x bindings es
+  plus_holds : (v : ℕ) (object : Option ℕ) → ownership_of x ≡ Retains v → look v bindings ≡ object → 0 < bound v earlier → HoldsAfter (Retains v) object earlier x bindings es
   plus_holds v None t is some = record {
     held = λ w o e.
         let apart : w ≡ v → ⊥ = λ q. let n : ◌≡◌ {A = Option ℕ} None (Some o) = sym is ∙ sym (ap (λ (k : ℕ). look k bindings) q) ∙ e in absurd cc in
-        omega (arith, h.held w o e, sum_more (given_by w) earlier x (Plus v) t, sum_more (taken_by w) earlier x (Plus v) t, one_of_other w v apart);
-    unbound = λ w none. used_unbound (Plus v) v w t some (λ u. refl) (λ u q. (one_of_other u v q, refl)) none;
+        omega (arith, h.held w o e, sum_more (given_by w) earlier x (Retains v) t, sum_more (released_by w) earlier x (Retains v) t, one_of_other w v apart);
+    unbound = λ w none. used_unbound (Retains v) v w t some (λ u. refl) (λ u q. (one_of_other u v q, refl)) none;
     loose = h.loose;
   }
   plus_holds v (Some p) t is some = record {
@@ -176,19 +176,19 @@ module _ (x : Statement) (earlier : List Statement) (bindings : List Binding) (e
           let same_object : p ≡ o = some_is p o (sym is ∙ sym (ap (λ (k : ℕ). look k bindings) q.1) ∙ e) in
           let here : one (reference 0 w o) (reference 0 v p) ≡ 1 = subst (λ (k : ℕ). one (reference 0 w k) (reference 0 v p) ≡ 1) same_object (subst (λ (k : ℕ). one (reference 0 k p) (reference 0 v p) ≡ 1) (sym q.1) (one_same v p)) in
           let gives : one_of w v ≡ 1 = ap counted q.0 in
-          omega (arith, here, gives, h.held w o e, sum_more (given_by w) earlier x (Plus v) t, sum_more (taken_by w) earlier x (Plus v) t)
-      | inr q ↦ omega (arith, h.held w o e, one_other w v o p q.1, sum_more (given_by w) earlier x (Plus v) t, sum_more (taken_by w) earlier x (Plus v) t, one_of_other w v q.1)
+          omega (arith, here, gives, h.held w o e, sum_more (given_by w) earlier x (Retains v) t, sum_more (released_by w) earlier x (Retains v) t)
+      | inr q ↦ omega (arith, h.held w o e, one_other w v o p q.1, sum_more (given_by w) earlier x (Retains v) t, sum_more (released_by w) earlier x (Retains v) t, one_of_other w v q.1)
     ];
-    unbound = λ w none. used_unbound (Plus v) v w t some (λ u. refl) (λ u q. (one_of_other u v q, refl)) none;
+    unbound = λ w none. used_unbound (Retains v) v w t some (λ u. refl) (λ u q. (one_of_other u v q, refl)) none;
     loose = λ w o free. omega (arith, one_held v w o p bindings is free, h.loose w o free);
   }
 
-  minus_holds : (v : ℕ) (object : Option ℕ) → touch_of x ≡ Minus v → look v bindings ≡ object → 0 < bound v earlier → taken v earlier < given v earlier → HoldsAfter (Minus v) object earlier x bindings es
+  minus_holds : (v : ℕ) (object : Option ℕ) → ownership_of x ≡ Releases v → look v bindings ≡ object → 0 < bound v earlier → released v earlier < given v earlier → HoldsAfter (Releases v) object earlier x bindings es
   minus_holds v None t is some owns = record {
     held = λ w o e.
         let apart : w ≡ v → ⊥ = λ q. let n : ◌≡◌ {A = Option ℕ} None (Some o) = sym is ∙ sym (ap (λ (k : ℕ). look k bindings) q) ∙ e in absurd cc in
-        omega (arith, h.held w o e, sum_more (given_by w) earlier x (Minus v) t, sum_more (taken_by w) earlier x (Minus v) t, one_of_other w v apart);
-    unbound = λ w none. used_unbound (Minus v) v w t some (λ u. refl) (λ u q. (refl, one_of_other u v q)) none;
+        omega (arith, h.held w o e, sum_more (given_by w) earlier x (Releases v) t, sum_more (released_by w) earlier x (Releases v) t, one_of_other w v apart);
+    unbound = λ w none. used_unbound (Releases v) v w t some (λ u. refl) (λ u q. (refl, one_of_other u v q)) none;
     loose = h.loose;
   }
   minus_holds v (Some p) t is some owns =
@@ -201,29 +201,29 @@ module _ (x : Statement) (earlier : List Statement) (bindings : List Binding) (e
                   let same_object : p ≡ o = some_is p o (sym is ∙ sym (ap (λ (k : ℕ). look k bindings) q.1) ∙ e) in
                   let here : one (reference 0 w o) (reference 0 v p) ≡ 1 = subst (λ (k : ℕ). one (reference 0 w k) (reference 0 v p) ≡ 1) same_object (subst (λ (k : ℕ). one (reference 0 k p) (reference 0 v p) ≡ 1) (sym q.1) (one_same v p)) in
                   let takes : one_of w v ≡ 1 = ap counted q.0 in
-                  omega (arith, here, takes, less, h.held w o e, sum_more (given_by w) earlier x (Minus v) t, sum_more (taken_by w) earlier x (Minus v) t)
-              | inr q ↦ omega (arith, less, h.held w o e, one_other w v o p q.1, sum_more (given_by w) earlier x (Minus v) t, sum_more (taken_by w) earlier x (Minus v) t, one_of_other w v q.1)
+                  omega (arith, here, takes, less, h.held w o e, sum_more (given_by w) earlier x (Releases v) t, sum_more (released_by w) earlier x (Releases v) t)
+              | inr q ↦ omega (arith, less, h.held w o e, one_other w v o p q.1, sum_more (given_by w) earlier x (Releases v) t, sum_more (released_by w) earlier x (Releases v) t, one_of_other w v q.1)
             ];
-        unbound = λ w none. used_unbound (Minus v) v w t some (λ u. refl) (λ u q. (refl, one_of_other u v q)) none;
+        unbound = λ w none. used_unbound (Releases v) v w t some (λ u. refl) (λ u q. (refl, one_of_other u v q)) none;
         loose = λ w o free. omega (arith, weigh-without (one (reference 0 w o)) (reference 0 v p) es there, h.loose w o free);
       }
 
-  nothing_holds : touch_of x ≡ Nothing → HoldsAfter Nothing None earlier x bindings es
+  nothing_holds : ownership_of x ≡ Keeps → HoldsAfter Keeps None earlier x bindings es
   nothing_holds t = record {
-    held = λ w o e. omega (arith, h.held w o e, sum_more (given_by w) earlier x Nothing t, sum_more (taken_by w) earlier x Nothing t);
+    held = λ w o e. omega (arith, h.held w o e, sum_more (given_by w) earlier x Keeps t, sum_more (released_by w) earlier x Keeps t);
     unbound = λ w none.
-        let u = h.unbound w (before Nothing w t (λ v. refl) none) in
-        (omega (arith, u.0, sum_more (given_by w) earlier x Nothing t), omega (arith, u.1, sum_more (taken_by w) earlier x Nothing t), u.2);
+        let u = h.unbound w (before Keeps w t (λ v. refl) none) in
+        (omega (arith, u.0, sum_more (given_by w) earlier x Keeps t), omega (arith, u.1, sum_more (released_by w) earlier x Keeps t), u.2);
     loose = h.loose;
   }
 
   -- a fit statement keeps what holds, whatever it touches and binds
-  pub touch_holds : (touch : Touch) (object : Option ℕ) → touch_of x ≡ touch → may_touch earlier touch ≡ true → may_use_all earlier (touched touch) ≡ true → HoldsAfter touch (aimed touch object bindings) earlier x bindings es
-  touch_holds Nothing object t fit used = nothing_holds t
+  pub touch_holds : (ownership : Ownership) (object : Option ℕ) → ownership_of x ≡ ownership → may_bind earlier ownership ≡ true → may_use_all earlier (subject_of ownership) ≡ true → HoldsAfter ownership (aimed ownership object bindings) earlier x bindings es
+  touch_holds Keeps object t fit used = nothing_holds t
   touch_holds (Binds v) object t fit used = binds_holds v object t (eqb-true (bound v earlier) 0 fit)
-  touch_holds (Plus v) object t fit used =
+  touch_holds (Retains v) object t fit used =
       let p = may_use_parts earlier v (and_parts (may_use earlier v) true used).0 in
       plus_holds v (look v bindings) t refl p.0
-  touch_holds (Minus v) object t fit used =
+  touch_holds (Releases v) object t fit used =
       let p = may_use_parts earlier v (and_parts (may_use earlier v) true used).0 in
       minus_holds v (look v bindings) t refl p.0 p.1

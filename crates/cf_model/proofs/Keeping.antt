@@ -9,8 +9,8 @@ use Rattle.cf_graph.specs.Holders.{Holder, owed, slot, code_of}
 use Rattle.cf_graph.specs.Edges.{Reference, weigh, one, counted}
 use Rattle.cf_graph.specs.Operations.{add, without, run, CanRun}
 use Rattle.cf_graph.proofs.Counts.{weigh-without}
-use Rattle.cf_syntax.specs.declared.statement.Touch.{Touch}
-use Rattle.cf_syntax.specs.declared.statement.Touch.TheVariants.{Nothing, Binds, Plus, Minus}
+use Rattle.cf_syntax.specs.declared.statement.Ownership.{Ownership}
+use Rattle.cf_syntax.specs.declared.statement.Ownership.TheVariants.{Keeps, Binds, Retains, Releases}
 use Rattle.cf_contents.specs.Contents.{Object, times, slots_at}
 use Rattle.cf_contents.specs.Deeds.{Origin, nowhere, fresh, there, Change, object_of, taken_in, given_out, with_change}
 use Rattle.cf_contents.proofs.ContentLaws.{length-with_change}
@@ -49,12 +49,12 @@ found_is st (there o) = there_is (is_live st o) refl
     there_is true h = live_numbers st o h
     there_is false h = tt
 
--- an object to which a touch may take or bind a reference
-abbrev pub Reaches : State → Touch → Origin → Option ℕ → Type 0
-Reaches st Nothing origin object = Unit {0}
+-- an object to which an ownership may take or bind a reference
+abbrev pub Reaches : State → Ownership → Origin → Option ℕ → Type 0
+Reaches st Keeps origin object = Unit {0}
 Reaches st (Binds v) origin object = IsFound st origin object
-Reaches st (Plus v) origin object = IsLiveIf st object
-Reaches st (Minus v) origin object = IsLiveIf st object
+Reaches st (Retains v) origin object = IsLiveIf st object
+Reaches st (Releases v) origin object = IsLiveIf st object
 
 -- ---- a step that changes no slot
 
@@ -103,9 +103,9 @@ plus_adds st t v p objects size live = record {
 }
 
 -- one more reference to a live object
-module _ (t v : ℕ) (touch : Touch) (answer : Answer) (origin : Origin) (p : ℕ) (st : State) (h : IsKept st) (live : IsLive st p) where
+module _ (t v : ℕ) (ownership : Ownership) (answer : Answer) (origin : Origin) (p : ℕ) (st : State) (h : IsKept st) (live : IsLive st p) where
   abbrev more_step : Step
-  more_step = reference_step t touch answer origin (Some p) st
+  more_step = reference_step t ownership answer origin (Some p) st
 
   more_kept : more_step.operations ≡ add (reference t v p) ∷ [] → more_step.cuts ≡ None → more_step.objects ≡ st.objects → KeepsStep st more_step
   more_kept ops cuts objects =
@@ -115,8 +115,8 @@ module _ (t v : ℕ) (touch : Touch) (answer : Answer) (origin : Origin) (p : �
       (λ b. rw objects refl) refl h.waiting
 
 -- none at all
-none_kept : (t : ℕ) (touch : Touch) (answer : Answer) (origin : Origin) (st : State) → IsKept st → let step = reference_step t touch answer origin None st in step.cuts ≡ None → step.objects ≡ st.objects → KeepsStep st step
-none_kept t touch answer origin st h cuts objects = nil_kept st (reference_step t touch answer origin None st) h refl cuts objects refl h.waiting
+none_kept : (t : ℕ) (ownership : Ownership) (answer : Answer) (origin : Origin) (st : State) → IsKept st → let step = reference_step t ownership answer origin None st in step.cuts ≡ None → step.objects ≡ st.objects → KeepsStep st step
+none_kept t ownership answer origin st h cuts objects = nil_kept st (reference_step t ownership answer origin None st) h refl cuts objects refl h.waiting
 
 new_kept : (t v : ℕ) (answer : Answer) (ob : Object) (st : State) → IsKept st → MakesEmpty (fresh ob) → KeepsStep st (reference_step t (Binds v) answer (fresh ob) (Some (length st.objects)) st)
 new_kept t v answer ob st h e =
@@ -126,15 +126,15 @@ new_kept t v answer ob st h e =
     (λ b o. omega (arith, one_of_kinds (slot_reference b o) (reference t v (length st.objects)) refl))
     (λ b. slots-more st.objects ob b e) refl h.waiting
 
-pub reference_kept : (t : ℕ) (touch : Touch) (answer : Answer) (origin : Origin) (object : Option ℕ) (st : State) → IsKept st → MakesEmpty origin → Reaches st touch origin object → KeepsStep st (reference_step t touch answer origin object st)
-reference_kept t Nothing answer origin object st h e live =
-    nil_kept st (reference_step t Nothing answer origin object st) h (nothing_done object) (nothing_cut object) (append-nil st.objects) refl h.waiting
+pub reference_kept : (t : ℕ) (ownership : Ownership) (answer : Answer) (origin : Origin) (object : Option ℕ) (st : State) → IsKept st → MakesEmpty origin → Reaches st ownership origin object → KeepsStep st (reference_step t ownership answer origin object st)
+reference_kept t Keeps answer origin object st h e live =
+    nil_kept st (reference_step t Keeps answer origin object st) h (nothing_done object) (nothing_cut object) (append-nil st.objects) refl h.waiting
   where
-    nothing_done : (o : Option ℕ) → operations_of t Nothing o ≡ []
+    nothing_done : (o : Option ℕ) → operations_of t Keeps o ≡ []
     nothing_done None = refl
     nothing_done (Some p) = refl
 
-    nothing_cut : (o : Option ℕ) → cut_by Nothing o ≡ None
+    nothing_cut : (o : Option ℕ) → cut_by Keeps o ≡ None
     nothing_cut None = refl
     nothing_cut (Some p) = refl
 reference_kept t (Binds v) answer nowhere object st h e live =
@@ -143,11 +143,11 @@ reference_kept t (Binds v) answer (fresh ob) object st h e live =
     subst (λ (o : Option ℕ). KeepsStep st (reference_step t (Binds v) answer (fresh ob) o st)) (sym live) (new_kept t v answer ob st h e)
 reference_kept t (Binds v) answer (there o) None st h e live = none_kept t (Binds v) answer (there o) st h refl (append-nil st.objects)
 reference_kept t (Binds v) answer (there o) (Some p) st h e live = more_kept t v (Binds v) answer (there o) p st h live refl refl (append-nil st.objects)
-reference_kept t (Plus v) answer origin None st h e live = none_kept t (Plus v) answer origin st h refl (append-nil st.objects)
-reference_kept t (Plus v) answer origin (Some p) st h e live = more_kept t v (Plus v) answer origin p st h live refl refl (append-nil st.objects)
-reference_kept t (Minus v) answer origin None st h e live = none_kept t (Minus v) answer origin st h refl (append-nil st.objects)
-reference_kept t (Minus v) answer origin (Some p) st h e live =
-    let step = reference_step t (Minus v) answer origin (Some p) st in
+reference_kept t (Retains v) answer origin None st h e live = none_kept t (Retains v) answer origin st h refl (append-nil st.objects)
+reference_kept t (Retains v) answer origin (Some p) st h e live = more_kept t v (Retains v) answer origin p st h live refl refl (append-nil st.objects)
+reference_kept t (Releases v) answer origin None st h e live = none_kept t (Releases v) answer origin st h refl (append-nil st.objects)
+reference_kept t (Releases v) answer origin (Some p) st h e live =
+    let step = reference_step t (Releases v) answer origin (Some p) st in
     quiet_kept st step h
     (shrinks_balance st step (record { reference = reference t v p; operations = refl; cuts = refl; size = ap length (append-nil st.objects); live = live.0; made = live.1 }) h.balance)
     (λ b o. weigh-without-other (one (slot_reference b o)) (reference t v p) st.edges (one_of_kinds (slot_reference b o) (reference t v p) refl))

@@ -11,10 +11,10 @@ use Rattle.cf_graph.proofs.Counts.{weigh-le}
 use Rattle.cf_syntax.specs.declared.script.Script.{Script}
 use Rattle.cf_syntax.specs.declared.statement.Statement.{Statement}
 use Rattle.cf_syntax.specs.declared.statement.Statement.TheVariants as forms
-use Rattle.cf_syntax.specs.declared.statement.Touch.{Touch}
-use Rattle.cf_syntax.specs.declared.statement.Touch.TheVariants.{Nothing, Binds, Plus, Minus}
-use Rattle.cf_syntax.specs.Forms.{touch_of, touched, read_by, used_by}
-use Rattle.cf_syntax.specs.Owned.{bound, may_use, may_use_all, may_touch, is_fit, Owned}
+use Rattle.cf_syntax.specs.declared.statement.Ownership.{Ownership}
+use Rattle.cf_syntax.specs.declared.statement.Ownership.TheVariants.{Keeps, Binds, Retains, Releases}
+use Rattle.cf_syntax.specs.Forms.{ownership_of, subject_of, read_by, used_by}
+use Rattle.cf_syntax.specs.Owned.{bound, may_use, may_use_all, may_bind, is_fit, Owned}
 use Rattle.cf_model.specs.State.{State, Binding, Work, release_of, slots_of, look, times, left_of, degree, is_live}
 use Rattle.cf_model.specs.Actions.{Site, action_of}
 use Rattle.cf_model.specs.Steps.{Step, reference, owed_reference, slot_reference, step_for, state_after, statement_step, done_step, step_answer, effect, answer_to, makes}
@@ -150,19 +150,19 @@ demanded-statement s st x h e =
 pub demanded-done : (s : Script) (st : State) → IsSound s st → slice_get (setup s) st.frame.number ≡ None → demanded s st.frame ≡ actions.Done
 demanded-done s st h e = ap (next_of st.frame) (frame_statement s st h ∙ e)
 
--- a reference that a touch changes is there, and its object is made and in use
+-- a reference that an ownership changes is there, and its object is made and in use
 pub record IsThere (st : State) (v o : ℕ) : Type 0 where
   pub reference : 0 < weigh (one (reference 0 v o)) st.edges
   pub made : o < length st.objects
   pub degree : 0 < degree o st.edges
 
-abbrev pub TouchesThere : State → Touch → Option ℕ → Type 0
-TouchesThere st Nothing o = Unit {0}
+abbrev pub TouchesThere : State → Ownership → Option ℕ → Type 0
+TouchesThere st Keeps o = Unit {0}
 TouchesThere st (Binds v) o = Unit {0}
-TouchesThere st (Plus v) None = Unit {0}
-TouchesThere st (Plus v) (Some o) = IsThere st v o
-TouchesThere st (Minus v) None = Unit {0}
-TouchesThere st (Minus v) (Some o) = IsThere st v o
+TouchesThere st (Retains v) None = Unit {0}
+TouchesThere st (Retains v) (Some o) = IsThere st v o
+TouchesThere st (Releases v) None = Unit {0}
+TouchesThere st (Releases v) (Some o) = IsThere st v o
 
 there_from : (s : Script) (st : State) (v o : ℕ) → IsSound s st → look v st.frame.bindings ≡ Some o → may_use (take st.frame.number (setup s)) v ≡ true → IsThere st v o
 there_from s st v o h is used =
@@ -172,41 +172,41 @@ there_from s st v o h is used =
     let leads = weigh-le (one (reference 0 v o)) (leading_to o) st.edges (λ e. one_leads (reference 0 v o) e (same (reference 0 v o) e) refl) in
     record { reference = here; made = (live_parts st 0 None o may).1; degree = omega (arith, here, leads) }
 
-touched_if : (s : Script) (st : State) (v : ℕ) (object : Option ℕ) → IsSound s st → look v st.frame.bindings ≡ object → may_use (take st.frame.number (setup s)) v ≡ true → TouchesThere st (Minus v) object × TouchesThere st (Plus v) object
+touched_if : (s : Script) (st : State) (v : ℕ) (object : Option ℕ) → IsSound s st → look v st.frame.bindings ≡ object → may_use (take st.frame.number (setup s)) v ≡ true → TouchesThere st (Releases v) object × TouchesThere st (Retains v) object
 touched_if s st v None h is used = (tt, tt)
 touched_if s st v (Some o) h is used = let t = there_from s st v o h is used in (t, t)
 
-touches_by : (s : Script) (st : State) (touch : Touch) → IsSound s st → may_use_all (take st.frame.number (setup s)) (touched touch) ≡ true → TouchesThere st touch (looked touch st.frame.bindings)
-touches_by s st Nothing h used = tt
+touches_by : (s : Script) (st : State) (ownership : Ownership) → IsSound s st → may_use_all (take st.frame.number (setup s)) (subject_of ownership) ≡ true → TouchesThere st ownership (looked ownership st.frame.bindings)
+touches_by s st Keeps h used = tt
 touches_by s st (Binds v) h used = tt
-touches_by s st (Plus v) h used = (touched_if s st v (look v st.frame.bindings) h refl (and_parts (may_use (take st.frame.number (setup s)) v) true used).0).1
-touches_by s st (Minus v) h used = (touched_if s st v (look v st.frame.bindings) h refl (and_parts (may_use (take st.frame.number (setup s)) v) true used).0).0
+touches_by s st (Retains v) h used = (touched_if s st v (look v st.frame.bindings) h refl (and_parts (may_use (take st.frame.number (setup s)) v) true used).0).1
+touches_by s st (Releases v) h used = (touched_if s st v (look v st.frame.bindings) h refl (and_parts (may_use (take st.frame.number (setup s)) v) true used).0).0
 
-pub touches_there : (s : Script) (st : State) (x : Statement) → Owned s → IsSound s st → slice_get (setup s) st.frame.number ≡ Some x → TouchesThere st (touch_of x) (looked (touch_of x) st.frame.bindings)
+pub touches_there : (s : Script) (st : State) (x : Statement) → Owned s → IsSound s st → slice_get (setup s) st.frame.number ≡ Some x → TouchesThere st (ownership_of x) (looked (ownership_of x) st.frame.bindings)
 touches_there s st x own h e =
     let earlier = take st.frame.number (setup s) in
     let fit : is_fit earlier x ≡ true = fit_at [] (setup s) st.frame.number x (owned_blocks s.blocks own) e in
     let parts = fit_parts earlier x fit in
-    touches_by s st (touch_of x) h (use_first earlier (touched (touch_of x)) (read_by x) parts.1)
+    touches_by s st (ownership_of x) h (use_first earlier (subject_of (ownership_of x)) (read_by x) parts.1)
 
 -- a variable that is to be bound is not bound
-abbrev pub BindsNew : Touch → List Binding → Type 0
-BindsNew Nothing bs = Unit {0}
+abbrev pub BindsNew : Ownership → List Binding → Type 0
+BindsNew Keeps bs = Unit {0}
 BindsNew (Binds v) bs = look v bs ≡ None
-BindsNew (Plus v) bs = Unit {0}
-BindsNew (Minus v) bs = Unit {0}
+BindsNew (Retains v) bs = Unit {0}
+BindsNew (Releases v) bs = Unit {0}
 
-binds_by : (earlier : List Statement) (touch : Touch) (bs : List Binding) (es : List Reference) → may_touch earlier touch ≡ true → Holds earlier bs es → BindsNew touch bs
-binds_by earlier Nothing bs es fit h = tt
+binds_by : (earlier : List Statement) (ownership : Ownership) (bs : List Binding) (es : List Reference) → may_bind earlier ownership ≡ true → Holds earlier bs es → BindsNew ownership bs
+binds_by earlier Keeps bs es fit h = tt
 binds_by earlier (Binds v) bs es fit h = (h.unbound v (eqb-true (bound v earlier) 0 fit)).2
-binds_by earlier (Plus v) bs es fit h = tt
-binds_by earlier (Minus v) bs es fit h = tt
+binds_by earlier (Retains v) bs es fit h = tt
+binds_by earlier (Releases v) bs es fit h = tt
 
-pub binds_new : (s : Script) (st : State) (x : Statement) → Owned s → IsSound s st → slice_get (setup s) st.frame.number ≡ Some x → BindsNew (touch_of x) st.frame.bindings
+pub binds_new : (s : Script) (st : State) (x : Statement) → Owned s → IsSound s st → slice_get (setup s) st.frame.number ≡ Some x → BindsNew (ownership_of x) st.frame.bindings
 binds_new s st x own h e =
     let earlier = take st.frame.number (setup s) in
     let fit : is_fit earlier x ≡ true = fit_at [] (setup s) st.frame.number x (owned_blocks s.blocks own) e in
-    binds_by earlier (touch_of x) st.frame.bindings st.edges (fit_parts earlier x fit).0 h.holds
+    binds_by earlier (ownership_of x) st.frame.bindings st.edges (fit_parts earlier x fit).0 h.holds
 
 -- nothing leads to the object that is made next
 pub none_to_next : (st : State) → IsBalanced st → degree (length st.objects) st.edges ≡ 0

@@ -3,9 +3,9 @@ use Rattle.std.proofs.Common.{◌≡◌, ℕ, ◌+◌, ◌⊎◌, Bool, true, fa
 use Rattle.cf_ids.specs.declared.answer.Answer.{Answer}
 use Rattle.cf_syntax.specs.declared.script.Script.{Script}
 use Rattle.cf_syntax.specs.declared.statement.Statement.{Statement}
-use Rattle.cf_syntax.specs.declared.statement.Touch.{Touch}
-use Rattle.cf_syntax.specs.declared.statement.Touch.TheVariants.{Nothing, Binds, Plus, Minus}
-use Rattle.cf_syntax.specs.Forms.{touch_of}
+use Rattle.cf_syntax.specs.declared.statement.Ownership.{Ownership}
+use Rattle.cf_syntax.specs.declared.statement.Ownership.TheVariants.{Keeps, Binds, Retains, Releases}
+use Rattle.cf_syntax.specs.Forms.{ownership_of}
 use Rattle.cf_syntax.specs.Owned.{Owned}
 use Rattle.cf_contents.specs.Contents.{Object}
 use Rattle.cf_contents.specs.Deeds.{Origin, nowhere, fresh, there, Change, first_of, deed_at}
@@ -23,7 +23,7 @@ use Rattle.cf_model.proofs.Soundness.{sound}
 
 -- ---- what an entry takes away
 
-nothing_cut : (o : Option ℕ) → None ≡ cut_by Nothing o
+nothing_cut : (o : Option ℕ) → None ≡ cut_by Keeps o
 nothing_cut None = refl
 nothing_cut (Some o) = refl
 
@@ -33,18 +33,18 @@ bound_cut v None (Some p) = refl
 bound_cut v (Some o) None = refl
 bound_cut v (Some o) (Some p) = refl
 
-pub touch_cut : (t : ℕ) (touch : Touch) (answer : Answer) (origin : Origin) (used : Option ℕ) (change : Change) (st : State) → (touch_step t touch answer origin used change st).cuts ≡ cut_by touch used
-touch_cut t Nothing answer origin used change st = nothing_cut used
+pub touch_cut : (t : ℕ) (ownership : Ownership) (answer : Answer) (origin : Origin) (used : Option ℕ) (change : Change) (st : State) → (touch_step t ownership answer origin used change st).cuts ≡ cut_by ownership used
+touch_cut t Keeps answer origin used change st = nothing_cut used
 touch_cut t (Binds v) answer origin used change st = bound_cut v (found st origin) used
-touch_cut t (Plus v) answer origin used change st = refl
-touch_cut t (Minus v) answer origin used change st = refl
+touch_cut t (Retains v) answer origin used change st = refl
+touch_cut t (Releases v) answer origin used change st = refl
 
 frame_cut : (s : Script) (t : ℕ) (st : State) (o : Option Statement) → (frame_step s.classes t st o).cuts ≡ cut_of (next_of st.frame o)
 frame_cut s t st None = refl
 frame_cut s t st (Some x) =
     let site = site_in st.frame x in
     let deed = deed_at s.classes st.objects x site.used in
-    touch_cut t (touch_of x) deed.answer deed.origin (first_of site.used) deed.change st ∙ sym (cut_of-action_of x site)
+    touch_cut t (ownership_of x) deed.answer deed.origin (first_of site.used) deed.change st ∙ sym (cut_of-action_of x site)
 
 demand_cut : (s : Script) (t : ℕ) (st : State) (a : Action) → Demand s st st.frame.work a → (step_for s t st a).cuts ≡ cut_of a
 demand_cut s t st a (of_frame w e) =
@@ -64,18 +64,18 @@ bound_one nowhere objects = inl (ap length (append-nil objects))
 bound_one (fresh ob) objects = inr (length-append objects (ob ∷ []))
 bound_one (there o) objects = inl (ap length (append-nil objects))
 
-touch_one : (t : ℕ) (touch : Touch) (answer : Answer) (origin : Origin) (used : Option ℕ) (change : Change) (st : State) → let after = (touch_step t touch answer origin used change st).objects in (length after ≡ length st.objects) ⊎ (length after ≡ length st.objects + 1)
-touch_one t Nothing answer origin used change st = inl (length-changed_by used change st.objects)
+touch_one : (t : ℕ) (ownership : Ownership) (answer : Answer) (origin : Origin) (used : Option ℕ) (change : Change) (st : State) → let after = (touch_step t ownership answer origin used change st).objects in (length after ≡ length st.objects) ⊎ (length after ≡ length st.objects + 1)
+touch_one t Keeps answer origin used change st = inl (length-changed_by used change st.objects)
 touch_one t (Binds v) answer origin used change st = bound_one origin st.objects
-touch_one t (Plus v) answer origin used change st = inl (ap length (append-nil st.objects))
-touch_one t (Minus v) answer origin used change st = inl (ap length (append-nil st.objects))
+touch_one t (Retains v) answer origin used change st = inl (ap length (append-nil st.objects))
+touch_one t (Releases v) answer origin used change st = inl (ap length (append-nil st.objects))
 
 frame_one : (s : Script) (t : ℕ) (st : State) (o : Option Statement) → let after = (frame_step s.classes t st o).objects in (length after ≡ length st.objects) ⊎ (length after ≡ length st.objects + 1)
 frame_one s t st None = inl refl
 frame_one s t st (Some x) =
     let site = site_in st.frame x in
     let deed = deed_at s.classes st.objects x site.used in
-    touch_one t (touch_of x) deed.answer deed.origin (first_of site.used) deed.change st
+    touch_one t (ownership_of x) deed.answer deed.origin (first_of site.used) deed.change st
 
 demand_one : (s : Script) (t : ℕ) (st : State) (a : Action) → Demand s st st.frame.work a → (length (effect s t st a).objects ≡ length st.objects) ⊎ (length (effect s t st a).objects ≡ length st.objects + 1)
 demand_one s t st a (of_frame w e) =
@@ -91,11 +91,11 @@ grows_one s st e legal = demand_one s e.thread st e.action (legal_is_demanded s 
 abbrev IsIdle : State → Type 0
 IsIdle st = st.frame.is_done ≡ true → st.frame.work ≡ []
 
-touch_goes : (t : ℕ) (touch : Touch) (answer : Answer) (origin : Origin) (used : Option ℕ) (change : Change) (st : State) → (touch_step t touch answer origin used change st).is_done ≡ st.frame.is_done
-touch_goes t Nothing answer origin used change st = refl
+touch_goes : (t : ℕ) (ownership : Ownership) (answer : Answer) (origin : Origin) (used : Option ℕ) (change : Change) (st : State) → (touch_step t ownership answer origin used change st).is_done ≡ st.frame.is_done
+touch_goes t Keeps answer origin used change st = refl
 touch_goes t (Binds v) answer origin used change st = refl
-touch_goes t (Plus v) answer origin used change st = refl
-touch_goes t (Minus v) answer origin used change st = refl
+touch_goes t (Retains v) answer origin used change st = refl
+touch_goes t (Releases v) answer origin used change st = refl
 
 not_done : (d : Bool) (work : List Work) → d ≡ false → d ≡ true → work ≡ []
 not_done true work e h = absurd cc
@@ -106,7 +106,7 @@ frame_idle s t st None going idle done = ap (trimmed st.objects st.dropped) idle
 frame_idle s t st (Some x) going idle done =
     let site = site_in st.frame x in
     let deed = deed_at s.classes st.objects x site.used in
-    not_done st.frame.is_done _ going (sym (touch_goes t (touch_of x) deed.answer deed.origin (first_of site.used) deed.change st) ∙ done)
+    not_done st.frame.is_done _ going (sym (touch_goes t (ownership_of x) deed.answer deed.origin (first_of site.used) deed.change st) ∙ done)
 
 demand_idle : (s : Script) (t : ℕ) (st : State) (a : Action) → st.frame.is_done ≡ false → Demand s st st.frame.work a → IsIdle (effect s t st a)
 demand_idle s t st a going (of_frame w e) =

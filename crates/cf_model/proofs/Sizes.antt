@@ -4,9 +4,9 @@ use Rattle.std.proofs.lemmas.List.{append-nil}
 use Rattle.cf_ids.specs.declared.answer.Answer.{Answer}
 use Rattle.cf_syntax.specs.declared.script.Script.{Script}
 use Rattle.cf_syntax.specs.declared.statement.Statement.{Statement}
-use Rattle.cf_syntax.specs.declared.statement.Touch.{Touch}
-use Rattle.cf_syntax.specs.declared.statement.Touch.TheVariants.{Nothing, Binds, Plus, Minus}
-use Rattle.cf_syntax.specs.Forms.{touch_of, makes_object}
+use Rattle.cf_syntax.specs.declared.statement.Ownership.{Ownership}
+use Rattle.cf_syntax.specs.declared.statement.Ownership.TheVariants.{Keeps, Binds, Retains, Releases}
+use Rattle.cf_syntax.specs.Forms.{ownership_of, makes_object}
 use Rattle.cf_contents.specs.Contents.{Object, size_at}
 use Rattle.cf_contents.specs.Deeds.{Origin, nowhere, fresh, there, Change, first_of, deed_at}
 use Rattle.cf_contents.proofs.ContentLaws.{length-changed_by}
@@ -27,11 +27,11 @@ bound_few making (there o) objects only room few = omega (arith, few, length-app
 bound_few true (fresh ob) objects only room few = omega (arith, room refl, length-append objects (ob ∷ []))
 bound_few false (fresh ob) objects only room few = absurd only
 
-touch_few : (t : ℕ) (touch : Touch) (making : Bool) (answer : Answer) (origin : Origin) (used : Option ℕ) (change : Change) (st : State) → MakesOnly making origin → (making ≡ true → length st.objects < 65536) → length st.objects ≤ 65536 → length (touch_step t touch answer origin used change st).objects ≤ 65536
-touch_few t Nothing making answer origin used change st only room few = omega (arith, few, length-changed_by used change st.objects)
+touch_few : (t : ℕ) (ownership : Ownership) (making : Bool) (answer : Answer) (origin : Origin) (used : Option ℕ) (change : Change) (st : State) → MakesOnly making origin → (making ≡ true → length st.objects < 65536) → length st.objects ≤ 65536 → length (touch_step t ownership answer origin used change st).objects ≤ 65536
+touch_few t Keeps making answer origin used change st only room few = omega (arith, few, length-changed_by used change st.objects)
 touch_few t (Binds v) making answer origin used change st only room few = bound_few making origin st.objects only room few
-touch_few t (Plus v) making answer origin used change st only room few = omega (arith, few, length-append st.objects [])
-touch_few t (Minus v) making answer origin used change st only room few = omega (arith, few, length-append st.objects [])
+touch_few t (Retains v) making answer origin used change st only room few = omega (arith, few, length-append st.objects [])
+touch_few t (Releases v) making answer origin used change st only room few = omega (arith, few, length-append st.objects [])
 
 -- the next statement's action makes an object where its form does
 pub makes-demanded : (s : Script) (st : State) (x : Statement) → statement_in s st.frame.block st.frame.number ≡ Some x → makes s (next_of st.frame (Some x)) ≡ makes_object x
@@ -42,7 +42,7 @@ frame_few s t st None e room few = few
 frame_few s t st (Some x) e room few =
     let site = site_in st.frame x in
     let deed = deed_at s.classes st.objects x site.used in
-    touch_few t (touch_of x) (makes_object x) deed.answer deed.origin (first_of site.used) deed.change st (form_fits s.classes x _ _ _).only (λ yes. room (makes-demanded s st x e ∙ yes)) few
+    touch_few t (ownership_of x) (makes_object x) deed.answer deed.origin (first_of site.used) deed.change st (form_fits s.classes x _ _ _).only (λ yes. room (makes-demanded s st x e ∙ yes)) few
 
 action_few : (s : Script) (t : ℕ) (st : State) (a : Action) → Demand s st st.frame.work a → (makes s a ≡ true → length st.objects < 65536) → length st.objects ≤ 65536 → length (effect s t st a).objects ≤ 65536
 action_few s t st a (of_frame w e) room few =
@@ -67,13 +67,13 @@ made_small n nowhere objects o small h = rw append-nil h
 made_small n (there p) objects o small h = rw append-nil h
 made_small n (fresh ob) objects o small h = omega (arith, h, size-more objects ob o small)
 
-touch_small : (t n : ℕ) (touch : Touch) (answer : Answer) (origin : Origin) (used : Option ℕ) (change : Change) (st : State) (o : ℕ) → MakesSmall origin
+touch_small : (t n : ℕ) (ownership : Ownership) (answer : Answer) (origin : Origin) (used : Option ℕ) (change : Change) (st : State) (o : ℕ) → MakesSmall origin
     → length (named_in change) ≤ 2 → size_at (slice_get st.objects o) ≤ n
-    → size_at (slice_get (touch_step t touch answer origin used change st).objects o) ≤ n + 2
-touch_small t n Nothing answer origin used change st o small few h = omega (arith, h, few, size-changed_by used change st.objects o)
+    → size_at (slice_get (touch_step t ownership answer origin used change st).objects o) ≤ n + 2
+touch_small t n Keeps answer origin used change st o small few h = omega (arith, h, few, size-changed_by used change st.objects o)
 touch_small t n (Binds v) answer origin used change st o small few h = omega (arith, made_small n origin st.objects o small h)
-touch_small t n (Plus v) answer origin used change st o small few h = rw append-nil (omega (arith, h))
-touch_small t n (Minus v) answer origin used change st o small few h = rw append-nil (omega (arith, h))
+touch_small t n (Retains v) answer origin used change st o small few h = rw append-nil (omega (arith, h))
+touch_small t n (Releases v) answer origin used change st o small few h = rw append-nil (omega (arith, h))
 
 frame_small : (s : Script) (t n : ℕ) (st : State) (x : Option Statement) (o : ℕ) → size_at (slice_get st.objects o) ≤ n
     → size_at (slice_get (frame_step s.classes t st x).objects o) ≤ n + 2
@@ -82,7 +82,7 @@ frame_small s t n st (Some x) o h =
     let site = site_in st.frame x in
     let deed = deed_at s.classes st.objects x site.used in
     let fits = form_fits s.classes x _ _ _ in
-    touch_small t n (touch_of x) deed.answer deed.origin (first_of site.used) deed.change st o fits.small fits.used.few h
+    touch_small t n (ownership_of x) deed.answer deed.origin (first_of site.used) deed.change st o fits.small fits.used.few h
 
 action_small : (s : Script) (t n : ℕ) (st : State) (a : Action) (o : ℕ) → Demand s st st.frame.work a → size_at (slice_get st.objects o) ≤ n
     → size_at (slice_get (effect s t st a).objects o) ≤ n + 2

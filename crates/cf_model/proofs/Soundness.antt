@@ -12,10 +12,10 @@ use Rattle.cf_graph.proofs.Same.{same-equal}
 use Rattle.cf_syntax.specs.declared.script.Script.{Script}
 use Rattle.cf_syntax.specs.declared.script.Block.{Block}
 use Rattle.cf_syntax.specs.declared.statement.Statement.{Statement}
-use Rattle.cf_syntax.specs.declared.statement.Touch.{Touch}
-use Rattle.cf_syntax.specs.declared.statement.Touch.TheVariants.{Nothing, Binds, Plus, Minus}
-use Rattle.cf_syntax.specs.Forms.{touch_of, touched, read_by, used_by, is_known, padded}
-use Rattle.cf_syntax.specs.Owned.{bound, given, taken, given_by, taken_by, may_use, may_use_all, may_touch, is_fit, are_fit, blocks_fit, Owned}
+use Rattle.cf_syntax.specs.declared.statement.Ownership.{Ownership}
+use Rattle.cf_syntax.specs.declared.statement.Ownership.TheVariants.{Keeps, Binds, Retains, Releases}
+use Rattle.cf_syntax.specs.Forms.{ownership_of, subject_of, read_by, used_by, is_known, pad}
+use Rattle.cf_syntax.specs.Owned.{bound, given, released, given_by, released_by, may_use, may_use_all, may_bind, is_fit, are_fit, blocks_fit, Owned}
 use Rattle.cf_syntax.proofs.OwnedLaws.{total_push}
 use Rattle.cf_contents.specs.Contents.{times}
 use Rattle.cf_contents.specs.Deeds.{Origin, Change, first_of, object_of, deed_at, taken_in, given_out}
@@ -57,10 +57,10 @@ fit_at earlier (y ∷ xs) (suc n) x h e =
     rw (← append_assoc earlier (y ∷ []) (take n xs)) (fit_at (earlier ++ y ∷ []) xs n x p.1 e)
 
 -- what is fit touches and uses what it may
-pub fit_parts : (earlier : List Statement) (x : Statement) → is_fit earlier x ≡ true → (may_touch earlier (touch_of x) ≡ true) × (may_use_all earlier (used_by x) ≡ true)
+pub fit_parts : (earlier : List Statement) (x : Statement) → is_fit earlier x ≡ true → (may_bind earlier (ownership_of x) ≡ true) × (may_use_all earlier (used_by x) ≡ true)
 fit_parts earlier x h =
-    let p = and_parts (may_touch earlier (touch_of x) && may_use_all earlier (used_by x)) (is_known x) h in
-    and_parts (may_touch earlier (touch_of x)) (may_use_all earlier (used_by x)) p.0
+    let p = and_parts (may_bind earlier (ownership_of x) && may_use_all earlier (used_by x)) (is_known x) h in
+    and_parts (may_bind earlier (ownership_of x)) (may_use_all earlier (used_by x)) p.0
 
 -- ---- references of variables
 
@@ -106,18 +106,18 @@ one_from v o e true t =
     omega (arith, ap (λ (x : Reference). from_thread 0 o x) (same-equal (reference 0 v o) e t), ap (λ (c : Bool). counted (c && true)) (eq-eqb o o refl))
 one_from v o e false t = omega arith
 
-abbrev pub TakesFirst : Touch → List Binding → Option ℕ → Type 0
-TakesFirst Nothing bs used = Unit {0}
+abbrev pub TakesFirst : Ownership → List Binding → Option ℕ → Type 0
+TakesFirst Keeps bs used = Unit {0}
 TakesFirst (Binds v) bs used = Unit {0}
-TakesFirst (Plus v) bs used = used ≡ look v bs
-TakesFirst (Minus v) bs used = used ≡ look v bs
+TakesFirst (Retains v) bs used = used ≡ look v bs
+TakesFirst (Releases v) bs used = used ≡ look v bs
 
--- the first variable that is used is that of a touch that uses one
-pub first_used : (touch : Touch) (read : List ℕ) (bs : List Binding) → TakesFirst touch bs (first_of (map (object_at bs) (padded (touched touch ++ read))))
-first_used Nothing read bs = tt
+-- the first variable that is used is that of an ownership that uses one
+pub first_used : (ownership : Ownership) (read : List ℕ) (bs : List Binding) → TakesFirst ownership bs (first_of (map (object_at bs) (pad (subject_of ownership ++ read))))
+first_used Keeps read bs = tt
 first_used (Binds v) read bs = tt
-first_used (Plus v) read bs = refl
-first_used (Minus v) read bs = refl
+first_used (Retains v) read bs = refl
+first_used (Releases v) read bs = refl
 
 pub use_first : (earlier : List Statement) (vs ws : List ℕ) → may_use_all earlier (vs ++ ws) ≡ true → may_use_all earlier vs ≡ true
 use_first earlier [] ws h = refl
@@ -139,28 +139,28 @@ change_quiet r (Some b) change st not_owed not_slot can =
 change_same : (used : Option ℕ) (change : Change) (st : State) → ((b : ℕ) → used ≡ Some b → CanRun (operations_in 0 b (slice_get st.objects b) change) st.edges) → (v o : ℕ) → weigh (one (reference 0 v o)) (run (change_operations 0 used (object_of st.objects used) change) st.edges) ≡ weigh (one (reference 0 v o)) st.edges
 change_same used change st can v o = change_quiet (reference 0 v o) used change st (kinds_apart (variable 0 v) (owed 0) refl) (λ b. kinds_apart (variable 0 v) (slot b) refl) can
 
-foreign_quiet : (touch : Touch) (object : Option ℕ) (r : Reference) (es : List Reference) → IsForeign r.holder → weigh (one r) (run (operations_of 0 touch object) es) ≡ weigh (one r) es
-foreign_quiet touch object r es f = operations_quiet 0 touch object r es (λ v o. one_apart r (reference 0 v o) (λ q. f.variable v (ap (λ (p : Reference). p.holder) q)))
+foreign_quiet : (ownership : Ownership) (object : Option ℕ) (r : Reference) (es : List Reference) → IsForeign r.holder → weigh (one r) (run (operations_of 0 ownership object) es) ≡ weigh (one r) es
+foreign_quiet ownership object r es f = operations_quiet 0 ownership object r es (λ v o. one_apart r (reference 0 v o) (λ q. f.variable v (ap (λ (p : Reference). p.holder) q)))
 
--- a touch's step leaves what others hold
-touch_quiet : (touch : Touch) (answer : Answer) (origin : Origin) (used : Option ℕ) (change : Change) (st : State) → ((b : ℕ) → used ≡ Some b → CanRun (operations_in 0 b (slice_get st.objects b) change) st.edges) → (r : Reference) → IsForeign r.holder → weigh (one r) (run (touch_step 0 touch answer origin used change st).operations st.edges) ≡ weigh (one r) st.edges
-touch_quiet Nothing answer origin used change st can r f = change_quiet r used change st f.owed f.slot can
+-- an ownership's step leaves what others hold
+touch_quiet : (ownership : Ownership) (answer : Answer) (origin : Origin) (used : Option ℕ) (change : Change) (st : State) → ((b : ℕ) → used ≡ Some b → CanRun (operations_in 0 b (slice_get st.objects b) change) st.edges) → (r : Reference) → IsForeign r.holder → weigh (one r) (run (touch_step 0 ownership answer origin used change st).operations st.edges) ≡ weigh (one r) st.edges
+touch_quiet Keeps answer origin used change st can r f = change_quiet r used change st f.owed f.slot can
 touch_quiet (Binds v) answer origin used change st can r f = foreign_quiet (Binds v) (found st origin) r st.edges f
-touch_quiet (Plus v) answer origin used change st can r f = foreign_quiet (Plus v) used r st.edges f
-touch_quiet (Minus v) answer origin used change st can r f = foreign_quiet (Minus v) used r st.edges f
+touch_quiet (Retains v) answer origin used change st can r f = foreign_quiet (Retains v) used r st.edges f
+touch_quiet (Releases v) answer origin used change st can r f = foreign_quiet (Releases v) used r st.edges f
 
 -- ---- no variable of an owned script has more references taken from it than it was given
 
-owns_touch : (earlier : List Statement) (v : ℕ) (touch : Touch) → may_use_all earlier (touched touch) ≡ true → taken v earlier ≤ given v earlier
-    → taken v earlier + taken_by v touch ≤ given v earlier + given_by v touch
-owns_touch earlier v Nothing used h = omega (arith, h)
+owns_touch : (earlier : List Statement) (v : ℕ) (ownership : Ownership) → may_use_all earlier (subject_of ownership) ≡ true → released v earlier ≤ given v earlier
+    → released v earlier + released_by v ownership ≤ given v earlier + given_by v ownership
+owns_touch earlier v Keeps used h = omega (arith, h)
 owns_touch earlier v (Binds w) used h = omega (arith, h)
-owns_touch earlier v (Plus w) used h = omega (arith, h)
-owns_touch earlier v (Minus w) used h = elim (eqb_tells v w) [
+owns_touch earlier v (Retains w) used h = omega (arith, h)
+owns_touch earlier v (Releases w) used h = elim (eqb_tells v w) [
   | inl here ↦
       let may = (and_parts (may_use earlier w) true used).0 in
-      let left : taken w earlier < given w earlier = ltb-true (taken w earlier) (given w earlier) (and_parts (ltb 0 (bound w earlier)) (ltb (taken w earlier) (given w earlier)) may).1 in
-      omega (arith, subst (λ (u : ℕ). taken u earlier < given u earlier) (sym here.1) left, counted_most (eqb v w))
+      let left : released w earlier < given w earlier = ltb-true (released w earlier) (given w earlier) (and_parts (ltb 0 (bound w earlier)) (ltb (released w earlier) (given w earlier)) may).1 in
+      omega (arith, subst (λ (u : ℕ). released u earlier < given u earlier) (sym here.1) left, counted_most (eqb v w))
   | inr other ↦ omega (arith, h, ap counted other.0)
 ]
   where
@@ -168,18 +168,18 @@ owns_touch earlier v (Minus w) used h = elim (eqb_tells v w) [
     counted_most true = omega arith
     counted_most false = omega arith
 
-owns_all : (earlier xs : List Statement) (n v : ℕ) → are_fit earlier xs ≡ true → taken v earlier ≤ given v earlier
-    → taken v (earlier ++ take n xs) ≤ given v (earlier ++ take n xs)
+owns_all : (earlier xs : List Statement) (n v : ℕ) → are_fit earlier xs ≡ true → released v earlier ≤ given v earlier
+    → released v (earlier ++ take n xs) ≤ given v (earlier ++ take n xs)
 owns_all earlier xs zero v fit h = rw (append-nil earlier) h
 owns_all earlier [] (suc n) v fit h = rw (append-nil earlier) h
 owns_all earlier (x ∷ xs) (suc n) v fit h =
     let p = and_parts (is_fit earlier x) (are_fit (earlier ++ x ∷ []) xs) fit in
-    let used = use_first earlier (touched (touch_of x)) (read_by x) (fit_parts earlier x p.0).1 in
-    let more : taken v (earlier ++ x ∷ []) ≤ given v (earlier ++ x ∷ []) =
-    rw (total_push (taken_by v) earlier x, total_push (given_by v) earlier x) (owns_touch earlier v (touch_of x) used h) in
+    let used = use_first earlier (subject_of (ownership_of x)) (read_by x) (fit_parts earlier x p.0).1 in
+    let more : released v (earlier ++ x ∷ []) ≤ given v (earlier ++ x ∷ []) =
+    rw (total_push (released_by v) earlier x, total_push (given_by v) earlier x) (owns_touch earlier v (ownership_of x) used h) in
     rw (← append_assoc earlier (x ∷ []) (take n xs)) (owns_all (earlier ++ x ∷ []) xs n v p.1 more)
 
-pub setup_owns : (s : Script) → Owned s → (n v : ℕ) → taken v (take n (setup s)) ≤ given v (take n (setup s))
+pub setup_owns : (s : Script) → Owned s → (n v : ℕ) → released v (take n (setup s)) ≤ given v (take n (setup s))
 setup_owns s own n v = owns_all [] (setup s) n v (owned_blocks s.blocks own) (omega arith)
 
 -- the operations of a change can be done
@@ -193,22 +193,22 @@ live_used st None b live e = absurd cc
 live_used st (Some c) b live e =
     subst (λ (d : ℕ). times d st.finalised ≡ 0) (some_is c b e) live.0
 
--- a touch's step keeps what variables hold, and its work is in order
-touch_sound : (touch : Touch) (answer : Answer) (origin : Origin) (used : Option ℕ) (change : Change) (st : State) (later : List Statement) → let step = touch_step 0 touch answer origin used change st in let object = aimed touch (found st origin) st.frame.bindings in IsWorked st → MakesEmpty origin → TakesFirst touch st.frame.bindings used → ((b : ℕ) → used ≡ Some b → times b st.finalised ≡ 0) → ((b : ℕ) → used ≡ Some b → CanRun (operations_in 0 b (slice_get st.objects b) change) st.edges) → Holds later (bindings_by touch object ++ st.frame.bindings) (run (operations_of 0 touch object) st.edges) → Holds later (step.bindings ++ st.frame.bindings) (run step.operations st.edges) × WorksStep st step
-touch_sound Nothing answer origin used change st later w makes first live can h =
+-- an ownership's step keeps what variables hold, and its work is in order
+touch_sound : (ownership : Ownership) (answer : Answer) (origin : Origin) (used : Option ℕ) (change : Change) (st : State) (later : List Statement) → let step = touch_step 0 ownership answer origin used change st in let object = aimed ownership (found st origin) st.frame.bindings in IsWorked st → MakesEmpty origin → TakesFirst ownership st.frame.bindings used → ((b : ℕ) → used ≡ Some b → times b st.finalised ≡ 0) → ((b : ℕ) → used ≡ Some b → CanRun (operations_in 0 b (slice_get st.objects b) change) st.edges) → Holds later (bindings_by ownership object ++ st.frame.bindings) (run (operations_of 0 ownership object) st.edges) → Holds later (step.bindings ++ st.frame.bindings) (run step.operations st.edges) × WorksStep st step
+touch_sound Keeps answer origin used change st later w makes first live can h =
     (holds_same later st.frame.bindings st.edges (run (change_operations 0 used (object_of st.objects used) change) st.edges) (change_same used change st can) h, change_works answer used change st w live can)
 touch_sound (Binds v) answer origin used change st later w makes first live can h = (h, reference_works 0 (Binds v) answer origin (found st origin) st w makes)
-touch_sound (Plus v) answer origin used change st later w makes first live can h =
-    (subst (λ (o : Option ℕ). Holds later (bindings_by (Plus v) o ++ st.frame.bindings) (run (operations_of 0 (Plus v) o) st.edges)) (sym first) h, reference_works 0 (Plus v) answer origin used st w makes)
-touch_sound (Minus v) answer origin used change st later w makes first live can h =
-    (subst (λ (o : Option ℕ). Holds later (bindings_by (Minus v) o ++ st.frame.bindings) (run (operations_of 0 (Minus v) o) st.edges)) (sym first) h, reference_works 0 (Minus v) answer origin used st w makes)
+touch_sound (Retains v) answer origin used change st later w makes first live can h =
+    (subst (λ (o : Option ℕ). Holds later (bindings_by (Retains v) o ++ st.frame.bindings) (run (operations_of 0 (Retains v) o) st.edges)) (sym first) h, reference_works 0 (Retains v) answer origin used st w makes)
+touch_sound (Releases v) answer origin used change st later w makes first live can h =
+    (subst (λ (o : Option ℕ). Holds later (bindings_by (Releases v) o ++ st.frame.bindings) (run (operations_of 0 (Releases v) o) st.edges)) (sym first) h, reference_works 0 (Releases v) answer origin used st w makes)
 
 -- the frame goes on by one statement
-step_number : (touch : Touch) (answer : Answer) (origin : Origin) (used : Option ℕ) (change : Change) (st : State) → (touch_step 0 touch answer origin used change st).number ≡ st.frame.number + 1
-step_number Nothing answer origin used change st = refl
+step_number : (ownership : Ownership) (answer : Answer) (origin : Origin) (used : Option ℕ) (change : Change) (st : State) → (touch_step 0 ownership answer origin used change st).number ≡ st.frame.number + 1
+step_number Keeps answer origin used change st = refl
 step_number (Binds v) answer origin used change st = refl
-step_number (Plus v) answer origin used change st = refl
-step_number (Minus v) answer origin used change st = refl
+step_number (Retains v) answer origin used change st = refl
+step_number (Releases v) answer origin used change st = refl
 
 statement_sound : (s : Script) (st : State) (x : Statement) (body : Option ℕ) → Owned s → IsSound s st → slice_get (setup s) st.frame.number ≡ Some x → MayUseAll st 0 body (used_objects st.frame.bindings x) → IsSound s (state_after (statement_step s.classes 0 x (used_objects st.frame.bindings x) st) st)
 statement_sound s st x body own h e uses =
@@ -221,15 +221,15 @@ statement_sound s st x body own h e uses =
     let earlier = take st.frame.number (setup s) in
     let fit : is_fit earlier x ≡ true = fit_at [] (setup s) st.frame.number x (owned_blocks s.blocks own) e in
     let parts = fit_parts earlier x fit in
-    let holds = touch_holds x earlier st.frame.bindings st.edges h.holds (touch_of x) (found st deed.origin) refl parts.0 (use_first earlier (touched (touch_of x)) (read_by x) parts.1) in
+    let holds = touch_holds x earlier st.frame.bindings st.edges h.holds (ownership_of x) (found st deed.origin) refl parts.0 (use_first earlier (subject_of (ownership_of x)) (read_by x) parts.1) in
     let can = can_used (first_of used) change st h.kept live enters in
-    let both = touch_sound (touch_of x) deed.answer deed.origin (first_of used) change st (earlier ++ x ∷ []) h.worked (form_fits s.classes x _ _ _).makes (first_used (touch_of x) (read_by x) st.frame.bindings) (λ b q. live_used st (first_of used) b live q) can holds in
+    let both = touch_sound (ownership_of x) deed.answer deed.origin (first_of used) change st (earlier ++ x ∷ []) h.worked (form_fits s.classes x _ _ _).makes (first_used (ownership_of x) (read_by x) st.frame.bindings) (λ b q. live_used st (first_of used) b live q) can holds in
     record {
       block = h.block;
-      holds = rw (step_number (touch_of x) deed.answer deed.origin (first_of used) change st, take_next (setup s) st.frame.number x e) both.0;
+      holds = rw (step_number (ownership_of x) deed.answer deed.origin (first_of used) change st, take_next (setup s) st.frame.number x e) both.0;
       kept = kept_after st step h.kept (statement_kept s.classes 0 body x used st h.kept uses);
       worked = worked_after st step both.1;
-      others = λ r f. touch_quiet (touch_of x) deed.answer deed.origin (first_of used) change st can r f ∙ h.others r f;
+      others = λ r f. touch_quiet (ownership_of x) deed.answer deed.origin (first_of used) change st can r f ∙ h.others r f;
     }
 
 -- the step of each demanded action

@@ -8,8 +8,8 @@ use Rattle.cf_graph.specs.Holders.{owed, slot}
 use Rattle.cf_graph.specs.Edges.{Reference, weigh, one, counted}
 use Rattle.cf_graph.specs.Operations.{run, CanRun}
 use Rattle.cf_graph.proofs.Counts.{weigh-without}
-use Rattle.cf_syntax.specs.declared.statement.Touch.{Touch}
-use Rattle.cf_syntax.specs.declared.statement.Touch.TheVariants.{Nothing, Binds, Plus, Minus}
+use Rattle.cf_syntax.specs.declared.statement.Ownership.{Ownership}
+use Rattle.cf_syntax.specs.declared.statement.Ownership.TheVariants.{Keeps, Binds, Retains, Releases}
 use Rattle.cf_contents.specs.Contents.{Object, times, slots_at}
 use Rattle.cf_contents.specs.Deeds.{Origin, nowhere, fresh, there, Change, taken_in, given_out}
 use Rattle.cf_contents.proofs.SlotLaws.{times-append, MakesEmpty, slots-more, others_keep}
@@ -109,26 +109,26 @@ worked_after st step w =
 
 -- ---- by the kinds of steps
 
--- a touch changes no references but those of variables
-pub operations_quiet : (t : ℕ) (touch : Touch) (object : Option ℕ) (r : Reference) (es : List Reference) → ((v o : ℕ) → one r (reference t v o) ≡ 0) → weigh (one r) (run (operations_of t touch object) es) ≡ weigh (one r) es
-operations_quiet t touch None r es h = refl
-operations_quiet t Nothing (Some o) r es h = refl
+-- an ownership changes no references but those of variables
+pub operations_quiet : (t : ℕ) (ownership : Ownership) (object : Option ℕ) (r : Reference) (es : List Reference) → ((v o : ℕ) → one r (reference t v o) ≡ 0) → weigh (one r) (run (operations_of t ownership object) es) ≡ weigh (one r) es
+operations_quiet t ownership None r es h = refl
+operations_quiet t Keeps (Some o) r es h = refl
 operations_quiet t (Binds v) (Some o) r es h = omega (arith, h v o)
-operations_quiet t (Plus v) (Some o) r es h = omega (arith, h v o)
-operations_quiet t (Minus v) (Some o) r es h = weigh-without-other (one r) (reference t v o) es (h v o)
+operations_quiet t (Retains v) (Some o) r es h = omega (arith, h v o)
+operations_quiet t (Releases v) (Some o) r es h = weigh-without-other (one r) (reference t v o) es (h v o)
 
-pub made_slots : (touch : Touch) (origin : Origin) (objects : List Object) (b : ℕ) → MakesEmpty origin → slots_at (slice_get (objects ++ made_by touch origin) b) ≡ slots_at (slice_get objects b)
-made_slots Nothing origin objects b h = rw (append-nil objects) refl
+pub made_slots : (ownership : Ownership) (origin : Origin) (objects : List Object) (b : ℕ) → MakesEmpty origin → slots_at (slice_get (objects ++ made_by ownership origin) b) ≡ slots_at (slice_get objects b)
+made_slots Keeps origin objects b h = rw (append-nil objects) refl
 made_slots (Binds v) nowhere objects b h = rw (append-nil objects) refl
 made_slots (Binds v) (fresh ob) objects b h = slots-more objects ob b h
 made_slots (Binds v) (there o) objects b h = rw (append-nil objects) refl
-made_slots (Plus v) origin objects b h = rw (append-nil objects) refl
-made_slots (Minus v) origin objects b h = rw (append-nil objects) refl
+made_slots (Retains v) origin objects b h = rw (append-nil objects) refl
+made_slots (Releases v) origin objects b h = rw (append-nil objects) refl
 
-pub reference_works : (t : ℕ) (touch : Touch) (answer : Answer) (origin : Origin) (object : Option ℕ) (st : State) → IsWorked st → MakesEmpty origin → WorksStep st (reference_step t touch answer origin object st)
-reference_works t touch answer origin object st h makes = record {
-  owed = λ o. operations_quiet t touch object (owed_reference 0 o) st.edges (λ v p. one_of_kinds (owed_reference 0 o) (reference t v p) refl) ∙ h.owed o;
-  given_up = λ b some none. ap (drop (times b st.dropped)) (made_slots touch origin st.objects b makes) ∙ h.given_up b some none;
+pub reference_works : (t : ℕ) (ownership : Ownership) (answer : Answer) (origin : Origin) (object : Option ℕ) (st : State) → IsWorked st → MakesEmpty origin → WorksStep st (reference_step t ownership answer origin object st)
+reference_works t ownership answer origin object st h makes = record {
+  owed = λ o. operations_quiet t ownership object (owed_reference 0 o) st.edges (λ v p. one_of_kinds (owed_reference 0 o) (reference t v p) refl) ∙ h.owed o;
+  given_up = λ b some none. ap (drop (times b st.dropped)) (made_slots ownership origin st.objects b makes) ∙ h.given_up b some none;
 }
 
 pub done_works : (st : State) → IsWorked st → WorksStep st (done_step st)

@@ -4,7 +4,7 @@ use Rattle.std.specs.Prelude.{◌≡◌, ℕ, ◌<◌, Bool, true, false, ◌&&�
 use Rattle.cf_syntax.specs.declared.script.Script.{Script}
 use Rattle.cf_syntax.specs.declared.script.Block.{Block}
 use Rattle.cf_syntax.specs.declared.statement.Statement.{Statement}
-use Rattle.cf_syntax.specs.Forms.{used_by, padded}
+use Rattle.cf_syntax.specs.Forms.{used_by, pad}
 use Rattle.cf_model.specs.declared.action.Action.{Action}
 use Rattle.cf_model.specs.declared.action.Action.TheVariants as actions
 use Rattle.cf_model.specs.declared.action.Entry.{Entry}
@@ -31,7 +31,7 @@ object_at bs (Some v) = look v bs
 
 -- the objects of the variables that a statement uses, as three places
 abbrev pub used_objects : List Binding → Statement → List (Option ℕ)
-used_objects bs s = map (object_at bs) (padded (used_by s))
+used_objects bs s = map (object_at bs) (pad (used_by s))
 
 -- the action of the next statement of a frame, or that the thread is done
 abbrev pub next_of : Frame → Option Statement → Action

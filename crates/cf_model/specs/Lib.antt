@@ -8,4 +8,4 @@ pub mod Serial
 pub mod Changes
 pub mod Rendering
 pub mod Endings
-pub mod Rows
+pub mod Examples

@@ -8,12 +8,12 @@ use Rattle.cf_syntax.specs.declared.script.Script.{Script}
 use Rattle.cf_syntax.specs.declared.script.Block.{Block}
 use Rattle.cf_syntax.specs.declared.script.ClassLine.{ClassLine}
 use Rattle.cf_syntax.specs.declared.statement.Statement.{Statement}
-use Rattle.cf_syntax.specs.declared.statement.Touch.{Touch}
-use Rattle.cf_syntax.specs.declared.statement.Touch.TheVariants.{Nothing, Binds, Plus, Minus}
-use Rattle.cf_syntax.specs.Forms.{touch_of, makes_object}
+use Rattle.cf_syntax.specs.declared.statement.Ownership.{Ownership}
+use Rattle.cf_syntax.specs.declared.statement.Ownership.TheVariants.{Keeps, Binds, Retains, Releases}
+use Rattle.cf_syntax.specs.Forms.{ownership_of, makes_object}
 use Rattle.cf_graph.specs.Holders.{Holder, variable, owed, slot}
 use Rattle.cf_graph.specs.Edges.{Reference}
-use Rattle.cf_graph.specs.Operations.{Operation, add, move, cut, run}
+use Rattle.cf_graph.specs.Operations.{Operation, add, move, remove, run}
 use Rattle.cf_contents.specs.Contents.{Object}
 use Rattle.cf_contents.specs.Deeds.{Origin, nowhere, fresh, there, Change, first_of, object_of, deed_at, changed_by, taken_in, given_out}
 use Rattle.cf_model.specs.declared.action.Action.{Action}
@@ -107,7 +107,7 @@ abbrev pub gained_by : List Operation → List ℕ
 gained_by [] = []
 gained_by (add r ∷ ops) = r.object ∷ gained_by ops
 gained_by (move r h ∷ ops) = gained_by ops
-gained_by (cut r ∷ ops) = gained_by ops
+gained_by (remove r ∷ ops) = gained_by ops
 
 -- ---- the step of a statement
 
@@ -117,24 +117,24 @@ found st nowhere = None
 found st (fresh ob) = Some (length st.objects)
 found st (there o) = if is_live st o then Some o else None
 
--- what a touch of an object does to references
-abbrev pub operations_at : ℕ → Touch → ℕ → List Operation
-operations_at t Nothing o = []
+-- what an ownership of an object does to references
+abbrev pub operations_at : ℕ → Ownership → ℕ → List Operation
+operations_at t Keeps o = []
 operations_at t (Binds v) o = add (reference t v o) ∷ []
-operations_at t (Plus v) o = add (reference t v o) ∷ []
-operations_at t (Minus v) o = cut (reference t v o) ∷ []
+operations_at t (Retains v) o = add (reference t v o) ∷ []
+operations_at t (Releases v) o = remove (reference t v o) ∷ []
 
--- what a touch does to references if there is an object, and nothing if there is none
-abbrev pub operations_of : ℕ → Touch → Option ℕ → List Operation
-operations_of t touch None = []
-operations_of t touch (Some o) = operations_at t touch o
+-- what an ownership does to references if there is an object, and nothing if there is none
+abbrev pub operations_of : ℕ → Ownership → Option ℕ → List Operation
+operations_of t ownership None = []
+operations_of t ownership (Some o) = operations_at t ownership o
 
--- the object whose reference a touch takes
-abbrev pub cut_by : Touch → Option ℕ → Option ℕ
-cut_by Nothing object = None
+-- the object whose reference an ownership takes
+abbrev pub cut_by : Ownership → Option ℕ → Option ℕ
+cut_by Keeps object = None
 cut_by (Binds v) object = None
-cut_by (Plus v) object = None
-cut_by (Minus v) object = object
+cut_by (Retains v) object = None
+cut_by (Releases v) object = object
 
 -- the object that an origin makes
 abbrev pub made_from : Origin → List Object
@@ -143,37 +143,37 @@ made_from (fresh ob) = ob ∷ []
 made_from (there o) = []
 
 -- the object that a statement makes: only one that binds a variable makes any
-abbrev pub made_by : Touch → Origin → List Object
-made_by Nothing origin = []
+abbrev pub made_by : Ownership → Origin → List Object
+made_by Keeps origin = []
 made_by (Binds v) origin = made_from origin
-made_by (Plus v) origin = []
-made_by (Minus v) origin = []
+made_by (Retains v) origin = []
+made_by (Releases v) origin = []
 
--- a touch may bind a variable
-abbrev pub bindings_by : Touch → Option ℕ → List Binding
-bindings_by Nothing o = []
+-- an ownership may bind a variable
+abbrev pub bindings_by : Ownership → Option ℕ → List Binding
+bindings_by Keeps o = []
 bindings_by (Binds v) o = record { variable = v; object = o } ∷ []
-bindings_by (Plus v) o = []
-bindings_by (Minus v) o = []
+bindings_by (Retains v) o = []
+bindings_by (Releases v) o = []
 
--- the answer of a touch of nothing: what binds answers as the deed does, and a retain or a release is skipped
-abbrev pub answer_with : Touch → Answer → Answer
-answer_with Nothing other = other
+-- the answer of an ownership of nothing: what binds answers as the deed does, and a retain or a release is skipped
+abbrev pub answer_with : Ownership → Answer → Answer
+answer_with Keeps other = other
 answer_with (Binds v) other = other
-answer_with (Plus v) other = answers.Skip
-answer_with (Minus v) other = answers.Skip
+answer_with (Retains v) other = answers.Skip
+answer_with (Releases v) other = answers.Skip
 
--- the answer of a touch of an object: what is bound answers that object, and else the deed decides
-abbrev pub answer_at : Touch → ℕ → Answer → Answer
-answer_at Nothing o other = other
+-- the answer of an ownership of an object: what is bound answers that object, and else the deed decides
+abbrev pub answer_at : Ownership → ℕ → Answer → Answer
+answer_at Keeps o other = other
 answer_at (Binds v) o other = answers.Object o
-answer_at (Plus v) o other = other
-answer_at (Minus v) o other = other
+answer_at (Retains v) o other = other
+answer_at (Releases v) o other = other
 
--- the answer of a touch of an object or of none
-abbrev pub answer_of : Touch → Option ℕ → Answer → Answer
-answer_of touch None other = answer_with touch other
-answer_of touch (Some o) other = answer_at touch o other
+-- the answer of an ownership of an object or of none
+abbrev pub answer_of : Ownership → Option ℕ → Answer → Answer
+answer_of ownership None other = answer_with ownership other
+answer_of ownership (Some o) other = answer_at ownership o other
 
 -- a change of a body: it takes in what comes, and gives out to the thread what goes
 abbrev pub change_operations : ℕ → Option ℕ → Option Object → Change → List Operation
@@ -181,14 +181,14 @@ change_operations t None ob change = []
 change_operations t (Some b) ob change =
     map (λ o. add (slot_reference b o)) (taken_in ob change) ++ map (λ o. move (slot_reference b o) (owed t)) (given_out ob change)
 
--- the step of a touch that takes or binds a reference to an object, which may be new
-abbrev pub reference_step : ℕ → Touch → Answer → Origin → Option ℕ → State → Step
-reference_step t touch answer origin object st = record {
-  answer = answer_of touch object answer;
-  operations = operations_of t touch object;
-  cuts = cut_by touch object;
-  objects = st.objects ++ made_by touch origin;
-  bindings = bindings_by touch object;
+-- the step of an ownership that takes or binds a reference to an object, which may be new
+abbrev pub reference_step : ℕ → Ownership → Answer → Origin → Option ℕ → State → Step
+reference_step t ownership answer origin object st = record {
+  answer = answer_of ownership object answer;
+  operations = operations_of t ownership object;
+  cuts = cut_by ownership object;
+  objects = st.objects ++ made_by ownership origin;
+  bindings = bindings_by ownership object;
   number = st.frame.number + 1;
   drops = [];
   work = st.frame.work;
@@ -211,17 +211,17 @@ change_step t answer used change st = record {
 
 -- a statement takes a reference to the first object that it uses, or binds one to what is found, or else it may change
 -- an object
-abbrev pub touch_step : ℕ → Touch → Answer → Origin → Option ℕ → Change → State → Step
-touch_step t Nothing answer origin used change st = change_step t answer used change st
+abbrev pub touch_step : ℕ → Ownership → Answer → Origin → Option ℕ → Change → State → Step
+touch_step t Keeps answer origin used change st = change_step t answer used change st
 touch_step t (Binds v) answer origin used change st = reference_step t (Binds v) answer origin (found st origin) st
-touch_step t (Plus v) answer origin used change st = reference_step t (Plus v) answer origin used st
-touch_step t (Minus v) answer origin used change st = reference_step t (Minus v) answer origin used st
+touch_step t (Retains v) answer origin used change st = reference_step t (Retains v) answer origin used st
+touch_step t (Releases v) answer origin used change st = reference_step t (Releases v) answer origin used st
 
 -- the step of a statement, by its deed
 abbrev pub statement_step : List ClassLine → ℕ → Statement → List (Option ℕ) → State → Step
 statement_step classes t s used st =
     let deed = deed_at classes st.objects s used in
-    touch_step t (touch_of s) deed.answer deed.origin (first_of used) deed.change st
+    touch_step t (ownership_of s) deed.answer deed.origin (first_of used) deed.change st
 
 -- ---- the steps that no statement writes
 
@@ -250,11 +250,11 @@ rest_of (w ∷ work) = work
 
 -- an owed release
 abbrev pub owed_step : ℕ → ℕ → State → Step
-owed_step t o st = record (idle st) { operations = cut (owed_reference t o) ∷ []; cuts = Some o; work = rest_of st.frame.work }
+owed_step t o st = record (idle st) { operations = remove (owed_reference t o) ∷ []; cuts = Some o; work = rest_of st.frame.work }
 
 -- a finalised body gives up a slot
 abbrev pub drop_step : ℕ → ℕ → State → Step
-drop_step b o st = record (idle st) { operations = cut (slot_reference b o) ∷ []; cuts = Some o; drops = b ∷ [] }
+drop_step b o st = record (idle st) { operations = remove (slot_reference b o) ∷ []; cuts = Some o; drops = b ∷ [] }
 
 -- the step of a statement, or that the thread is done if there is none
 abbrev pub step_with : List ClassLine → ℕ → State → List (Option ℕ) → Option Statement → Step

@@ -4,10 +4,10 @@
 
 mod action;
 mod ending;
+mod examples;
 mod laws;
-mod rows;
 
 pub use action::{Action, Entry};
 pub use ending::Ending;
+pub use examples::a_script_and_its_lines;
 pub use laws::{finals_of_legal_journals, variables_hold_what_they_own};
-pub use rows::a_script_and_its_lines;

@@ -50,7 +50,7 @@ fn setup(alloc: Global, lines: &[u8]) -> Result<Vec<u8>, AllocError> {
     Ok(text)
 }
 
-/// A script in which a line stands behind those that make an array, a string and a number.
+/// A script in which a line stands after those that make an array, a string and a number.
 fn behind_objects(alloc: Global, line: &[u8]) -> Result<Vec<u8>, AllocError> {
     let mut lines = Vec::from_slice(
         alloc,
@@ -251,7 +251,7 @@ fn owners_are_checked(rt: HostRuntime) -> Result<(), Fail> {
     Ok(())
 }
 
-// A line behind those that make objects, and what becomes of the script.
+// A line after those that make objects, and what becomes of the script.
 const FORM_CASES: [(&[u8], Outcome, &str); 37] = [
     (b"make v array", Outcome::Owned, "an array"),
     (b"make v array plain", Outcome::Owned, "a plain array"),

@@ -38,8 +38,8 @@ fn texts_are_refused(rt: HostRuntime) -> Result<(), Fail> {
         ("half a pair", splits_pair(&face.substring(alloc, 0, 2))),
         (
             "no fault, and that of half a pair",
-            face.cut_fault(1, 2).is_none()
-                && matches!(face.cut_fault(0, 2), Some(StrFault::SplitsPair)),
+            face.split_fault(1, 2).is_none()
+                && matches!(face.split_fault(0, 2), Some(StrFault::SplitsPair)),
         ),
         ("past the length", passes(&face.substring(alloc, 2, 2))),
         ("a far place", passes(&face.substring(alloc, usize::MAX, 1))),

@@ -26,11 +26,13 @@ use Rattle.cf_run.specs.declared.tally.Tally.{Tally}
 use Rattle.cf_run.specs.Tally.{default_limit, turn_by, turn_of, goes_on, ending_at, nothing, Tallied, IsRun, IsOver}
 use Rattle.cf_run.specs.Counted.{counted_at}
 use Rattle.cf_run.proofs.Stops.{next_when}
+use Rattle.cf_ids.specs.declared.limits.TheConstants.{OBJECTS}
 
 -- ---- work that was trimmed has something left
 
 module _ (objects : List Object) (dropped : List ℕ) where
-  kept_if : (b : ℕ) (work rest : List Work) (none : Bool) → length rest ≤ length work → length (cond none rest (slots_of b ∷ work)) ≤ length (slots_of b ∷ work)
+  kept_if : (b : ℕ) (work rest : List Work) (none : Bool) → length rest ≤ length work
+      → length (cond none rest (slots_of b ∷ work)) ≤ length (slots_of b ∷ work)
   kept_if b work rest true h = omega (arith, h)
   kept_if b work rest false h = omega arith
 
@@ -39,7 +41,8 @@ module _ (objects : List Object) (dropped : List ℕ) where
   trimmed_le (release_of o ∷ work) = omega arith
   trimmed_le (slots_of b ∷ work) = kept_if b work (trimmed objects dropped work) (length (left_of objects dropped b) == 0) (trimmed_le work)
 
-  some_left : (b : ℕ) (work : List Work) → trimmed objects dropped (slots_of b ∷ work) ≡ slots_of b ∷ work → left_of objects dropped b ≡ [] → ⊥
+  some_left : (b : ℕ) (work : List Work) → trimmed objects dropped (slots_of b ∷ work) ≡ slots_of b ∷ work
+      → left_of objects dropped b ≡ [] → ⊥
   some_left b work trim none =
       let gone : trimmed objects dropped work ≡ slots_of b ∷ work = ap (λ (os : List ℕ). cond (length os == 0) (trimmed objects dropped work) (slots_of b ∷ work)) (sym none) ∙ trim in
       omega (arith, ap length gone, trimmed_le work)
@@ -48,12 +51,14 @@ drop_some : (b : ℕ) (dropped left : List ℕ) → drop_of b dropped left ≡ N
 drop_some b dropped [] e = refl
 drop_some b dropped (o ∷ os) e = absurd cc
 
-work_some : (s : Script) (st : State) (work : List Work) → trimmed st.objects st.dropped work ≡ work → worked s st work ≡ None → ⊥
+work_some : (s : Script) (st : State) (work : List Work) → trimmed st.objects st.dropped work ≡ work
+    → worked s st work ≡ None → ⊥
 work_some s st [] trim e = cc
 work_some s st (release_of o ∷ work) trim e = cc
 work_some s st (slots_of b ∷ work) trim e = some_left st.objects st.dropped b work trim (drop_some b st.dropped (left_of st.objects st.dropped b) e)
 
-done_if : (s : Script) (st : State) (d : Bool) → trimmed st.objects st.dropped st.frame.work ≡ st.frame.work → cond d None (worked s st st.frame.work) ≡ None → d ≡ true
+done_if : (s : Script) (st : State) (d : Bool) → trimmed st.objects st.dropped st.frame.work ≡ st.frame.work
+    → cond d None (worked s st st.frame.work) ≡ None → d ≡ true
 done_if s st true trim e = refl
 done_if s st false trim e = absurd (work_some s st st.frame.work trim e)
 
@@ -77,7 +82,9 @@ module _ (w : WorldView) (references : List ℕ) (finals : ℕ) (run : IsRun w r
   abbrev ended : Next → Type 0
   ended n = goes_on (turn_of n) ≡ false → Ends s default_limit w.journal (ending_at (turn_of n))
 
-  at_full : (a : Action) → next_action s st 0 ≡ Some a → (l m f : Bool) → nat_le w.limit (length w.journal) ≡ l → makes s a ≡ m → nat_le 65536 (length (state_of w).objects) ≡ f → ended (cond l Limit (cond (m && f) Full (Act a)))
+  at_full : (a : Action) → next_action s st 0 ≡ Some a → (l m f : Bool) → nat_le w.limit (length w.journal) ≡ l
+      → makes s a ≡ m → nat_le OBJECTS (length (state_of w).objects) ≡ f
+      → ended (cond l Limit (cond (m && f) Full (Act a)))
   at_full a e true m f l mm ff stop = (omega (arith, run.within, run.limit, reached), (next_when true st.frame.is_done (worked s st st.frame.work) a e).1)
     where
       reached : w.limit ≤ length w.journal
@@ -88,17 +95,18 @@ module _ (w : WorldView) (references : List ℕ) (finals : ℕ) (run : IsRun w r
       within_limit : length w.journal < default_limit
       within_limit = let below : length w.journal < w.limit = grind (arith, nat_tests) in omega (arith, below, run.limit)
 
-      all_made : 65536 ≤ length (state_of w).objects
+      all_made : OBJECTS ≤ length (state_of w).objects
       all_made = grind (arith, nat_tests)
   at_full a e false true false l mm ff stop = absurd (act_goes (cut_of a) stop)
   at_full a e false false f l mm ff stop = absurd (act_goes (cut_of a) stop)
 
   at_next : (next : Option Action) → next_action s st 0 ≡ next → ended (next_of s w next)
   at_next None e stop = whole s w.journal run.owned run.legal (done_if s st st.frame.is_done (sound s w.journal run.owned run.legal).worked.trim e)
-  at_next (Some a) e stop = at_full a e (nat_le w.limit (length w.journal)) (makes s a) (nat_le 65536 (length (state_of w).objects)) refl refl refl stop
+  at_next (Some a) e stop = at_full a e (nat_le w.limit (length w.journal)) (makes s a) (nat_le OBJECTS (length (state_of w).objects)) refl refl refl stop
 
   -- the run has the ending that its thread's next says
-  pub ends : goes_on (turn_of (next_in w 0)) ≡ false → Ends s default_limit w.journal (ending_at (turn_of (next_in w 0)))
+  pub ends : goes_on (turn_of (next_in w 0)) ≡ false
+      → Ends s default_limit w.journal (ending_at (turn_of (next_in w 0)))
   ends =
       let here : ended (next_of s w (next_action s (state_of w) 0)) = subst (λ (x : State). ended (next_of s w (next_action s x 0))) (sym state_is) (at_next (next_action s st 0) refl) in
       subst (λ (o : Option Script). ended (next_by o w 0)) (sym run.begun) here
@@ -107,13 +115,22 @@ module _ (w : WorldView) (references : List ℕ) (finals : ℕ) (run : IsRun w r
   tally_same : (m n : Tally) → m.owners ≡ n.owners → m.slots ≡ n.slots → m ≡ n
   tally_same m n p q = rw (p, q) refl
 
-  pub counts : (es : List Edge) (tallies : List Tally) → ((p : Edge → Bool) → count_by p es ≡ count_by p (edges_of (state_of w).edges)) → length tallies ≡ length (state_of w).objects → ((o : ℕ) → o < length (state_of w).objects → slice_index_or tallies o nothing ≡ counted_at o es) → Tallied (length st.objects) st.edges tallies
+  pub counts : (es : List Edge) (tallies : List Tally)
+      → ((p : Edge → Bool) → count_by p es ≡ count_by p (edges_of (state_of w).edges))
+      → length tallies ≡ length (state_of w).objects
+      → ((o : ℕ) → o < length (state_of w).objects → slice_index_or tallies o nothing ≡ counted_at o es)
+      → Tallied (length st.objects) st.edges tallies
   counts es tallies same size at = subst (λ (x : State). Tallied (length x.objects) x.edges tallies) state_is (record {
     size = size;
     at = λ o h. at o h ∙ tally_same (counted_at o es) _ (same (owns o) ∙ count_by-owns o (state_of w).edges) (same (holds o) ∙ count_by-holds o (state_of w).edges);
   })
 
-  pub over : (script : Script) (ending : Ending) (es : List Edge) (tallies : List Tally) → w.script ≡ Some script → goes_on (turn_of (next_in w 0)) ≡ false → ending ≡ ending_at (turn_of (next_in w 0)) → ((p : Edge → Bool) → count_by p es ≡ count_by p (edges_of (state_of w).edges)) → length tallies ≡ length (state_of w).objects → ((o : ℕ) → o < length (state_of w).objects → slice_index_or tallies o nothing ≡ counted_at o es) → IsOver script w ending tallies finals
+  pub over : (script : Script) (ending : Ending) (es : List Edge) (tallies : List Tally) → w.script ≡ Some script
+      → goes_on (turn_of (next_in w 0)) ≡ false → ending ≡ ending_at (turn_of (next_in w 0))
+      → ((p : Edge → Bool) → count_by p es ≡ count_by p (edges_of (state_of w).edges))
+      → length tallies ≡ length (state_of w).objects
+      → ((o : ℕ) → o < length (state_of w).objects → slice_index_or tallies o nothing ≡ counted_at o es)
+      → IsOver script w ending tallies finals
   over script ending es tallies begun stop is same size at = subst (λ (x : Script). IsOver x w ending tallies finals) (same_script s script (sym run.begun ∙ begun)) (record {
     script = run.begun;
     owned = run.owned;

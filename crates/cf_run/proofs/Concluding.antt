@@ -29,6 +29,7 @@ use Rattle.cf_run.specs.Lines.{entries_in, run_text}
 use Rattle.cf_model.specs.Journals.{After, IsWhole}
 use Rattle.cf_run.proofs.Rendered.{run_text-rendering}
 use Rattle.cf_run.proofs.Stops.{run_stops, full_going}
+use Rattle.cf_ids.specs.declared.limits.TheConstants.{OBJECTS}
 
 -- the script of a run
 begun : (script : Option Script) (P : Script → Type 0) → IsSomeAnd script P → (s : Script) × ((script ≡ Some s) × P s)
@@ -39,17 +40,21 @@ begun (Some s) P h = (s, (refl, h))
 abbrev RanBy : List (List ℕ) → (before after : SourceState) → Over → Script → Type 0
 RanBy words before after over s = Accepted words before after s × IsOver s over.world over.ending over.tallies.items over.finals
 
-abbrev journal_is : (s : Script) (over : Over) → IsOver s over.world over.ending over.tallies.items over.finals → IsJournal s over.ending over.world.journal
+abbrev journal_is : (s : Script) (over : Over) → IsOver s over.world over.ending over.tallies.items over.finals
+    → IsJournal s over.ending over.world.journal
 journal_is s over h = record { legal = h.legal; ends = h.ends; finals = finals_fit s over.world.journal h.legal }
 
-abbrev serial_is : (s : Script) (over : Over) → IsOver s over.world over.ending over.tallies.items over.finals → IsSerial s over.world.journal
+abbrev serial_is : (s : Script) (over : Over) → IsOver s over.world over.ending over.tallies.items over.finals
+    → IsSerial s over.world.journal
 serial_is s over h = record { legal = h.legal; order = h.order }
 
-few_tallies : (words : List (List ℕ)) (before after : SourceState) (over : Over) → (s : Script) × ((over.world.script ≡ Some s) × RanBy words before after over s)
-    → length over.tallies.items ≤ 65536
+few_tallies : (words : List (List ℕ)) (before after : SourceState) (over : Over)
+    → (s : Script) × ((over.world.script ≡ Some s) × RanBy words before after over s)
+    → length over.tallies.items ≤ OBJECTS
 few_tallies words before after over (s, (e, h)) = omega (arith, h.1.tallied.size, few_made s over.world.journal h.1.legal)
 
-pub has_few : (words : List (List ℕ)) (before after : SourceState) (s : Settled) → Settles words before after s → HasFew s
+pub has_few : (words : List (List ℕ)) (before after : SourceState) (s : Settled) → Settles words before after s
+    → HasFew s
 has_few words before after settled.Usage h = tt
 has_few words before after settled.ReadFault h = tt
 has_few words before after (settled.Refused r) h = tt
@@ -57,8 +62,10 @@ has_few words before after (settled.Ran over) h = few_tallies words before after
 
 module _ (call : Call) where
   -- a run, in a call with its journal
-  ran_due : (over : Over) → (s : Script) × ((over.world.script ≡ Some s) × RanBy call.words call.source call.source_after over s)
-      → call.journal ≡ entries_in over.world.script over.world.journal → IsDue call (run_text over.world over.ending over.tallies.items over.finals)
+  ran_due : (over : Over)
+      → (s : Script) × ((over.world.script ≡ Some s) × RanBy call.words call.source call.source_after over s)
+      → call.journal ≡ entries_in over.world.script over.world.journal
+      → IsDue call (run_text over.world over.ending over.tallies.items over.finals)
   ran_due over (s, (e, h)) is =
       let same : call.journal ≡ over.world.journal = is ∙ ap (λ (o : Option Script). entries_in o over.world.journal) e in
       run_due s over.ending h.0.read (rw same (journal_is s over h.1)) (rw same (serial_is s over h.1))
@@ -66,7 +73,8 @@ module _ (call : Call) where
       (rw same (run_text-rendering s over.world over.ending over.tallies.items over.finals h.1))
 
   -- what is due of what a command came to
-  due_is : (s : Settled) → Settles call.words call.source call.source_after s → call.journal ≡ entries_of s → IsDue call (due_of s)
+  due_is : (s : Settled) → Settles call.words call.source call.source_after s → call.journal ≡ entries_of s
+      → IsDue call (due_of s)
   due_is settled.Usage h is = usage_due h.0 is refl
   due_is settled.ReadFault h is = fault_due h.0 h.1 is refl
   due_is (settled.Refused r) h is = refusal_due r h.0 is refl
@@ -79,9 +87,12 @@ module _ (call : Call) where
   ended_so endings.Full st x = full st x
   ended_so endings.Stalled st x = absurd x.journal.ends
 
-  ran_whole : (over : Over) → (s : Script) × ((over.world.script ≡ Some s) × RanBy call.words call.source call.source_after over s)
+  ran_whole : (over : Over)
+      → (s : Script) × ((over.world.script ≡ Some s) × RanBy call.words call.source call.source_after over s)
       → call.journal ≡ entries_in over.world.script over.world.journal
-      → call.sink_after.taken ≡ then_bytes call.sink.taken (run_text over.world over.ending over.tallies.items over.finals) → Ran over.ending call
+      → call.sink_after.taken
+      ≡ then_bytes call.sink.taken (run_text over.world over.ending over.tallies.items over.finals)
+      → Ran over.ending call
   ran_whole over (s, (e, h)) is w =
       let same : call.journal ≡ over.world.journal = is ∙ ap (λ (o : Option Script). entries_in o over.world.journal) e in
       record {
@@ -95,7 +106,8 @@ module _ (call : Call) where
         stops = rw same (run_stops s over.world over.ending over.tallies.items over.finals h.1);
       }
 
-  all_written : (s : Settled) → Settles call.words call.source call.source_after s → call.status ≡ status_after (Ok tt) s → call.journal ≡ entries_of s
+  all_written : (s : Settled) → Settles call.words call.source call.source_after s
+      → call.status ≡ status_after (Ok tt) s → call.journal ≡ entries_of s
       → call.sink_after.taken ≡ then_bytes call.sink.taken (due_of s) → Outcome call
   all_written settled.Usage h st e w = misused st (record { words_are = h.0; untouched = h.1; empty = e; written = w })
   all_written settled.ReadFault h st e w = unreadable st (record { words_are = h.0; risen = h.1; empty = e; written = w })
@@ -103,8 +115,11 @@ module _ (call : Call) where
   all_written (settled.Ran over) h st e w =
       ended_so over.ending st (ran_whole over (begun over.world.script (RanBy call.words call.source call.source_after over) h) e w)
 
-  pub concluded : (r : Result (Unit {0}) WriteError) (s : Settled) → Settles call.words call.source call.source_after s → call.status ≡ status_after r s
-      → call.journal ≡ entries_of s → WritesAll r (due_of s) call.sink.taken call.sink_after.taken call.sink.faults call.sink_after.faults → Outcome call
+  pub concluded : (r : Result (Unit {0}) WriteError) (s : Settled) → Settles call.words call.source call.source_after s
+      → call.status ≡ status_after r s
+      → call.journal ≡ entries_of s
+      → WritesAll r (due_of s) call.sink.taken call.sink_after.taken call.sink.faults call.sink_after.faults
+      → Outcome call
   concluded (Ok u) s h st e w = all_written s h st e w.0
   concluded (Err Fault) s h st e w = unwritten st (record { risen = w.1; shortened = record { due = due_of s; is_due = due_is s h e; cut = w.0 } })
   concluded (Err NoMemory) s h st e w = no_memory st (inr (record { due = due_of s; is_due = due_is s h e; cut = w.0 }))
@@ -117,15 +132,20 @@ no_file words file s n = let e : ◌≡◌ {A = Option (List ℕ)} (Some file) N
 taken_file : (words : List (List ℕ)) → IsSome (file_of words) → file_of words ≡ None → ⊥
 taken_file words h n = let e : IsSome {T = List ℕ} None = subst (λ (o : Option (List ℕ)). IsSome o) n h in absurd cc
 
-rejected_file : (words : List (List ℕ)) (files : Option (List File)) (r : Refusal) → IsRefused words files r → file_of words ≡ None → ⊥
+rejected_file : (words : List (List ℕ)) (files : Option (List File)) (r : Refusal) → IsRefused words files r
+    → file_of words ≡ None → ⊥
 rejected_file words files r (inl x) n = no_file words x.file x.named n
 rejected_file words files r (inr x) n = no_file words x.read.file x.read.named n
 
-same_file : (words : List (List ℕ)) (file other : List ℕ) → file_of words ≡ Some file → file_of words ≡ Some other → file ≡ other
+same_file : (words : List (List ℕ)) (file other : List ℕ) → file_of words ≡ Some file → file_of words ≡ Some other
+    → file ≡ other
 same_file words file other a b = let e : ◌≡◌ {A = Option (List ℕ)} (Some file) (Some other) = sym a ∙ b in cc
 
 -- the bytes that were read are those that the source tells
-same_bytes : (words : List (List ℕ)) (files : Option (List File)) (told : List File) (file bytes : List ℕ) (read : List ℕ) → files ≡ Some told → file_of words ≡ Some file → content_of told file ≡ Some bytes → IsRead words files read → read ≡ bytes
+same_bytes : (words : List (List ℕ)) (files : Option (List File)) (told : List File) (file bytes : List ℕ)
+    (read : List ℕ)
+    → files ≡ Some told → file_of words ≡ Some file → content_of told file ≡ Some bytes → IsRead words files read
+    → read ≡ bytes
 same_bytes words files told file bytes read f n c r =
     let there : content_of told r.file ≡ Some read = subst (λ (fs : Option (List File)). IsContent fs r.file read) f r.content in
     let e : ◌≡◌ {A = Option (List ℕ)} (Some read) (Some bytes) = sym there ∙ ap (content_of told) (same_file words r.file file r.named n) ∙ c in cc
@@ -140,11 +160,15 @@ owned_unfit bytes script r t o u =
     let e : u.script ≡ script = cc in
     false≢true (sym u.unfit.0 ∙ ap (λ (s : Script). blocks_fit s.blocks) e ∙ o)
 
-not_both : (bytes : List ℕ) (script : Script) (r : Refusal) → Text bytes script → Owned script → Refused bytes r ⊎ IsUnfit bytes r → ⊥
+not_both : (bytes : List ℕ) (script : Script) (r : Refusal) → Text bytes script → Owned script
+    → Refused bytes r ⊎ IsUnfit bytes r → ⊥
 not_both bytes script r t o (inl u) = text_refused bytes script r t u
 not_both bytes script r t o (inr u) = owned_unfit bytes script r t o u
 
-accepted_refused : (words : List (List ℕ)) (files : Option (List File)) (told : List File) (file bytes : List ℕ) (script : Script) (r : Refusal) → files ≡ Some told → file_of words ≡ Some file → content_of told file ≡ Some bytes → length bytes ≤ script_bytes → Text bytes script → Owned script → IsRefused words files r → ⊥
+accepted_refused : (words : List (List ℕ)) (files : Option (List File)) (told : List File) (file bytes : List ℕ)
+    (script : Script) (r : Refusal)
+    → files ≡ Some told → file_of words ≡ Some file → content_of told file ≡ Some bytes → length bytes ≤ script_bytes
+    → Text bytes script → Owned script → IsRefused words files r → ⊥
 accepted_refused words files told file bytes script r f n c w t o (inl x) =
     let long = subst (λ (fs : Option (List File)). IfSome fs (λ ts. IsSomeAnd (content_of ts x.file) (λ bs. script_bytes < length bs))) f x.long in
     let over : script_bytes < length bytes = subst (λ (o : Option (List ℕ)). IsSomeAnd o (λ bs. script_bytes < length bs)) (ap (content_of told) (same_file words x.file file x.named n) ∙ c) long in
@@ -153,7 +177,10 @@ accepted_refused words files told file bytes script r f n c w t o (inr x) =
     let same = same_bytes words files told file bytes x.bytes f n c x.read in
     not_both bytes script r t o (subst (λ (bs : List ℕ). Refused bs r ⊎ IsUnfit bs r) same x.fault)
 
-refused_accepted : (words : List (List ℕ)) (files : Option (List File)) (told : List File) (file bytes : List ℕ) (script : Script) (r : Refusal) → files ≡ Some told → file_of words ≡ Some file → content_of told file ≡ Some bytes → IsRefusedText bytes r → IsAccepted words files script → ⊥
+refused_accepted : (words : List (List ℕ)) (files : Option (List File)) (told : List File) (file bytes : List ℕ)
+    (script : Script) (r : Refusal)
+    → files ≡ Some told → file_of words ≡ Some file → content_of told file ≡ Some bytes → IsRefusedText bytes r
+    → IsAccepted words files script → ⊥
 refused_accepted words files told file bytes script r f n c (inl x) a =
     let same = same_bytes words files told file bytes a.bytes f n c a.read in
     omega (arith, a.read.within, ap length same, x)
@@ -162,7 +189,10 @@ refused_accepted words files told file bytes script r f n c (inr x) a =
     not_both bytes script r (subst (λ (bs : List ℕ). Text bs script) same a.text) a.owned x
 
 -- a journal whose thread is not done is not whole, of whichever script the bytes are the text
-unfinished : (words : List (List ℕ)) (files : Option (List File)) (told : List File) (file bytes : List ℕ) (script other : Script) (entries : List Entry) → files ≡ Some told → file_of words ≡ Some file → content_of told file ≡ Some bytes → Text bytes script → IsAccepted words files other → (After other entries).frame.is_done ≡ false → IsWhole script entries → ⊥
+unfinished : (words : List (List ℕ)) (files : Option (List File)) (told : List File) (file bytes : List ℕ)
+    (script other : Script) (entries : List Entry)
+    → files ≡ Some told → file_of words ≡ Some file → content_of told file ≡ Some bytes → Text bytes script
+    → IsAccepted words files other → (After other entries).frame.is_done ≡ false → IsWhole script entries → ⊥
 unfinished words files told file bytes script other entries f n c t a going whole =
     let same = same_bytes words files told file bytes a.bytes f n c a.read in
     let read : Text bytes other = subst (λ (bs : List ℕ). Text bs other) same a.text in
@@ -265,7 +295,8 @@ module _ (call : Call) where
   one_of_eight (no_memory st x) = (5, omega arith, sym st)
 
   -- faulty words and no fault
-  misused_or_memory : Outcome call → file_of call.words ≡ None → (SinkFailed call → ⊥) → status_is 2 call ⊎ status_is 6 call
+  misused_or_memory : Outcome call → file_of call.words ≡ None → (SinkFailed call → ⊥)
+      → status_is 2 call ⊎ status_is 6 call
   misused_or_memory (done st x) n q = absurd (no_file call.words x.read.read.file x.read.read.named n)
   misused_or_memory (limited st x) n q = absurd (no_file call.words x.read.read.file x.read.read.named n)
   misused_or_memory (full st x) n q = absurd (no_file call.words x.read.read.file x.read.read.named n)
@@ -276,7 +307,8 @@ module _ (call : Call) where
   misused_or_memory (no_memory st x) n q = inr st
 
   -- an accepted script and no fault
-  runs_or_memory : Outcome call → (script : Script) → ReadsScript call script → Contains (0 ∷ 6 ∷ 7 ∷ 8 ∷ []) call.status
+  runs_or_memory : Outcome call → (script : Script) → ReadsScript call script
+      → Contains (0 ∷ 6 ∷ 7 ∷ 8 ∷ []) call.status
   runs_or_memory (done st x) script h = (0, omega arith, sym st)
   runs_or_memory (limited st x) script h = (2, omega arith, sym st)
   runs_or_memory (full st x) script h = (3, omega arith, sym st)
@@ -288,13 +320,15 @@ module _ (call : Call) where
   runs_or_memory (no_memory st x) script h = (1, omega arith, sym st)
 
   -- a journal whose thread is not done is not whole
-  stopped : (ending : Ending) (script : Script) (h : ReadsScript call script) (x : Ran ending call) → (After x.script call.journal).frame.is_done ≡ false
+  stopped : (ending : Ending) (script : Script) (h : ReadsScript call script) (x : Ran ending call)
+      → (After x.script call.journal).frame.is_done ≡ false
       → IsWhole script call.journal → ⊥
   stopped ending script h x going whole = unfinished call.words call.source.files h.reads.told h.reads.file h.bytes script x.script call.journal
       h.reads.tells h.reads.named h.reads.content h.text x.read going whole
 
   -- an accepted script whose journal is whole, and no fault
-  done_or_memory : Outcome call → (script : Script) → ReadsScript call script → IsWhole script call.journal → status_is 0 call ⊎ status_is 6 call
+  done_or_memory : Outcome call → (script : Script) → ReadsScript call script → IsWhole script call.journal
+      → status_is 0 call ⊎ status_is 6 call
   done_or_memory (done st x) script h whole = inl st
   done_or_memory (limited st x) script h whole = absurd (stopped endings.Limit script h x x.journal.ends.1 whole)
   done_or_memory (full st x) script h whole =
@@ -307,11 +341,14 @@ module _ (call : Call) where
   done_or_memory (no_memory st x) script h whole = inr st
 
   -- refused bytes and no fault
-  ran_refused : (ending : Ending) (bytes : List ℕ) (r : Refusal) (h : Reads call bytes) (refused : IsRefusedText bytes r) → Ran ending call → ⊥
+  ran_refused : (ending : Ending) (bytes : List ℕ) (r : Refusal) (h : Reads call bytes)
+      (refused : IsRefusedText bytes r)
+      → Ran ending call → ⊥
   ran_refused ending bytes r h refused x =
       refused_accepted call.words call.source.files h.told h.file bytes x.script r h.tells h.named h.content refused x.read
 
-  rejected_or_memory : Outcome call → (bytes : List ℕ) (r : Refusal) → Reads call bytes → IsRefusedText bytes r → status_is 3 call ⊎ status_is 6 call
+  rejected_or_memory : Outcome call → (bytes : List ℕ) (r : Refusal) → Reads call bytes → IsRefusedText bytes r
+      → status_is 3 call ⊎ status_is 6 call
   rejected_or_memory (done st x) bytes r h refused = absurd (ran_refused endings.Done bytes r h refused x)
   rejected_or_memory (limited st x) bytes r h refused = absurd (ran_refused endings.Limit bytes r h refused x)
   rejected_or_memory (full st x) bytes r h refused = absurd (ran_refused endings.Full bytes r h refused x)

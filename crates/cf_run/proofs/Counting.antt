@@ -7,9 +7,9 @@ use Rattle.std.proofs.Math.ListN.{length-set}
 use Rattle.cf_ids.specs.declared.answer.Ended.TheVariants.{More, Last}
 use Rattle.cf_syntax.specs.declared.script.Script.{Script}
 use Rattle.cf_syntax.specs.declared.statement.Statement.{Statement}
-use Rattle.cf_syntax.specs.declared.statement.Touch.{Touch}
-use Rattle.cf_syntax.specs.declared.statement.Touch.TheVariants.{Nothing, Binds, Plus, Minus}
-use Rattle.cf_syntax.specs.Forms.{touch_of}
+use Rattle.cf_syntax.specs.declared.statement.Ownership.{Ownership}
+use Rattle.cf_syntax.specs.declared.statement.Ownership.TheVariants.{Keeps, Binds, Retains, Releases}
+use Rattle.cf_syntax.specs.Forms.{ownership_of}
 use Rattle.cf_syntax.specs.Owned.{Owned}
 use Rattle.cf_ids.specs.declared.answer.Answer.{Answer}
 use Rattle.cf_graph.specs.Edges.{counted}
@@ -34,6 +34,7 @@ use Rattle.cf_world.proofs.Acting.{acts_next, entered_is}
 use Rattle.cf_run.specs.Tally.{grown, lowered, finals_by, AreDegrees, IsRun}
 use Rattle.cf_run.proofs.Stops.{picked_setup}
 use Rattle.cf_run.proofs.Raising.{one_most, times-contains, times_le-length, index_lowered, index-past, index-grown}
+use Rattle.cf_ids.specs.declared.limits.TheConstants.{OBJECTS}
 
 -- ---- an entry that takes a reference away gains none, and makes no object
 
@@ -41,7 +42,7 @@ record IsCut (st : State) (step : Step) : Type 0 where
   pub gains : gained_by step.operations ≡ []
   pub makes : length step.objects ≡ length st.objects
 
-no_cut : (o : Option ℕ) (p : ℕ) → cut_by Nothing o ≡ Some p → ⊥
+no_cut : (o : Option ℕ) (p : ℕ) → cut_by Keeps o ≡ Some p → ⊥
 no_cut None p e = cc
 no_cut (Some o) p e = cc
 
@@ -49,25 +50,29 @@ bound_no_cut : (v : ℕ) (o : Option ℕ) (p : ℕ) → cut_by (Binds v) o ≡ S
 bound_no_cut v None p e = cc
 bound_no_cut v (Some o) p e = cc
 
-plus_no_cut : (v : ℕ) (o : Option ℕ) (p : ℕ) → cut_by (Plus v) o ≡ Some p → ⊥
+plus_no_cut : (v : ℕ) (o : Option ℕ) (p : ℕ) → cut_by (Retains v) o ≡ Some p → ⊥
 plus_no_cut v None p e = cc
 plus_no_cut v (Some o) p e = cc
 
-touch_cuts : (t : ℕ) (touch : Touch) (answer : Answer) (origin : Origin) (used : Option ℕ) (change : Change) (st : State) (o : ℕ) → cut_by touch used ≡ Some o → IsCut st (touch_step t touch answer origin used change st)
-touch_cuts t Nothing answer origin used change st o e = absurd (no_cut used o e)
+touch_cuts : (t : ℕ) (ownership : Ownership) (answer : Answer) (origin : Origin) (used : Option ℕ) (change : Change)
+    (st : State) (o : ℕ)
+    → cut_by ownership used ≡ Some o → IsCut st (touch_step t ownership answer origin used change st)
+touch_cuts t Keeps answer origin used change st o e = absurd (no_cut used o e)
 touch_cuts t (Binds v) answer origin used change st o e = absurd (bound_no_cut v used o e)
-touch_cuts t (Plus v) answer origin used change st o e = absurd (plus_no_cut v used o e)
-touch_cuts t (Minus v) answer origin None change st o e = absurd (let none : ◌≡◌ {A = Option ℕ} None (Some o) = e in cc)
-touch_cuts t (Minus v) answer origin (Some p) change st o e = record { gains = refl; makes = ap length (append-nil st.objects) }
+touch_cuts t (Retains v) answer origin used change st o e = absurd (plus_no_cut v used o e)
+touch_cuts t (Releases v) answer origin None change st o e = absurd (let none : ◌≡◌ {A = Option ℕ} None (Some o) = e in cc)
+touch_cuts t (Releases v) answer origin (Some p) change st o e = record { gains = refl; makes = ap length (append-nil st.objects) }
 
-frame_cuts : (s : Script) (t : ℕ) (st : State) (x : Option Statement) (o : ℕ) → (frame_step s.classes t st x).cuts ≡ Some o → IsCut st (frame_step s.classes t st x)
+frame_cuts : (s : Script) (t : ℕ) (st : State) (x : Option Statement) (o : ℕ)
+    → (frame_step s.classes t st x).cuts ≡ Some o → IsCut st (frame_step s.classes t st x)
 frame_cuts s t st None o e = absurd (let none : ◌≡◌ {A = Option ℕ} None (Some o) = e in cc)
 frame_cuts s t st (Some x) o e =
     let site = site_in st.frame x in
     let deed = deed_at s.classes st.objects x site.used in
-    touch_cuts t (touch_of x) deed.answer deed.origin (first_of site.used) deed.change st o (sym (touch_cut t (touch_of x) deed.answer deed.origin (first_of site.used) deed.change st) ∙ e)
+    touch_cuts t (ownership_of x) deed.answer deed.origin (first_of site.used) deed.change st o (sym (touch_cut t (ownership_of x) deed.answer deed.origin (first_of site.used) deed.change st) ∙ e)
 
-demand_cuts : (s : Script) (t : ℕ) (st : State) (a : Action) (o : ℕ) → Demand s st st.frame.work a → (step_for s t st a).cuts ≡ Some o → IsCut st (step_for s t st a)
+demand_cuts : (s : Script) (t : ℕ) (st : State) (a : Action) (o : ℕ) → Demand s st st.frame.work a
+    → (step_for s t st a).cuts ≡ Some o → IsCut st (step_for s t st a)
 demand_cuts s t st a o (of_frame w e) cut =
     let step : step_for s t st a ≡ frame_step s.classes t st (statement_in s st.frame.block st.frame.number) = ap (step_for s t st) e ∙ step_for-demanded s t st in
     subst (IsCut st) (sym step) (frame_cuts s t st (statement_in s st.frame.block st.frame.number) o (sym (ap (λ (x : Step). x.cuts) step) ∙ cut))
@@ -75,7 +80,8 @@ demand_cuts s t st a o (of_owed p rest w e) cut = subst (λ (x : Action). IsCut 
 demand_cuts s t st a o (of_slot b p rest os w l e) cut = subst (λ (x : Action). IsCut st (step_for s t st x)) (sym e) (record { gains = refl; makes = refl })
 
 -- the next action is legal
-next_legal : (s : Script) (st : State) (a : Action) → Owned s → IsSound s st → next_action s st 0 ≡ Some a → (IsTrue (makes s a) → length st.objects < 65536) → IsLegalEntry s st (entry_of s 0 st a)
+next_legal : (s : Script) (st : State) (a : Action) → Owned s → IsSound s st → next_action s st 0 ≡ Some a
+    → (IsTrue (makes s a) → length st.objects < OBJECTS) → IsLegalEntry s st (entry_of s 0 st a)
 next_legal s st a own h next room = by (legal_is_demanded s st (entry_of s 0 st a) next)
   where
     by : IsDemanded s st (entry_of s 0 st a) → IsLegalEntry s st (entry_of s 0 st a)
@@ -125,7 +131,8 @@ module _ (w w' : WorldView) (references : List ℕ) (finals : ℕ) (run : IsRun 
   state_is = ap (λ (o : Option Script). state_in o w.journal) run.begun
 
   -- the world after the entry
-  is_now : w' ≡ record { script = w.script; limit = w.limit; journal = w.journal ++ e ∷ []; gained = gained s 0 st a; room = None }
+  is_now : w' ≡ record
+      { script = w.script; limit = w.limit; journal = w.journal ++ e ∷ []; gained = gained s 0 st a; room = None }
   is_now = is ∙ entered_is s w 0 a run.begun refl acts ∙ ap (λ (x : State). record { script = w.script; limit = w.limit; journal = w.journal ++ entry_of s 0 x a ∷ []; gained = gained s 0 x a; room = None }) state_is
 
   pub journal_is : w'.journal ≡ w.journal ++ e ∷ []
@@ -149,8 +156,9 @@ module _ (w w' : WorldView) (references : List ℕ) (finals : ℕ) (run : IsRun 
   after_is : after ≡ effect s 0 st a
   after_is = ap (After s) journal_is ∙ state_from-append s start w.journal (e ∷ [])
 
-  acts_now : (next_action s st 0 ≡ Some a) × ((length w.journal < w.limit) × (makes s a ≡ true → length st.objects < 65536))
-  acts_now = subst (λ (x : State). (next_action s x 0 ≡ Some a) × ((length w.journal < w.limit) × (makes s a ≡ true → length x.objects < 65536))) state_is (acts_next s w (next_action s (state_of w) 0) a (ap (λ (o : Option Script). act_in (next_by o w 0)) (sym run.begun) ∙ acts))
+  acts_now : (next_action s st 0 ≡ Some a)
+      × ((length w.journal < w.limit) × (makes s a ≡ true → length st.objects < OBJECTS))
+  acts_now = subst (λ (x : State). (next_action s x 0 ≡ Some a) × ((length w.journal < w.limit) × (makes s a ≡ true → length x.objects < OBJECTS))) state_is (acts_next s w (next_action s (state_of w) 0) a (ap (λ (o : Option Script). act_in (next_by o w 0)) (sym run.begun) ∙ acts))
 
   below : length w.journal < w.limit
   below = acts_now.1.0
@@ -182,7 +190,9 @@ module _ (w w' : WorldView) (references : List ℕ) (finals : ℕ) (run : IsRun 
   finalised_size = ap length finalised_is ∙ length-append (finals_of (cut_of a) after.edges) st.finalised ∙ ap (λ (n : ℕ). length (finals_of (cut_of a) after.edges) + n) (sym run.count)
 
   -- the run after the entry, by its numbers
-  run_after : (references' : List ℕ) (finals' : ℕ) → length w.journal < w.limit → length w'.gained ≤ 2 → AreDegrees (length after.objects) after.edges references' → finals' ≡ length after.finalised → IsRun w' references' finals'
+  run_after : (references' : List ℕ) (finals' : ℕ) → length w.journal < w.limit → length w'.gained ≤ 2
+      → AreDegrees (length after.objects) after.edges references' → finals' ≡ length after.finalised
+      → IsRun w' references' finals'
   run_after references' finals' below gains counts count = record {
     script = s;
     begun = script_is ∙ run.begun;
@@ -228,7 +238,8 @@ module _ (w w' : WorldView) (references : List ℕ) (finals : ℕ) (run : IsRun 
     pub cut_ends : ended_at (slice_index references o) ≡ ended_at (degree o (state_of w).edges)
     cut_ends = ap ended_at at_cut ∙ ap (λ (x : State). ended_at (degree o x.edges)) (sym state_is)
 
-    pub run_cut : (references' : List ℕ) (finals' : ℕ) → references' ≡ lowered o references → finals' ≡ finals + finals_by (ended_at (slice_index references o)) → IsRun w' references' finals'
+    pub run_cut : (references' : List ℕ) (finals' : ℕ) → references' ≡ lowered o references
+        → finals' ≡ finals + finals_by (ended_at (slice_index references o)) → IsRun w' references' finals'
     run_cut references' finals' r f =
         run_after references' finals' below (omega (arith, ap length no_gain))
         (record {
@@ -261,7 +272,8 @@ module _ (w w' : WorldView) (references : List ℕ) (finals : ℕ) (run : IsRun 
       pub size : length now ≡ length after.objects
       pub at : (p : ℕ) → slice_index now p ≡ degree p st.edges
 
-    grown_if : (b : Bool) (made : ℕ) → nat_lt (length references) made ≡ b → made ≡ length after.objects → IsGrown (cond b (references ++ 0 ∷ []) references)
+    grown_if : (b : Bool) (made : ℕ) → nat_lt (length references) made ≡ b → made ≡ length after.objects
+        → IsGrown (cond b (references ++ 0 ∷ []) references)
     grown_if true made t m =
         let less : length references < made = grind (arith, nat_tests) in
         record {
@@ -275,16 +287,21 @@ module _ (w w' : WorldView) (references : List ℕ) (finals : ℕ) (run : IsRun 
           at = before_at;
         }
 
-    pub gain_grown : (made : ℕ) (now : List ℕ) → made ≡ length (state_of w').objects → now ≡ grown made references → IsGrown now
+    pub gain_grown : (made : ℕ) (now : List ℕ) → made ≡ length (state_of w').objects → now ≡ grown made references
+        → IsGrown now
     gain_grown made now m e = rw e (grown_if (nat_lt (length references) made) made refl (made_is made m))
 
     pub gain_made : (now : List ℕ) → IsGrown now → (p : ℕ) → Contains w'.gained p → p < length now
     gain_made now g p c = omega (arith, g.size, made_now p (omega (arith, degree_gain p, times-contains p w'.gained c)))
 
-    pub gain_fits : (now : List ℕ) → IsGrown now → length w'.gained ≤ 2 → (p : ℕ) → slice_index now p + length w'.gained < 2 ^ 64
+    pub gain_fits : (now : List ℕ) → IsGrown now → length w'.gained ≤ 2 → (p : ℕ)
+        → slice_index now p + length w'.gained < 2 ^ 64
     gain_fits now g gains p = omega (arith, g.at p, run.few p, run.within, run.limit, gains)
 
-    pub run_gained : (now references' : List ℕ) (finals' : ℕ) → IsGrown now → length w'.gained ≤ 2 → length references' ≡ length now → ((p : ℕ) → p < length now → slice_index references' p ≡ slice_index now p + times p w'.gained) → finals' ≡ finals → IsRun w' references' finals'
+    pub run_gained : (now references' : List ℕ) (finals' : ℕ) → IsGrown now → length w'.gained ≤ 2
+        → length references' ≡ length now
+        → ((p : ℕ) → p < length now → slice_index references' p ≡ slice_index now p + times p w'.gained)
+        → finals' ≡ finals → IsRun w' references' finals'
     run_gained now references' finals' g gains size at f =
         run_after references' finals' below gains
         (record { size = size ∙ g.size; at = λ p h. omega (arith, at p (omega (arith, g.size, h)), g.at p, degree_gain p) })

@@ -29,14 +29,16 @@ pub times-contains : (o : ℕ) (xs : List ℕ) → Contains xs o → 0 < times o
 times-contains o xs (i, h, e) = times-at xs i o o h e
 
 -- one more for an object
-pub index_raised : (references : List ℕ) (o p : ℕ) → o < length references → slice_index (raised o references) p ≡ slice_index references p + cond {A = ℕ} (eqb o p) 1 0
+pub index_raised : (references : List ℕ) (o p : ℕ) → o < length references
+    → slice_index (raised o references) p ≡ slice_index references p + cond {A = ℕ} (eqb o p) 1 0
 index_raised references o p h = elim (eqb_tells o p) [
   | inl same ↦ subst (λ (q : ℕ). slice_index (raised o references) q ≡ slice_index references q + cond {A = ℕ} (eqb o q) 1 0) same.1 (get_or-set_same references o (slice_index references o + 1) 0 h ∙ sym (ap (λ (b : Bool). slice_index references o + cond {A = ℕ} b 1 0) (eq-eqb o o refl)))
   | inr other ↦ get_or-set_other references o p (slice_index references o + 1) 0 (λ e. other.1 (sym e)) ∙ sym (omega (arith, ap (λ (b : Bool). cond {A = ℕ} b 1 0) other.0))
 ]
 
 -- one less
-pub index_lowered : (references : List ℕ) (o p : ℕ) → o < length references → 0 < slice_index references o → slice_index (lowered o references) p + cond {A = ℕ} (eqb o p) 1 0 ≡ slice_index references p
+pub index_lowered : (references : List ℕ) (o p : ℕ) → o < length references → 0 < slice_index references o
+    → slice_index (lowered o references) p + cond {A = ℕ} (eqb o p) 1 0 ≡ slice_index references p
 index_lowered references o p h some = elim (eqb_tells o p) [
   | inl same ↦ subst (λ (q : ℕ). slice_index (lowered o references) q + cond {A = ℕ} (eqb o q) 1 0 ≡ slice_index references q) same.1 (omega (arith, some, get_or-set_same references o (slice_index references o - 1) 0 h, ap (λ (b : Bool). cond {A = ℕ} b 1 0) (eq-eqb o o refl)))
   | inr other ↦ omega (arith, get_or-set_other references o p (slice_index references o - 1) 0 (λ e. other.1 (sym e)), ap (λ (b : Bool). cond {A = ℕ} b 1 0) other.0)
@@ -62,7 +64,9 @@ pub record IsRaised (references : List ℕ) (gained : List ℕ) (i : ℕ) (now :
 pub raised_none : (references gained : List ℕ) → IsRaised references gained 0 references
 raised_none references gained = record { size = refl; at = λ o h. omega arith }
 
-pub raised_more : (references gained : List ℕ) (i item : ℕ) (now next : List ℕ) → i < length gained → item ≡ get_or gained i item → item < length references → next ≡ raised item now → IsRaised references gained i now → IsRaised references gained (i + 1) next
+pub raised_more : (references gained : List ℕ) (i item : ℕ) (now next : List ℕ) → i < length gained
+    → item ≡ get_or gained i item → item < length references → next ≡ raised item now
+    → IsRaised references gained i now → IsRaised references gained (i + 1) next
 raised_more references gained i item now next lt is here e h = record {
   size = ap length e ∙ length-set now item (slice_index now item + 1) ∙ h.size;
   at = λ o below.

@@ -37,7 +37,8 @@ left_test m (suc a) b n s h =
     let no : (suc a == 0) ≡ false = grind (arith, nat_tests) in
     rw (e, no) refl
 
-cond_not : (b : Bool) (line : List ℕ) → cond {A = List (List ℕ)} b [] (line ∷ []) ≡ cond {A = List (List ℕ)} (not b) (line ∷ []) []
+cond_not : (b : Bool) (line : List ℕ)
+    → cond {A = List (List ℕ)} b [] (line ∷ []) ≡ cond {A = List (List ℕ)} (not b) (line ∷ []) []
 cond_not true line = refl
 cond_not false line = refl
 
@@ -45,7 +46,9 @@ cond_not false line = refl
 abbrev tally_of : ℕ → List Reference → Tally
 tally_of k es = record { owners = weigh (owning k) es; slots = weigh (holding k) es }
 
-object_same : (classes : List ClassLine) (k : ℕ) (ob : Object) (st : State) → times k st.finalised + counted (nat_lt 0 (degree k st.edges)) ≡ 1 → alive_if classes k (Some ob.class) (tally_of k st.edges) ≡ alive_from classes k (ob ∷ []) st
+object_same : (classes : List ClassLine) (k : ℕ) (ob : Object) (st : State)
+    → times k st.finalised + counted (nat_lt 0 (degree k st.edges)) ≡ 1
+    → alive_if classes k (Some ob.class) (tally_of k st.edges) ≡ alive_from classes k (ob ∷ []) st
 object_same classes k ob st balance =
     let owners = weigh (owning k) st.edges in
     let slots = weigh (holding k) st.edges in
@@ -54,19 +57,23 @@ object_same classes k ob st balance =
     ∙ ap (λ (b : Bool). cond {A = List (List ℕ)} b (line ∷ []) []) (sym (left_test (times k st.finalised) owners slots (degree k st.edges) (weigh-sides k st.edges) balance))
     ∙ sym (append-nil (cond {A = List (List ℕ)} (times k st.finalised == 0) (line ∷ []) []))
 
-alive_from-append : (classes : List ClassLine) (k : ℕ) (xs ys : List Object) (st : State) → alive_from classes k (xs ++ ys) st ≡ alive_from classes k xs st ++ alive_from classes (k + length xs) ys st
+alive_from-append : (classes : List ClassLine) (k : ℕ) (xs ys : List Object) (st : State)
+    → alive_from classes k (xs ++ ys) st ≡ alive_from classes k xs st ++ alive_from classes (k + length xs) ys st
 alive_from-append classes k [] ys st = rw add-zero refl
 alive_from-append classes k (x ∷ xs) ys st =
     let place : k + 1 + length xs ≡ k + suc (length xs) = omega arith in
     rw (alive_from-append classes (k + 1) xs ys st, place) (sym (append_assoc (cond {A = List (List ℕ)} (times k st.finalised == 0) (alive_line classes k x st.edges ∷ []) []) (alive_from classes (k + 1) xs st) (alive_from classes (k + suc (length xs)) ys st)))
 
-class_read : (objects : List Object) (i : ℕ) (d : Object) → i < length objects → class_at objects i ≡ Some (slice_index_or objects i d).class
+class_read : (objects : List Object) (i : ℕ) (d : Object) → i < length objects
+    → class_at objects i ≡ Some (slice_index_or objects i d).class
 class_read [] i d h = absurd (omega arith)
 class_read (ob ∷ obs) zero d h = refl
 class_read (ob ∷ obs) (suc i) d h = class_read obs i d (omega arith)
 
 -- the lines below a number are those of the first objects
-alive_same : (classes : List ClassLine) (st : State) (tallies : List Tally) (d : Object) → Tallied (length st.objects) st.edges tallies → IsBalanced st → (n : ℕ) → n ≤ length st.objects → alive_below classes st.objects tallies n ≡ alive_from classes 0 (take n st.objects) st
+alive_same : (classes : List ClassLine) (st : State) (tallies : List Tally) (d : Object)
+    → Tallied (length st.objects) st.edges tallies → IsBalanced st → (n : ℕ) → n ≤ length st.objects
+    → alive_below classes st.objects tallies n ≡ alive_from classes 0 (take n st.objects) st
 alive_same classes st tallies d tallied balance zero h = refl
 alive_same classes st tallies d tallied balance (suc n) h =
     let lt : n < length st.objects = omega arith in
@@ -89,7 +96,8 @@ text_by script journal ending tallies finals =
     text_of_lines (entry_lines (classes_in script) journal) ++ text_of_lines (ends_of (classes_in script) ending (length journal) (state_in script journal).objects tallies finals)
 
 -- the text of a run that is over is the rendering of its journal
-pub run_text-rendering : (s : Script) (w : WorldView) (ending : Ending) (tallies : List Tally) (finals : ℕ) → IsOver s w ending tallies finals → run_text w ending tallies finals ≡ rendering s w.journal ending
+pub run_text-rendering : (s : Script) (w : WorldView) (ending : Ending) (tallies : List Tally) (finals : ℕ)
+    → IsOver s w ending tallies finals → run_text w ending tallies finals ≡ rendering s w.journal ending
 run_text-rendering s w ending tallies finals over =
     let journal = w.journal in
     let st = After s journal in

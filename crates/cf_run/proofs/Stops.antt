@@ -26,7 +26,8 @@ picked_setup s st (suc (suc p)) h e = absurd (omega arith)
 none_some : (a : Action) → ◌≡◌ {A = Option Action} None (Some a) → ⊥
 none_some a h = cc
 
-pub next_when : (here over : Bool) (act : Option Action) (a : Action) → cond here (cond over None act) None ≡ Some a → (here ≡ true) × (over ≡ false)
+pub next_when : (here over : Bool) (act : Option Action) (a : Action) → cond here (cond over None act) None ≡ Some a
+    → (here ≡ true) × (over ≡ false)
 next_when true true act a h = absurd (none_some a h)
 next_when true false act a h = (refl, refl)
 next_when false over act a h = absurd (none_some a h)
@@ -45,7 +46,8 @@ full_stops s es pointer full =
     subst (λ (o : Option ℕ). IsSomeAnd o (λ t. IsSomeAnd (Next s st t) (λ a. IsTrue (makes s a)))) (sym pick)
     (subst (λ (o : Option Action). IsSomeAnd o (λ a. IsTrue (makes s a))) (sym next) full.making)
 
-pub run_stops : (s : Script) (w : WorldView) (ending : Ending) (tallies : List Tally) (finals : ℕ) → IsOver s w ending tallies finals → StopsSerially s ending w.journal
+pub run_stops : (s : Script) (w : WorldView) (ending : Ending) (tallies : List Tally) (finals : ℕ)
+    → IsOver s w ending tallies finals → StopsSerially s ending w.journal
 run_stops s w Done tallies finals over = tt
 run_stops s w Limit tallies finals over = tt
 run_stops s w Full tallies finals over = full_stops s w.journal over.pointer over.ends.1

@@ -19,17 +19,21 @@ pub record IsTallied (made : ℕ) (es : List Edge) (tallies : List Tally) : Type
   pub at : (o : ℕ) → o < made → slice_index_or tallies o nothing ≡ counted_at o es
 
 -- of how many references each number is
-pub few_counted : (o : ℕ) (es : List Edge) → ((counted_at o es).owners ≤ length es) × ((counted_at o es).slots ≤ length es)
+pub few_counted : (o : ℕ) (es : List Edge)
+    → ((counted_at o es).owners ≤ length es) × ((counted_at o es).slots ≤ length es)
 few_counted o es = (count_by-le-length (owns o) es, count_by-le-length (holds o) es)
 
-count_push : (p : Edge → Bool) (es : List Edge) (e : Edge) → count_by p (es ++ e ∷ []) ≡ count_by p es + cond {A = ℕ} (p e) 1 0
+count_push : (p : Edge → Bool) (es : List Edge) (e : Edge)
+    → count_by p (es ++ e ∷ []) ≡ count_by p es + cond {A = ℕ} (p e) 1 0
 count_push p es e = sum_by-append (λ (x : Edge). cond {A = ℕ} (p x) 1 0) es (e ∷ []) ∙ omega arith
 
-tally_is : (a b m n : ℕ) → a ≡ m → b ≡ n → ◌≡◌ {A = Tally} (record { owners = a; slots = b }) (record { owners = m; slots = n })
+tally_is : (a b m n : ℕ) → a ≡ m → b ≡ n
+    → ◌≡◌ {A = Tally} (record { owners = a; slots = b }) (record { owners = m; slots = n })
 tally_is a b m n p q = rw (p, q) refl
 
 -- one reference more, to its own object and to another
-own_more : (owning : Bool) (o : ℕ) (es : List Edge) (e : Edge) → e.object ≡ o → is_owning e.owner ≡ owning → counted_at o (es ++ e ∷ []) ≡ with_edge (counted_at o es) e
+own_more : (owning : Bool) (o : ℕ) (es : List Edge) (e : Edge) → e.object ≡ o → is_owning e.owner ≡ owning
+    → counted_at o (es ++ e ∷ []) ≡ with_edge (counted_at o es) e
 own_more true o es e here own =
     let leads : eqb e.object o ≡ true = eq-eqb e.object o here in
     rw own (tally_is _ _ (count_by (owns o) es + 1) (count_by (holds o) es)
@@ -41,7 +45,8 @@ own_more false o es e here own =
     (count_push (owns o) es e ∙ ap (λ (b : Bool). count_by (owns o) es + cond {A = ℕ} (b && is_owning e.owner) 1 0) leads ∙ ap (λ (b : Bool). count_by (owns o) es + cond {A = ℕ} b 1 0) own ∙ omega arith)
     (count_push (holds o) es e ∙ ap (λ (b : Bool). count_by (holds o) es + cond {A = ℕ} (b && not (is_owning e.owner)) 1 0) leads ∙ ap (λ (b : Bool). count_by (holds o) es + cond {A = ℕ} (not b) 1 0) own))
 
-other_more : (o : ℕ) (es : List Edge) (e : Edge) → eqb e.object o ≡ false → counted_at o (es ++ e ∷ []) ≡ counted_at o es
+other_more : (o : ℕ) (es : List Edge) (e : Edge) → eqb e.object o ≡ false
+    → counted_at o (es ++ e ∷ []) ≡ counted_at o es
 other_more o es e apart =
     tally_is _ _ (count_by (owns o) es) (count_by (holds o) es)
     (count_push (owns o) es e ∙ ap (λ (b : Bool). count_by (owns o) es + cond {A = ℕ} (b && is_owning e.owner) 1 0) apart ∙ omega arith)
@@ -52,7 +57,9 @@ module _ (made : ℕ) (es : List Edge) (i : ℕ) (e : Edge) (lt : i < length es)
   more = take_more es i e lt ∙ ap (λ (x : Edge). take i es ++ x ∷ []) (sym is)
 
   -- the counts with one reference more, which leads to an object that was made
-  tallied_here : (tallies : List Tally) → e.object < made → IsTallied made (take i es) tallies → IsTallied made (take (i + 1) es) (slice_set tallies e.object (with_edge (slice_index_or tallies e.object nothing) e))
+  tallied_here : (tallies : List Tally) → e.object < made → IsTallied made (take i es) tallies
+      → IsTallied made (take (i + 1) es)
+      (slice_set tallies e.object (with_edge (slice_index_or tallies e.object nothing) e))
   tallied_here tallies here h = record {
     size = length-set tallies e.object _ ∙ h.size;
     at = λ o below. elim (eqb_tells e.object o) [
@@ -69,7 +76,8 @@ module _ (made : ℕ) (es : List Edge) (i : ℕ) (e : Edge) (lt : i < length es)
   }
 
   -- and which leads elsewhere
-  tallied_past : (tallies : List Tally) → made ≤ e.object → IsTallied made (take i es) tallies → IsTallied made (take (i + 1) es) tallies
+  tallied_past : (tallies : List Tally) → made ≤ e.object → IsTallied made (take i es) tallies
+      → IsTallied made (take (i + 1) es) tallies
   tallied_past tallies past h = record {
     size = h.size;
     at = λ o below. elim (eqb_tells e.object o) [
@@ -79,15 +87,20 @@ module _ (made : ℕ) (es : List Edge) (i : ℕ) (e : Edge) (lt : i < length es)
   }
 
   -- the counts with it, wherever it leads
-  tallied_if : (tallies : List Tally) (b : Bool) → nat_lt e.object (length tallies) ≡ b → IsTallied made (take i es) tallies → IsTallied made (take (i + 1) es) (cond b (slice_set tallies e.object (with_edge (slice_index_or tallies e.object nothing) e)) tallies)
+  tallied_if : (tallies : List Tally) (b : Bool) → nat_lt e.object (length tallies) ≡ b
+      → IsTallied made (take i es) tallies
+      → IsTallied made (take (i + 1) es)
+      (cond b (slice_set tallies e.object (with_edge (slice_index_or tallies e.object nothing) e)) tallies)
   tallied_if tallies true t h = tallied_here tallies (let lt : e.object < length tallies = grind (arith, nat_tests) in omega (arith, lt, h.size)) h
   tallied_if tallies false t h = tallied_past tallies (let le : length tallies ≤ e.object = grind (arith, nat_tests) in omega (arith, le, h.size)) h
 
-  pub tallied_more : (tallies next : List Tally) → next ≡ with_tally tallies e → IsTallied made (take i es) tallies → IsTallied made (take (i + 1) es) next
+  pub tallied_more : (tallies next : List Tally) → next ≡ with_tally tallies e → IsTallied made (take i es) tallies
+      → IsTallied made (take (i + 1) es) next
   tallied_more tallies next q h = rw q (tallied_if tallies (nat_lt e.object (length tallies)) refl h)
 
   -- there is room for one more
-  pub tally_fits : (tallies : List Tally) → length es + 1 < 2 ^ 64 → IsTallied made (take i es) tallies → CanTally tallies e
+  pub tally_fits : (tallies : List Tally) → length es + 1 < 2 ^ 64 → IsTallied made (take i es) tallies
+      → CanTally tallies e
   tally_fits tallies few h here =
       let at = h.at e.object (omega (arith, h.size, here)) in
       let most = few_counted e.object (take i es) in

@@ -29,7 +29,9 @@ at_word (v ∷ ws) zero h = refl
 at_word (v ∷ ws) (suc i) h = let more : suc i + 1 ≡ suc (i + 1) = omega arith in rw more (at_word ws i (omega arith))
 
 -- one word more is written
-pub word_written : (ws : List (List ℕ)) (i : ℕ) (line after all : List ℕ) → i < length ws → after ≡ line ++ (gap i ++ slice_index_or ws i []) → line ++ rest_of i (drop i ws) ≡ all → after ++ rest_of (i + 1) (drop (i + 1) ws) ≡ all
+pub word_written : (ws : List (List ℕ)) (i : ℕ) (line after all : List ℕ) → i < length ws
+    → after ≡ line ++ (gap i ++ slice_index_or ws i []) → line ++ rest_of i (drop i ws) ≡ all
+    → after ++ rest_of (i + 1) (drop (i + 1) ws) ≡ all
 word_written ws i line after all h is so_far =
     let more : i + 1 ≡ suc i = omega arith in
     let w = slice_index_or ws i [] in
@@ -46,5 +48,6 @@ none_left (w ∷ ws) zero h = absurd (omega arith)
 none_left (w ∷ ws) (suc i) h = ap behind (drop_all i ws (omega arith))
 
 -- all words are written
-pub words_written : (ws : List (List ℕ)) (i : ℕ) (line all : List ℕ) → length ws ≤ i → line ++ rest_of i (drop i ws) ≡ all → line ≡ all
+pub words_written : (ws : List (List ℕ)) (i : ℕ) (line all : List ℕ) → length ws ≤ i
+    → line ++ rest_of i (drop i ws) ≡ all → line ≡ all
 words_written ws i line all h so_far = sym (append-nil line) ∙ ap (λ (l : List ℕ). line ++ l) (sym (none_left ws i h)) ∙ so_far

@@ -23,4 +23,5 @@ with_tally tallies e =
 -- there is room for one more
 abbrev pub CanTally : List Tally → Edge → Type 0
 CanTally tallies e =
-    e.object < length tallies → let tally = slice_index_or tallies e.object nothing in (tally.owners + 1 < 2 ^ 64) × (tally.slots + 1 < 2 ^ 64)
+    e.object < length tallies → let tally =
+    slice_index_or tallies e.object nothing in (tally.owners + 1 < 2 ^ 64) × (tally.slots + 1 < 2 ^ 64)

@@ -23,10 +23,11 @@ use Rattle.cf_run.specs.Calls.{Call, status_is, SourceFailed, SinkFailed, Wrote}
 use Rattle.cf_run.specs.Commands.{file_of, TakesWords}
 use Rattle.cf_run.specs.Tally.{default_limit}
 use Rattle.cf_run.specs.Written.{Cut}
+use Rattle.cf_ids.specs.declared.limits.TheConstants.{SCRIPT_BYTES}
 
 -- the most bytes of a script
 abbrev pub script_bytes : ℕ
-script_bytes = 1048576
+script_bytes = SCRIPT_BYTES
 
 -- a file of this name has these bytes, where the source tells its files
 abbrev pub IsContent : Option (List File) → List ℕ → List ℕ → Type 0
@@ -99,16 +100,21 @@ pub record IsJournal (script : Script) (ending : Ending) (entries : List Entry) 
 
 -- a run that could make no further object: the next action of the thread that the pointer picks makes one
 abbrev pub StopsSerially : Script → Ending → List Entry → Type 0
-StopsSerially s Full es = IsSomeAnd (picked s (After s es) (pointer_after 0 es)) (λ t. IsSomeAnd (Next s (After s es) t) (λ a. IsTrue (makes s a)))
+StopsSerially s Full es =
+    IsSomeAnd (picked s (After s es) (pointer_after 0 es))
+    (λ t. IsSomeAnd (Next s (After s es) t) (λ a. IsTrue (makes s a)))
 StopsSerially s _ es = Unit {0}
 
 -- the lines that are due: by the words, the file and the source's count of faults
 pub data IsDue (call : Call) (due : List ℕ) : Type 0 where
   usage_due : file_of call.words ≡ None → call.journal ≡ [] → due ≡ usage_text → IsDue call due
-  refusal_due : (r : Refusal) → IsRefused call.words call.source.files r → call.journal ≡ [] → due ≡ refusal_text r → IsDue call due
+  refusal_due : (r : Refusal) → IsRefused call.words call.source.files r → call.journal ≡ [] → due ≡ refusal_text r
+      → IsDue call due
   fault_due : TakesWords call.words → SourceFailed call → call.journal ≡ [] → due ≡ fault_text → IsDue call due
-  run_due : (script : Script) (ending : Ending) → IsAccepted call.words call.source.files script → IsJournal script ending call.journal
-      → IsSerial script call.journal → StopsSerially script ending call.journal → due ≡ rendering script call.journal ending → IsDue call due
+  run_due : (script : Script) (ending : Ending) → IsAccepted call.words call.source.files script
+      → IsJournal script ending call.journal
+      → IsSerial script call.journal → StopsSerially script ending call.journal
+      → due ≡ rendering script call.journal ending → IsDue call due
 
 -- statuses 0, 7 and 8: an accepted script has run to this ending, and the bytes written are the rendering of its
 -- journal; the source stands at the end of the file, and its count of faults is as it was
@@ -211,5 +217,7 @@ pub record Tells (call : Call) : Type 0 where
   pub misuse_is_told : file_of call.words ≡ None → ¬ (SinkFailed call) → status_is 2 call ⊎ status_is 6 call
   -- of a source that tells its files: an accepted script runs, one whose journal is whole gives 0, and a refused one 3
   pub accepted_runs : (script : Script) → ReadsScript call script → Contains (0 ∷ 6 ∷ 7 ∷ 8 ∷ []) call.status
-  pub whole_runs : (script : Script) → ReadsScript call script → IsWhole script call.journal → status_is 0 call ⊎ status_is 6 call
-  pub refused_is_told : (bytes : List ℕ) (r : Refusal) → Reads call bytes → IsRefusedText bytes r → status_is 3 call ⊎ status_is 6 call
+  pub whole_runs : (script : Script) → ReadsScript call script → IsWhole script call.journal
+      → status_is 0 call ⊎ status_is 6 call
+  pub refused_is_told : (bytes : List ℕ) (r : Refusal) → Reads call bytes → IsRefusedText bytes r
+      → status_is 3 call ⊎ status_is 6 call

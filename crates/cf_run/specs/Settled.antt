@@ -20,6 +20,7 @@ use Rattle.cf_run.specs.Commands.{file_of, TakesWords}
 use Rattle.cf_run.specs.Tally.{IsOver}
 use Rattle.cf_run.specs.Lines.{run_text, entries_in}
 use Rattle.cf_run.specs.Outcomes.{IsUnfit, IsAccepted, IsRefused, usage_text, fault_text, refusal_text}
+use Rattle.cf_ids.specs.declared.limits.TheConstants.{OBJECTS}
 
 -- what the reader and the owner check say of bytes: an owned script of which they are the text, or their
 -- refusal
@@ -33,7 +34,8 @@ abbrev pub SettlesBytes : List ℕ → Settled → Type 0
 SettlesBytes bytes settled.Usage = ⊥
 SettlesBytes bytes settled.ReadFault = ⊥
 SettlesBytes bytes (settled.Refused r) = Refused bytes r ⊎ IsUnfit bytes r
-SettlesBytes bytes (settled.Ran over) = IsSomeAnd over.world.script (λ s. Text bytes s × IsOver s over.world over.ending over.tallies.items over.finals)
+SettlesBytes bytes (settled.Ran over) =
+    IsSomeAnd over.world.script (λ s. Text bytes s × IsOver s over.world over.ending over.tallies.items over.finals)
 
 -- the words name an accepted script, and the source stands at the end of its file and has counted no fault
 pub record Accepted (words : List (List ℕ)) (before after : SourceState) (s : Script) : Type 0 where
@@ -82,7 +84,7 @@ abbrev pub HasFew : Settled → Type 0
 HasFew settled.Usage = ⊤
 HasFew settled.ReadFault = ⊤
 HasFew (settled.Refused r) = ⊤
-HasFew (settled.Ran over) = length over.tallies.items ≤ 65536
+HasFew (settled.Ran over) = length over.tallies.items ≤ OBJECTS
 
 -- the status after its lines were written, or not
 abbrev pub status_after : Result (Unit {0}) Unwritten → Settled → ℕ

@@ -19,10 +19,11 @@ use Rattle.cf_world.specs.declared.next.Next.TheVariants as next
 use Rattle.cf_run.specs.declared.serial.Turn.{Turn}
 use Rattle.cf_run.specs.declared.serial.Turn.TheVariants as turns
 use Rattle.cf_run.specs.declared.tally.Tally.{Tally}
+use Rattle.cf_ids.specs.declared.limits.TheConstants.{DEFAULT_LIMIT}
 
 -- the most entries of a journal
 abbrev pub default_limit : ℕ
-default_limit = 1000000
+default_limit = DEFAULT_LIMIT
 
 -- the numbers with one more for an object
 abbrev pub raised : ℕ → List ℕ → List ℕ
@@ -93,7 +94,8 @@ nothing = record { owners = 0; slots = 0 }
 -- of each object that was made: how many references own it, and how many hold it
 pub record Tallied (made : ℕ) (es : List Reference) (tallies : List Tally) : Type 0 where
   pub size : length tallies ≡ made
-  pub at : (o : ℕ) → o < made → slice_index_or tallies o nothing ≡ record { owners = weigh (owning o) es; slots = weigh (holding o) es }
+  pub at : (o : ℕ) → o < made
+      → slice_index_or tallies o nothing ≡ record { owners = weigh (owning o) es; slots = weigh (holding o) es }
 
 -- a run that is over: its journal has this ending and is in the serial order, and its numbers are those of what is
 -- left

@@ -23,11 +23,13 @@ IsCause Fault faults faults' = HasRisen faults faults'
 IsCause NoMemory faults faults' = faults' ≡ faults
 
 -- what a call that writes a text leaves: the whole is taken, or after an error a front
-abbrev pub Writes : {T : Type 0} → Result T Unwritten → List ℕ → (old new : Option (List ℕ)) → (faults faults' : ℕ) → Type 0
+abbrev pub Writes : {T : Type 0} → Result T Unwritten → List ℕ → (old new : Option (List ℕ)) → (faults faults' : ℕ)
+    → Type 0
 Writes (Ok x) due old new faults faults' = (new ≡ then_bytes old due) × (faults' ≡ faults)
 Writes (Err e) due old new faults faults' = Part due old new × IsCause e faults faults'
 
 -- what a call that writes a text leaves, if an error leaves something due
-abbrev pub WritesAll : {T : Type 0} → Result T Unwritten → List ℕ → (old new : Option (List ℕ)) → (faults faults' : ℕ) → Type 0
+abbrev pub WritesAll : {T : Type 0} → Result T Unwritten → List ℕ → (old new : Option (List ℕ)) → (faults faults' : ℕ)
+    → Type 0
 WritesAll (Ok x) due old new faults faults' = (new ≡ then_bytes old due) × (faults' ≡ faults)
 WritesAll (Err e) due old new faults faults' = Cut due old new × IsCause e faults faults'

@@ -15,7 +15,8 @@ use std::alloc::Global;
 // Writes the lines that are due.
 fn write_settled<K: Sink>(alloc: Global, sink: &mut K, settled: &Settled) -> Result<(), Unwritten>
     requires { HasFew settled.now }
-    ensures { WritesAll result (due_of settled.now) (K.taken sink.old) (K.taken sink.new) (K.faults sink.old) (K.faults sink.new) }
+    ensures { WritesAll result (due_of settled.now) (K.taken sink.old) (K.taken sink.new) (K.faults sink.old)
+        (K.faults sink.new) }
 {
     match settled {
         Settled::Usage => write_text(sink, b"usage: cfrun run [--serial] FILE\n"),

@@ -19,7 +19,8 @@ use std::alloc::{AllocError, Global};
 // Puts the word with this number after those before it, with a space between two.
 fn push_word(line: &mut Vec<u8>, words: &[&[u8]], number: usize) -> Result<(), AllocError>
     requires { number < length words.now }
-    ensures { OnOk result (line.new.items ≡ line.old.items ++ (gap number ++ slice_index_or (lent words.now) number [])) }
+    ensures { OnOk result
+        (line.new.items ≡ line.old.items ++ (gap number ++ slice_index_or (lent words.now) number [])) }
 {
     if 0 < number {
         line.push(b' ')?;
@@ -55,7 +56,8 @@ fn final_line(
     object: ObjId,
     name: &[u8],
 ) -> Result<Vec<u8>, AllocError>
-    ensures { IfOk result (λ l. l.items ≡ object_line thread action.now object (codes "final" ∷ name.now ∷ []) ++ 10 ∷ []) }
+    ensures { IfOk result
+        (λ l. l.items ≡ object_line thread action.now object (codes "final" ∷ name.now ∷ []) ++ 10 ∷ []) }
 {
     let thread = thread.to_string(alloc)?;
     let object = object.to_string(alloc)?;
@@ -82,7 +84,8 @@ fn drop_line(
     object: ObjId,
     name: &[u8],
 ) -> Result<Vec<u8>, AllocError>
-    ensures { IfOk result (λ l. l.items ≡ object_line thread (drop_words body place) object (codes "final" ∷ name.now ∷ []) ++ 10 ∷ []) }
+    ensures { IfOk result
+        (λ l. l.items ≡ object_line thread (drop_words body place) object (codes "final" ∷ name.now ∷ []) ++ 10 ∷ []) }
 {
     let action = slot_words(alloc, body, place)?;
     final_line(alloc, thread, &action, object, name)
@@ -109,7 +112,8 @@ pub fn entry_line(
     classes: &[ClassLine],
     entry: &Entry,
 ) -> Result<Option<Vec<u8>>, AllocError>
-    ensures { IfOk result (λ l. text_of_lines (lines_if (line_of classes.now entry.now.thread entry.now.action entry.now.answer)) ≡ line_text l) }
+    ensures { IfOk result
+        (λ l. text_of_lines (lines_if (line_of classes.now entry.now.thread entry.now.action entry.now.answer)) ≡ line_text l) }
 {
     match (&entry.action, &entry.answer) {
         (Action::Release { used, .. }, Answer::Final(class)) => {
@@ -175,8 +179,10 @@ pub fn alive_line(
     object: ObjId,
     tally: Tally,
 ) -> Result<Option<Vec<u8>>, AllocError>
-    ensures text { IfOk result (λ l. text_of_lines (alive_if classes.now object (class_at (state_of world.now).objects object) tally) ≡ line_text l) }
-    ensures count { IfOk result (λ l. length (alive_if classes.now object (class_at (state_of world.now).objects object) tally) ≡ length (option_to_list l)) }
+    ensures text { IfOk result
+        (λ l. text_of_lines (alive_if classes.now object (class_at (state_of world.now).objects object) tally) ≡ line_text l) }
+    ensures count { IfOk result
+        (λ l. length (alive_if classes.now object (class_at (state_of world.now).objects object) tally) ≡ length (option_to_list l)) }
 {
     if tally.owners == 0 && tally.slots == 0 {
         return Ok(None);

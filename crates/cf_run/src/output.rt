@@ -1,5 +1,6 @@
 //! Lines go out, each by one `write_all`.
 ghost use Rattle.std.specs.Prelude.{◌≡◌, ◌≤◌, length, IfOk};
+ghost use Rattle.cf_ids.specs.declared.limits.TheConstants.{OBJECTS};
 ghost use Rattle.cf_model.specs.Rendering.{line_of, lines_if, entry_lines, text_of_lines};
 ghost use Rattle.cf_world.specs.Worlds.{state_of};
 ghost use Rattle.cf_run.specs.Lines.{class_at, alive_if, alive_below, ends_of, classes_in, run_text};
@@ -53,7 +54,9 @@ fn write_entry<K: Sink>(
     classes: &[ClassLine],
     entry: &Entry,
 ) -> Result<(), Unwritten>
-    ensures { Writes result (text_of_lines (lines_if (line_of classes.now entry.now.thread entry.now.action entry.now.answer))) (K.taken sink.old) (K.taken sink.new) (K.faults sink.old) (K.faults sink.new) }
+    ensures { Writes result
+        (text_of_lines (lines_if (line_of classes.now entry.now.thread entry.now.action entry.now.answer)))
+        (K.taken sink.old) (K.taken sink.new) (K.faults sink.old) (K.faults sink.new) }
 {
     match entry_line(alloc, classes, entry)? {
         Some(line) => write_text(sink, line.as_slice()),
@@ -68,7 +71,8 @@ fn write_entries<K: Sink>(
     classes: &[ClassLine],
     journal: &[Entry],
 ) -> Result<(), Unwritten>
-    ensures { Writes result (text_of_lines (entry_lines classes.now journal.now)) (K.taken sink.old) (K.taken sink.new) (K.faults sink.old) (K.faults sink.new) }
+    ensures { Writes result (text_of_lines (entry_lines classes.now journal.now)) (K.taken sink.old) (K.taken sink.new)
+        (K.faults sink.old) (K.faults sink.new) }
 {
     for entry in journal {
         write_entry(alloc, sink, classes, entry)?;
@@ -85,8 +89,11 @@ fn write_alive<K: Sink>(
     object: ObjId,
     tally: Tally,
 ) -> Result<usize, Unwritten>
-    ensures text { Writes result (text_of_lines (alive_if classes.now object (class_at (state_of world.now).objects object) tally)) (K.taken sink.old) (K.taken sink.new) (K.faults sink.old) (K.faults sink.new) }
-    ensures count { IfOk result (λ n. n ≡ length (alive_if classes.now object (class_at (state_of world.now).objects object) tally)) }
+    ensures text { Writes result
+        (text_of_lines (alive_if classes.now object (class_at (state_of world.now).objects object) tally))
+        (K.taken sink.old) (K.taken sink.new) (K.faults sink.old) (K.faults sink.new) }
+    ensures count { IfOk result
+        (λ n. n ≡ length (alive_if classes.now object (class_at (state_of world.now).objects object) tally)) }
     ensures few { IfOk result (λ n. n ≤ 1) }
 {
     match alive_line(alloc, classes, world, object, tally)? {
@@ -107,9 +114,12 @@ fn write_left<K: Sink>(
     world: &World,
     tallies: &[Tally],
 ) -> Result<usize, Unwritten>
-    requires { length tallies.now ≤ 65536 }
-    ensures text { Writes result (text_of_lines (alive_below classes.now (state_of world.now).objects tallies.now (length tallies.now))) (K.taken sink.old) (K.taken sink.new) (K.faults sink.old) (K.faults sink.new) }
-    ensures count { IfOk result (λ n. n ≡ length (alive_below classes.now (state_of world.now).objects tallies.now (length tallies.now))) }
+    requires { length tallies.now ≤ OBJECTS }
+    ensures text { Writes result
+        (text_of_lines (alive_below classes.now (state_of world.now).objects tallies.now (length tallies.now)))
+        (K.taken sink.old) (K.taken sink.new) (K.faults sink.old) (K.faults sink.new) }
+    ensures count { IfOk result
+        (λ n. n ≡ length (alive_below classes.now (state_of world.now).objects tallies.now (length tallies.now))) }
 {
     let mut alive = 0;
     for (number, tally) in tallies.iter().enumerate() {
@@ -127,8 +137,10 @@ fn write_ends<K: Sink>(
     events: usize,
     over: &Over,
 ) -> Result<(), Unwritten>
-    requires { length over.now.tallies.items ≤ 65536 }
-    ensures { WritesAll result (text_of_lines (ends_of classes.now over.now.ending events (state_of over.now.world).objects over.now.tallies.items over.now.finals)) (K.taken sink.old) (K.taken sink.new) (K.faults sink.old) (K.faults sink.new) }
+    requires { length over.now.tallies.items ≤ OBJECTS }
+    ensures { WritesAll result
+        (text_of_lines (ends_of classes.now over.now.ending events (state_of over.now.world).objects over.now.tallies.items over.now.finals))
+        (K.taken sink.old) (K.taken sink.new) (K.faults sink.old) (K.faults sink.new) }
 {
     let tallies = over.tallies.as_slice();
     let alive = write_left(alloc, sink, classes, &over.world, tallies)?;
@@ -149,8 +161,9 @@ fn classes_of(world: &World) -> &[ClassLine]
 
 /// Writes the lines of a run that is over.
 pub fn write_run<K: Sink>(alloc: Global, sink: &mut K, over: &Over) -> Result<(), Unwritten>
-    requires { length over.now.tallies.items ≤ 65536 }
-    ensures { WritesAll result (run_text over.now.world over.now.ending over.now.tallies.items over.now.finals) (K.taken sink.old) (K.taken sink.new) (K.faults sink.old) (K.faults sink.new) }
+    requires { length over.now.tallies.items ≤ OBJECTS }
+    ensures { WritesAll result (run_text over.now.world over.now.ending over.now.tallies.items over.now.finals)
+        (K.taken sink.old) (K.taken sink.new) (K.faults sink.old) (K.faults sink.new) }
 {
     let classes = classes_of(&over.world);
     let journal = over.world.journal();

@@ -76,7 +76,8 @@ fn raise_all(references: &mut Vec<usize>, gained: &[ObjId])
     requires made { (o : ℕ) → Contains gained.now o → o < length references.old.items }
     requires fits { (o : ℕ) → slice_index references.old.items o + length gained.now < 2 ^ 64 }
     ensures size { length references.new.items ≡ length references.old.items }
-    ensures at { (o : ℕ) → o < length references.old.items → slice_index references.new.items o ≡ slice_index references.old.items o + times o gained.now }
+    ensures at { (o : ℕ) → o < length references.old.items
+        → slice_index references.new.items o ≡ slice_index references.old.items o + times o gained.now }
 {
     for o in gained {
         raise(references, *o);

@@ -1,5 +1,6 @@
 //! What a command comes to before a line of it is written: the file is read, and its script is run.
 ghost use Rattle.std.specs.Prelude.{◌≡◌, ◌≤◌, ◌<◌, map, length, IfOk, OnOk, IfSome, IsSomeAnd, IsErrOf};
+ghost use Rattle.cf_ids.specs.declared.limits.TheConstants.{SCRIPT_BYTES};
 ghost use Rattle.cf_fault.specs.Fault.{HasRisen};
 ghost use Rattle.cf_io.specs.Whole.{UnlessReadFault};
 ghost use Rattle.cf_io.specs.Bytes.{IsAtEnd};
@@ -34,11 +35,11 @@ pub enum Settled {
 // The bytes of a file, where they are no more than a script may have.
 fn read_file<S: Source>(alloc: Global, source: &mut S, name: &str) -> Result<Vec<u8>, ReadAll>
     ensures whole { IfOk result (λ all. IsContent (S.files source.old) name.now all.items) }
-    ensures fits { IfOk result (λ all. length all.items ≤ 1048576) }
+    ensures fits { IfOk result (λ all. length all.items ≤ SCRIPT_BYTES) }
     ensures at_end { OnOk result (IsAtEnd (S.left source.new)) }
     ensures quiet { UnlessReadFault result (S.faults source.new ≡ S.faults source.old) }
     ensures too_long { IsErrOf result ReadAll.TooLong →
-        IfSome (S.files source.old) (λ told. IsSomeAnd (content_of told name.now) (λ bytes. 1048576 < length bytes)) }
+        IfSome (S.files source.old) (λ told. IsSomeAnd (content_of told name.now) (λ bytes. SCRIPT_BYTES < length bytes)) }
     ensures fault { IsErrOf result ReadAll.ReadFault → HasRisen (S.faults source.old) (S.faults source.new) }
 {
     source.open(name).map_err(|_| ReadAll::ReadFault)?;
@@ -47,7 +48,7 @@ fn read_file<S: Source>(alloc: Global, source: &mut S, name: &str) -> Result<Vec
 
 // The owned script that bytes are the text of.
 fn accept(alloc: Global, bytes: &[u8]) -> Result<Checked, ScriptFault>
-    requires { length bytes.now ≤ 1048576 }
+    requires { length bytes.now ≤ SCRIPT_BYTES }
     ensures { Accepts result bytes.now }
 {
     match check_owners(read_script(alloc, bytes)?) {
@@ -59,7 +60,7 @@ fn accept(alloc: Global, bytes: &[u8]) -> Result<Checked, ScriptFault>
 
 // What the bytes of a file come to.
 fn settle_bytes(alloc: Global, bytes: &[u8]) -> Result<Settled, AllocError>
-    requires { length bytes.now ≤ 1048576 }
+    requires { length bytes.now ≤ SCRIPT_BYTES }
     ensures { IfOk result (λ s. SettlesBytes bytes.now s) }
 {
     match accept(alloc, bytes) {

@@ -6,19 +6,26 @@ use Rattle.cf_syntax.specs.declared.counts.Counts.{Counts}
 use Rattle.cf_syntax.specs.declared.statement.Statement.{Statement}
 use Rattle.cf_syntax.specs.Counting.{Counted}
 use Rattle.cf_syntax.specs.Owned.{may_use, is_fit, are_fit}
+use Rattle.cf_ids.specs.declared.limits.TheConstants.{VARIABLES}
 
 -- what is read of the counts is what the sums say
-pub may_use_is : (c : Counts) (earlier : List Statement) (v : ℕ) → v < 256 → Counted c earlier → (ltb 0 (get_or c.bound v 0) && ltb (get_or c.taken v 0) (get_or c.given v 0)) ≡ may_use earlier v
+pub may_use_is : (c : Counts) (earlier : List Statement) (v : ℕ) → v < VARIABLES → Counted c earlier
+    → (ltb 0 (get_or c.bound v 0) && ltb (get_or c.released v 0) (get_or c.given v 0)) ≡ may_use earlier v
 may_use_is c earlier v small counted = rw (counted.binds v small, counted.gives v small, counted.takes v small) refl
 
-fit_step : (ss : List Statement) (i : ℕ) (d : Statement) → i < length ss → are_fit (take i ss) (drop i ss) ≡ (is_fit (take i ss) (get_or ss i d) && are_fit (take (i + 1) ss) (drop (i + 1) ss))
+fit_step : (ss : List Statement) (i : ℕ) (d : Statement) → i < length ss
+    → are_fit (take i ss) (drop i ss)
+    ≡ (is_fit (take i ss) (get_or ss i d) && are_fit (take (i + 1) ss) (drop (i + 1) ss))
 fit_step ss i d lt = rw (drop_more ss i d lt, take_more ss i d lt) refl
 
 -- a statement that has no fault goes on to the next
-pub fit_more : (ss : List Statement) (i : ℕ) (s : Statement) (all : Bool) → i < length ss → s ≡ get_or ss i s → is_fit (take i ss) s ≡ true → are_fit (take i ss) (drop i ss) ≡ all → are_fit (take (i + 1) ss) (drop (i + 1) ss) ≡ all
+pub fit_more : (ss : List Statement) (i : ℕ) (s : Statement) (all : Bool) → i < length ss → s ≡ get_or ss i s
+    → is_fit (take i ss) s ≡ true → are_fit (take i ss) (drop i ss) ≡ all
+    → are_fit (take (i + 1) ss) (drop (i + 1) ss) ≡ all
 fit_more ss i s all lt is fit so_far =
     let here : is_fit (take i ss) (get_or ss i s) ≡ true = ap (is_fit (take i ss)) (sym is) ∙ fit in
     sym (rw here at (fit_step ss i s lt)) ∙ so_far
 
-pub take_item : (ss : List Statement) (i : ℕ) (s : Statement) → i < length ss → s ≡ get_or ss i s → take (i + 1) ss ≡ take i ss ++ s ∷ []
+pub take_item : (ss : List Statement) (i : ℕ) (s : Statement) → i < length ss → s ≡ get_or ss i s
+    → take (i + 1) ss ≡ take i ss ++ s ∷ []
 take_item ss i s lt is = take_more ss i s lt ∙ ap (λ (x : Statement). take i ss ++ x ∷ []) (sym is)

@@ -14,7 +14,8 @@ use Rattle.cf_syntax.specs.Numbers.{decoded, bytes_of}
 odd_decoded : (word : List ℕ) → length word % 2 ≡ 1 → is_some (decoded (decode_of word)) ≡ false
 odd_decoded word odd = rw (decode_of-odd word odd) refl
 
-refused : (word : List ℕ) (r : Result (List ℕ) FromHexError) → decode_of word ≡ r → list_all is_hex_digit word ≡ false → is_some (decoded r) ≡ false
+refused : (word : List ℕ) (r : Result (List ℕ) FromHexError) → decode_of word ≡ r → list_all is_hex_digit word ≡ false
+    → is_some (decoded r) ≡ false
 refused word (Ok bytes) e none = absurd cc (sym none ∙ list_all-from_AllPass is_hex_digit word (decode_of-ok word bytes e).1)
 refused word (Err f) e none = refl
 
@@ -28,8 +29,10 @@ even_decoded word even =
       | inr none ↦ refused word (decode_of word) refl none ∙ sym none
     ]
 
-pub hex_odd : (word : List ℕ) → length word % 2 ≡ 1 → bytes_eq word (codes "-") ≡ false → is_some (bytes_of word) ≡ false
+pub hex_odd : (word : List ℕ) → length word % 2 ≡ 1 → bytes_eq word (codes "-") ≡ false
+    → is_some (bytes_of word) ≡ false
 hex_odd word odd plain = rw plain (odd_decoded word odd)
 
-pub hex_even : (word : List ℕ) → length word % 2 ≡ 0 → bytes_eq word (codes "-") ≡ false → is_some (bytes_of word) ≡ list_all is_hex_digit word
+pub hex_even : (word : List ℕ) → length word % 2 ≡ 0 → bytes_eq word (codes "-") ≡ false
+    → is_some (bytes_of word) ≡ list_all is_hex_digit word
 hex_even word even plain = rw plain (even_decoded word even)

@@ -40,24 +40,28 @@ pub below_start : (limit : ℕ) (word : List ℕ) → 0 < length word → below 
 below_start limit word some =
     not_empty (eqb (length word) 0) (list_all is_digit word) (nat_lt (decimal_from 0 word) limit) (Some (decimal_from 0 word)) (grind (arith, nat_tests))
 
-pub below_digit : (limit n i : ℕ) (word : List ℕ) → i < length word → is_digit (get_or word i 0) ≡ true → below limit n (drop i word) ≡ below limit (n * 10 + (get_or word i 0 - 48)) (drop (i + 1) word)
+pub below_digit : (limit n i : ℕ) (word : List ℕ) → i < length word → is_digit (get_or word i 0) ≡ true
+    → below limit n (drop i word) ≡ below limit (n * 10 + (get_or word i 0 - 48)) (drop (i + 1) word)
 below_digit limit n i word lt e =
     let b = get_or word i 0 in
     let m : ℕ = n * 10 + (b - 48) in
     let rest = drop (i + 1) word in
     ap (below limit n) (drop_more word i 0 lt) ∙ one_digit (is_digit b) (list_all is_digit rest) (nat_lt (decimal_from m rest) limit) (Some (decimal_from m rest)) e
 
-pub below_no_digit : (limit n i : ℕ) (word : List ℕ) → i < length word → is_digit (get_or word i 0) ≡ false → below limit n (drop i word) ≡ None
+pub below_no_digit : (limit n i : ℕ) (word : List ℕ) → i < length word → is_digit (get_or word i 0) ≡ false
+    → below limit n (drop i word) ≡ None
 below_no_digit limit n i word lt e =
     let b = get_or word i 0 in
     let m : ℕ = n * 10 + (b - 48) in
     let rest = drop (i + 1) word in
     ap (below limit n) (drop_more word i 0 lt) ∙ no_digit (is_digit b) (list_all is_digit rest) (nat_lt (decimal_from m rest) limit) (decimal_from m rest) e
 
-pub below_large : (limit n i : ℕ) (word : List ℕ) → i < length word → is_digit (get_or word i 0) ≡ true → limit ≤ n * 10 + (get_or word i 0 - 48) → below limit n (drop i word) ≡ None
+pub below_large : (limit n i : ℕ) (word : List ℕ) → i < length word → is_digit (get_or word i 0) ≡ true
+    → limit ≤ n * 10 + (get_or word i 0 - 48) → below limit n (drop i word) ≡ None
 below_large limit n i word lt e large = below_digit limit n i word lt e ∙ too_large limit (n * 10 + (get_or word i 0 - 48)) (drop (i + 1) word) large
 
-pub below_over : (limit n i : ℕ) (word : List ℕ) → i < length word → limit ≤ n * 10 → below limit n (drop i word) ≡ None
+pub below_over : (limit n i : ℕ) (word : List ℕ) → i < length word → limit ≤ n * 10
+    → below limit n (drop i word) ≡ None
 below_over limit n i word lt large =
     elim (cases_Bool (is_digit (get_or word i 0))) [ inl t ↦ below_large limit n i word lt t (omega arith) | inr f ↦ below_no_digit limit n i word lt f ]
 

@@ -1,6 +1,6 @@
 -- What a row of the code's table stands for.
 use Rattle.cf_syntax.specs.Table as Table
-use Rattle.cf_script.specs.declared.table.Row.{Row}
+use Rattle.cf_script.specs.declared.table.FormWord.{FormWord}
 
-abbrev pub row_of : Row → Table.Row
-row_of r = Table.row r.0.now r.1
+abbrev pub form_word_of : FormWord → Table.FormWord
+form_word_of r = Table.form_word r.0.now r.1

@@ -1,10 +1,10 @@
 //! The lines of a script, one after another.
 ghost use Rattle.std.specs.Prelude.{◌≡◌, ◌+◌, ◌<◌, ◌^◌, ◌∷◌, ◌++◌, [], Ok, None, IfOk};
 ghost use Rattle.std.specs.Option.{option_map};
-ghost use Rattle.cf_syntax.specs.Text.{is_word, is_header, ended, classed, opened, outside, inside, continued, spoken, after_line, whole};
+ghost use Rattle.cf_syntax.specs.Text.{is_word, is_header, close_block, add_class, open_block, outside, inside, add_statement, read_words, after_line, whole};
 ghost use Rattle.cf_script.specs.Gives.{GivesAs, Gives};
 ghost use Rattle.cf_script.specs.Views.{lent};
-ghost use Rattle.cf_script.specs.BlockViews.{opened_of, reading_of};
+ghost use Rattle.cf_script.specs.BlockViews.{open_block_of, reading_of};
 
 use crate::classes::{Classes, class_of};
 use crate::fault::{ScriptFault, UNREAD};
@@ -51,15 +51,15 @@ fn is_header(words: &[&[u8]]) -> bool
 }
 
 /// The line with this number, which says a class.
-#[tactic(auto, unfolding(cf_syntax::specs::Text::classed))]
-fn classed(
+#[tactic(auto, unfolding(cf_syntax::specs::Text::add_class))]
+fn add_class(
     alloc: Global,
     classes: Classes,
     blocks: Vec<Block>,
     line: u32,
     words: &[&[u8]],
 ) -> Result<Reader, ScriptFault>
-    ensures read { GivesAs reading_of result (classed classes blocks.items line (lent words.now)) }
+    ensures read { GivesAs reading_of result (add_class classes blocks.items line (lent words.now)) }
     ensures count { IfOk result (λ r. r.count ≡ line) }
 {
     if !blocks.is_empty() {
@@ -77,15 +77,15 @@ fn classed(
 }
 
 /// The line with this number, which begins setup.
-#[tactic(auto, unfolding(cf_syntax::specs::Text::opened))]
-fn opened(
+#[tactic(auto, unfolding(cf_syntax::specs::Text::open_block))]
+fn open_block(
     alloc: Global,
     classes: Classes,
     blocks: Vec<Block>,
     line: u32,
     words: &[&[u8]],
 ) -> Result<Reader, ScriptFault>
-    ensures read { GivesAs reading_of result (opened classes blocks.items line (lent words.now)) }
+    ensures read { GivesAs reading_of result (open_block classes blocks.items line (lent words.now)) }
     ensures count { IfOk result (λ r. r.count ≡ line) }
 {
     if !is_word(words, b"setup") || !blocks.is_empty() {
@@ -117,15 +117,15 @@ fn outside(
     ensures count { IfOk result (λ r. r.count ≡ line) }
 {
     if is(word_at(words, 0), b"class") {
-        classed(alloc, classes, blocks, line, words)
+        add_class(alloc, classes, blocks, line, words)
     } else {
-        opened(alloc, classes, blocks, line, words)
+        open_block(alloc, classes, blocks, line, words)
     }
 }
 
 /// The block that this line ends.
-fn ended(alloc: Global, block: OpenBlock, line: u32) -> Result<Block, ScriptFault>
-    ensures { GivesAs (λ b. b) result (Ok (ended (opened_of block) line)) }
+fn close_block(alloc: Global, block: OpenBlock, line: u32) -> Result<Block, ScriptFault>
+    ensures { GivesAs (λ b. b) result (Ok (close_block (open_block_of block) line)) }
 {
     let OpenBlock {
         names,
@@ -152,7 +152,7 @@ fn with_line(
     line: u32,
     words: &[&[u8]],
 ) -> Result<OpenBlock, ScriptFault>
-    ensures { GivesAs opened_of result (continued classes.now (opened_of block) line (lent words.now)) }
+    ensures { GivesAs open_block_of result (add_statement classes.now (open_block_of block) line (lent words.now)) }
 {
     let OpenBlock {
         names,
@@ -181,12 +181,13 @@ fn inside(
     line: u32,
     words: &[&[u8]],
 ) -> Result<Reader, ScriptFault>
-    ensures read { GivesAs reading_of result (inside classes blocks.items (opened_of block) line (lent words.now)) }
+    ensures read { GivesAs reading_of result
+        (inside classes blocks.items (open_block_of block) line (lent words.now)) }
     ensures count { IfOk result (λ r. r.count ≡ line) }
 {
     if is_word(words, b"end") {
         let mut blocks = blocks;
-        blocks.push(ended(alloc, block, line)?)?;
+        blocks.push(close_block(alloc, block, line)?)?;
         return Ok(Reader {
             count: line,
             classes,
@@ -204,10 +205,10 @@ fn inside(
 }
 
 /// A line that says something, by its words.
-#[tactic(auto, unfolding(cf_syntax::specs::Text::headed))]
-fn placed(alloc: Global, reader: Reader, words: &[&[u8]]) -> Result<Reader, ScriptFault>
+#[tactic(auto, unfolding(cf_syntax::specs::Text::read_header))]
+fn place_line(alloc: Global, reader: Reader, words: &[&[u8]]) -> Result<Reader, ScriptFault>
     requires { reader.count + 1 < 2 ^ 32 }
-    ensures read { GivesAs reading_of result (spoken (reading_of reader) (lent words.now)) }
+    ensures read { GivesAs reading_of result (read_words (reading_of reader) (lent words.now)) }
     ensures count { IfOk result (λ r. r.count ≡ reader.count + 1) }
 {
     let Reader {
@@ -234,7 +235,7 @@ fn placed(alloc: Global, reader: Reader, words: &[&[u8]]) -> Result<Reader, Scri
 }
 
 /// A line more.
-#[tactic(auto, unfolding(cf_syntax::specs::Text::after_line, cf_syntax::specs::Text::said))]
+#[tactic(auto, unfolding(cf_syntax::specs::Text::after_line, cf_syntax::specs::Text::read_line))]
 pub(crate) fn after_line<'a>(
     alloc: Global,
     reader: Reader,
@@ -254,12 +255,12 @@ pub(crate) fn after_line<'a>(
         return Ok(reader);
     }
     split_words(found, line)?;
-    placed(alloc, reader, found.as_slice())
+    place_line(alloc, reader, found.as_slice())
 }
 
 /// The script at the end of the text.
 pub(crate) fn whole(reader: Reader) -> Result<Script, ScriptFault>
-    ensures { Gives result (whole reader.classes reader.blocks.items (option_map opened_of reader.block)) }
+    ensures { Gives result (whole reader.classes reader.blocks.items (option_map open_block_of reader.block)) }
 {
     let Reader {
         classes,

@@ -11,7 +11,7 @@ use crate::numbers::index_at;
 use crate::table::are_of;
 use crate::words::{is, word_at};
 use cf_ids::{Seq, TYPES, TypeId};
-use cf_syntax::{Class, ClassLine};
+use cf_syntax::{ClassLine, Operand};
 use indexmap::IndexSet;
 use std::alloc::{AllocError, Global};
 use std::marker::Model;
@@ -23,13 +23,13 @@ const FIRST: u16 = 14;
 const CLASSES: usize = TYPES + 1 - FIRST as usize;
 
 /// The words of a class line.
-const CLASS_WORDS: [Class; 6] = [
-    Class::Fixed,
-    Class::Name,
-    Class::Fields,
-    Class::Count,
-    Class::Equal,
-    Class::Equality,
+const CLASS_WORDS: [Operand; 6] = [
+    Operand::Fixed,
+    Operand::Name,
+    Operand::Fields,
+    Operand::Count,
+    Operand::Equal,
+    Operand::Equality,
 ];
 
 /// The class lines so far, of which there are at most 1,011.

@@ -15,7 +15,8 @@ mod table;
 mod words;
 
 pub use cf_syntax::{
-    Block, ClassLine, DataLiteral, Given, Reason, Refusal, Script, Statement, TextLiteral, Touch,
+    Block, ClassLine, DataLiteral, Given, Ownership, Reason, Refusal, Script, Statement,
+    TextLiteral,
 };
 pub use checked::{Checked, OwnFault, check_owners};
 pub use fault::ScriptFault;

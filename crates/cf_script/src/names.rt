@@ -5,12 +5,12 @@ ghost use Rattle.std.specs.Str.{bytes_eq};
 ghost use Rattle.cf_syntax.specs.Table.{with_name, with_variable, with_word, variables_of};
 ghost use Rattle.cf_script.specs.Gives.{GivesAs};
 ghost use Rattle.cf_script.specs.Views.{lent, texts};
-ghost use Rattle.cf_script.specs.NamesViews.{numbered_of};
+ghost use Rattle.cf_script.specs.NamesViews.{numbering_of};
 
 use crate::fault::{ScriptFault, UNREAD};
 use crate::words::word_at;
 use cf_ids::{Seq, VARIABLES, VarId};
-use cf_syntax::Class;
+use cf_syntax::Operand;
 use indexmap::IndexSet;
 use smallvec::SmallVec;
 use std::alloc::{AllocError, Global};
@@ -37,7 +37,7 @@ fn place_of(alloc: Global, names: &mut IndexSet<Vec<u8>>, word: &[u8]) -> Result
 
 /// The variables with one more.
 fn with_variable(alloc: Global, so_far: Numbered, word: &[u8]) -> Result<Numbered, ScriptFault>
-    ensures { GivesAs numbered_of result (with_variable (numbered_of so_far) word.now) }
+    ensures { GivesAs numbering_of result (with_variable (numbering_of so_far) word.now) }
 {
     let Numbered {
         mut names,
@@ -55,13 +55,13 @@ fn with_variable(alloc: Global, so_far: Numbered, word: &[u8]) -> Result<Numbere
 fn with_word(
     alloc: Global,
     so_far: Numbered,
-    class: Class,
+    class: Operand,
     word: &[u8],
 ) -> Result<Numbered, ScriptFault>
-    ensures { GivesAs numbered_of result (with_word (numbered_of so_far) class word.now) }
+    ensures { GivesAs numbering_of result (with_word (numbering_of so_far) class word.now) }
 {
     match class {
-        Class::Variable => with_variable(alloc, so_far, word),
+        Operand::Variable => with_variable(alloc, so_far, word),
         _ => Ok(so_far),
     }
 }
@@ -69,12 +69,12 @@ fn with_word(
 /// The variables of the words of a form.
 pub(crate) fn number_variables(
     alloc: Global,
-    classes: &[Class],
+    classes: &[Operand],
     names: IndexSet<Vec<u8>>,
     words: &[&[u8]],
 ) -> Result<Numbered, ScriptFault>
     requires { length words.now ≡ length classes.now }
-    ensures { GivesAs numbered_of result (variables_of classes.now (texts names.keys) (lent words.now)) }
+    ensures { GivesAs numbering_of result (variables_of classes.now (texts names.keys) (lent words.now)) }
 {
     let mut so_far = Numbered {
         names,

@@ -7,6 +7,7 @@ ghost use Rattle.cf_script.specs.Views.{lent};
 ghost use Rattle.hex.specs.Hex.{is_hex_digit};
 
 use crate::words::{is, word_at};
+use cf_ids::FIELDS;
 use cf_number::NumKind;
 use hex::FromHexError;
 use std::alloc::{AllocError, Global};
@@ -56,7 +57,7 @@ pub(crate) fn is_count(word: &[u8]) -> bool
     ensures { result ≡ is_count (index_of word.now) }
 {
     match index_of(word) {
-        Some(number) => number <= 255,
+        Some(number) => number as usize <= FIELDS,
         None => false,
     }
 }

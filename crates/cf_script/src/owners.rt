@@ -1,19 +1,21 @@
 //! The owner check.
 ghost use Rattle.std.specs.Prelude.{◌≡◌, ◌<◌, List, [], slice_index, nat_lt, ◌&&◌};
+ghost use Rattle.cf_ids.specs.declared.limits.TheConstants.{VARIABLES};
 ghost use Rattle.cf_syntax.specs.Counting.{Counted};
-ghost use Rattle.cf_syntax.specs.Owned.{may_touch, may_use, is_fit, are_fit, blocks_fit};
+ghost use Rattle.cf_syntax.specs.Owned.{may_bind, may_use, is_fit, are_fit, blocks_fit};
 ghost use Rattle.cf_syntax.specs.declared.statement.Statement.{Statement};
 ghost use Rattle.cf_script.specs.Using.{may_use_some};
 
 use cf_ids::VarId;
-use cf_syntax::{Block, Counts, Statement, Touch};
+use cf_syntax::{Block, Counts, Ownership, Statement};
 
 /// Whether the counts at a place are those of a variable that is bound and owns a reference.
 fn is_usable(counts: &Counts, v: usize) -> bool
-    requires { v < 256 }
-    ensures { result ≡ (nat_lt 0 (slice_index counts.now.bound v) && nat_lt (slice_index counts.now.taken v) (slice_index counts.now.given v)) }
+    requires { v < VARIABLES }
+    ensures { result ≡
+        (nat_lt 0 (slice_index counts.now.bound v) && nat_lt (slice_index counts.now.released v) (slice_index counts.now.given v)) }
 {
-    0 < counts.bound[v] && counts.taken[v] < counts.given[v]
+    0 < counts.bound[v] && counts.released[v] < counts.given[v]
 }
 
 /// Whether a variable is bound and owns a reference.
@@ -34,12 +36,12 @@ fn may_use_some(counts: &Counts, used: Option<VarId>) -> bool
 }
 
 /// Whether a variable that is to be bound is not bound yet.
-fn may_touch(counts: &Counts, touch: Touch) -> bool
-    ensures { (earlier : List Statement) → Counted counts.now earlier → result ≡ may_touch earlier touch }
+fn may_bind(counts: &Counts, ownership: Ownership) -> bool
+    ensures { (earlier : List Statement) → Counted counts.now earlier → result ≡ may_bind earlier ownership }
 {
-    match touch {
-        Touch::Binds(variable) => counts.bound[variable.0 as usize] == 0,
-        Touch::Nothing | Touch::Plus(_) | Touch::Minus(_) => true,
+    match ownership {
+        Ownership::Binds(variable) => counts.bound[variable.0 as usize] == 0,
+        Ownership::Keeps | Ownership::Retains(_) | Ownership::Releases(_) => true,
     }
 }
 
@@ -48,7 +50,7 @@ fn is_fit(counts: &Counts, statement: &Statement) -> bool
     ensures { (earlier : List Statement) → Counted counts.now earlier → result ≡ is_fit earlier statement.now }
 {
     let [first, second, third] = statement.uses();
-    may_touch(counts, statement.touch())
+    may_bind(counts, statement.ownership())
         && may_use_some(counts, first)
         && may_use_some(counts, second)
         && may_use_some(counts, third)

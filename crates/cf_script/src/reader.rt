@@ -1,5 +1,6 @@
 //! The script of a text.
 ghost use Rattle.std.specs.Prelude.{◌≤◌, length};
+ghost use Rattle.cf_ids.specs.declared.limits.TheConstants.{SCRIPT_BYTES};
 ghost use Rattle.cf_syntax.specs.Lines.{lines};
 ghost use Rattle.cf_syntax.specs.Text.{start, read_from, script_of};
 ghost use Rattle.cf_script.specs.Gives.{GivesAs, Gives};
@@ -14,7 +15,7 @@ use std::alloc::Global;
 
 /// What all lines make.
 fn read_lines(alloc: Global, bytes: &[u8]) -> Result<Reader, ScriptFault>
-    requires { length bytes.now ≤ 1048576 }
+    requires { length bytes.now ≤ SCRIPT_BYTES }
     ensures { GivesAs reading_of result (read_from start (lines bytes.now)) }
 {
     let mut reader = Reader {
@@ -38,7 +39,7 @@ fn read_lines(alloc: Global, bytes: &[u8]) -> Result<Reader, ScriptFault>
 /// want of memory alone.
 #[tactic(auto, unfolding(cf_syntax::specs::Text::script_of))]
 pub fn read_script(alloc: Global, bytes: &[u8]) -> Result<Script, ScriptFault>
-    requires { length bytes.now ≤ 1048576 }
+    requires { length bytes.now ≤ SCRIPT_BYTES }
     ensures { Gives result (script_of bytes.now) }
 {
     whole(read_lines(alloc, bytes)?)

@@ -2,10 +2,10 @@
 ghost use Rattle.std.specs.Prelude.{◌≡◌, IfOk, unwrap_or, [], length, slice_index};
 ghost use Rattle.cf_syntax.specs.Numbers.{bytes_of};
 ghost use Rattle.cf_syntax.specs.Words.{text_of};
-ghost use Rattle.cf_syntax.specs.Table.{last_word, literal_of, classes_of, text_statement, data_statement, number_statement, plain_statement, make_statement, array_statement, dict_statement, field_statement, statement_by, statement_of};
+ghost use Rattle.cf_syntax.specs.Table.{last_word, literal_of, operands_of, text_statement, data_statement, number_statement, plain_statement, make_statement, array_statement, dict_statement, field_statement, statement_by, statement_of};
 ghost use Rattle.cf_script.specs.Gives.{GivesAs};
 ghost use Rattle.cf_script.specs.Views.{lent, texts};
-ghost use Rattle.cf_script.specs.StatementViews.{stated_of, numbered_statement};
+ghost use Rattle.cf_script.specs.StatementViews.{statement_words_of, number_statement_names};
 
 use crate::classes::Classes;
 use crate::fault::{ScriptFault, UNREAD};
@@ -18,8 +18,8 @@ use cf_ids::VarId;
 use cf_number::{Num, NumKind};
 use cf_string::{Str, StrFault};
 use cf_syntax::{
-    ArrayForm, Collection, DataForm, DataLiteral, DictForm, FieldForm, Form, PlainForm, Refusal,
-    Statement, TextForm, TextLiteral,
+    ArrayForm, Collection, DataForm, DataLiteral, DictForm, FieldForm, PlainForm, Refusal,
+    Statement, StatementForm, TextForm, TextLiteral,
 };
 use indexmap::IndexSet;
 use std::alloc::{AllocError, Global};
@@ -284,37 +284,39 @@ fn variable_at(variables: &[VarId], i: usize) -> VarId
 fn statement_by(
     alloc: Global,
     classes: &Classes,
-    form: Form,
+    form: StatementForm,
     variables: &[VarId],
     words: &[&[u8]],
 ) -> Result<Statement, ScriptFault>
-    ensures { GivesAs (λ s. s) result (statement_by classes.now form (slice_index variables.now 0) (slice_index variables.now 1) (slice_index variables.now 2) (lent words.now)) }
+    ensures { GivesAs (λ s. s) result
+        (statement_by classes.now form (slice_index variables.now 0) (slice_index variables.now 1) (slice_index variables.now 2) (lent words.now)) }
 {
     let first = variable_at(variables, 0);
     let second = variable_at(variables, 1);
     let third = variable_at(variables, 2);
     match form {
-        Form::Text(form) => text_statement(alloc, form, first, words),
-        Form::Data(form) => data_statement(alloc, form, first, words),
-        Form::Plain(form) => Ok(plain_statement(classes, form, first, second, words)?),
-        Form::Make(collection) => Ok(make_statement(collection, false, first)),
-        Form::MakePlain(collection) => Ok(make_statement(collection, true, first)),
-        Form::Array(form) => Ok(array_statement(form, first, second, words)),
-        Form::Dict(form) => Ok(dict_statement(form, first, second, third)),
-        Form::Field(form) => Ok(field_statement(form, first, second, words)),
+        StatementForm::Text(form) => text_statement(alloc, form, first, words),
+        StatementForm::Data(form) => data_statement(alloc, form, first, words),
+        StatementForm::Plain(form) => Ok(plain_statement(classes, form, first, second, words)?),
+        StatementForm::Make(collection) => Ok(make_statement(collection, false, first)),
+        StatementForm::MakePlain(collection) => Ok(make_statement(collection, true, first)),
+        StatementForm::Array(form) => Ok(array_statement(form, first, second, words)),
+        StatementForm::Dict(form) => Ok(dict_statement(form, first, second, third)),
+        StatementForm::Field(form) => Ok(field_statement(form, first, second, words)),
     }
 }
 
 /// The statement of a form whose words are each of their class, with its variables numbered.
-fn numbered_statement(
+fn number_statement_names(
     alloc: Global,
     classes: &Classes,
-    form: Form,
+    form: StatementForm,
     names: IndexSet<Vec<u8>>,
     words: &[&[u8]],
 ) -> Result<Stated, ScriptFault>
-    requires { length words.now ≡ length (classes_of form) }
-    ensures { GivesAs stated_of result (numbered_statement classes.now form (texts names.keys) (lent words.now)) }
+    requires { length words.now ≡ length (operands_of form) }
+    ensures { GivesAs statement_words_of result
+        (number_statement_names classes.now form (texts names.keys) (lent words.now)) }
 {
     let numbered = number_variables(alloc, form.classes(), names, words)?;
     let statement = statement_by(alloc, classes, form, numbered.variables.as_slice(), words)?;
@@ -332,7 +334,7 @@ pub(crate) fn statement_of(
     names: IndexSet<Vec<u8>>,
     words: &[&[u8]],
 ) -> Result<Stated, ScriptFault>
-    ensures { GivesAs stated_of result (statement_of classes.now (texts names.keys) (lent words.now)) }
+    ensures { GivesAs statement_words_of result (statement_of classes.now (texts names.keys) (lent words.now)) }
 {
     let form = form_of(words)?;
     let word_classes = form.classes();
@@ -340,5 +342,5 @@ pub(crate) fn statement_of(
         return Err(ScriptFault::Refused(UNREAD));
     }
     are_of(word_classes, words)?;
-    numbered_statement(alloc, classes, form, names, words)
+    number_statement_names(alloc, classes, form, names, words)
 }

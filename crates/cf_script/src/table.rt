@@ -2,64 +2,65 @@
 ghost use Rattle.std.specs.Prelude.{◌≡◌, length, map};
 ghost use Rattle.cf_syntax.specs.Table.{form_in, make_of, form_of, is_of, are_of};
 ghost use Rattle.cf_script.specs.Views.{lent};
-ghost use Rattle.cf_script.specs.TableViews.{row_of};
+ghost use Rattle.cf_script.specs.TableViews.{form_word_of};
 
 use crate::fault::UNREAD;
 use crate::numbers::{index_of, integer_of, is_count, is_hex, kind_of};
 use crate::words::{is, is_name, is_text, word_at};
 use cf_syntax::{
-    ArrayForm, Class, Collection, DataForm, DictForm, FieldForm, Form, PlainForm, Refusal, TextForm,
+    ArrayForm, Collection, DataForm, DictForm, FieldForm, Operand, PlainForm, Refusal,
+    StatementForm, TextForm,
 };
 
 /// A word, and the form that it finds.
-struct Row(&'static [u8], Form);
+struct FormWord(&'static [u8], StatementForm);
 
 /// The forms by their first words.
-const FIRST_WORDS: [Row; 26] = [
-    Row(b"retain", Form::Plain(PlainForm::Retain)),
-    Row(b"release", Form::Plain(PlainForm::Release)),
-    Row(b"show", Form::Plain(PlainForm::Show)),
-    Row(b"new", Form::Plain(PlainForm::New)),
-    Row(b"str.append", Form::Plain(PlainForm::StrAppend)),
-    Row(b"str.insert", Form::Text(TextForm::StrInsert)),
-    Row(b"str.delete", Form::Plain(PlainForm::StrDelete)),
-    Row(b"str.replace", Form::Text(TextForm::StrReplace)),
-    Row(b"str.sub", Form::Plain(PlainForm::StrSub)),
-    Row(b"data.append", Form::Data(DataForm::DataAppend)),
-    Row(b"data.replace", Form::Data(DataForm::DataReplace)),
-    Row(b"data.delete", Form::Plain(PlainForm::DataDelete)),
-    Row(b"num.as", Form::Plain(PlainForm::NumAs)),
-    Row(b"arr.append", Form::Array(ArrayForm::Append)),
-    Row(b"arr.insert", Form::Array(ArrayForm::Insert)),
-    Row(b"arr.set", Form::Array(ArrayForm::Set)),
-    Row(b"arr.remove", Form::Array(ArrayForm::Remove)),
-    Row(b"arr.take", Form::Array(ArrayForm::Take)),
-    Row(b"dict.add", Form::Dict(DictForm::Add)),
-    Row(b"dict.set", Form::Dict(DictForm::Set)),
-    Row(b"dict.replace", Form::Dict(DictForm::Replace)),
-    Row(b"dict.remove", Form::Dict(DictForm::Remove)),
-    Row(b"dict.take", Form::Dict(DictForm::Take)),
-    Row(b"field.set", Form::Field(FieldForm::Set)),
-    Row(b"field.clear", Form::Field(FieldForm::Clear)),
-    Row(b"field.take", Form::Field(FieldForm::Take)),
+const FIRST_WORDS: [FormWord; 26] = [
+    FormWord(b"retain", StatementForm::Plain(PlainForm::Retain)),
+    FormWord(b"release", StatementForm::Plain(PlainForm::Release)),
+    FormWord(b"show", StatementForm::Plain(PlainForm::Show)),
+    FormWord(b"new", StatementForm::Plain(PlainForm::New)),
+    FormWord(b"str.append", StatementForm::Plain(PlainForm::StrAppend)),
+    FormWord(b"str.insert", StatementForm::Text(TextForm::StrInsert)),
+    FormWord(b"str.delete", StatementForm::Plain(PlainForm::StrDelete)),
+    FormWord(b"str.replace", StatementForm::Text(TextForm::StrReplace)),
+    FormWord(b"str.sub", StatementForm::Plain(PlainForm::StrSub)),
+    FormWord(b"data.append", StatementForm::Data(DataForm::DataAppend)),
+    FormWord(b"data.replace", StatementForm::Data(DataForm::DataReplace)),
+    FormWord(b"data.delete", StatementForm::Plain(PlainForm::DataDelete)),
+    FormWord(b"num.as", StatementForm::Plain(PlainForm::NumAs)),
+    FormWord(b"arr.append", StatementForm::Array(ArrayForm::Append)),
+    FormWord(b"arr.insert", StatementForm::Array(ArrayForm::Insert)),
+    FormWord(b"arr.set", StatementForm::Array(ArrayForm::Set)),
+    FormWord(b"arr.remove", StatementForm::Array(ArrayForm::Remove)),
+    FormWord(b"arr.take", StatementForm::Array(ArrayForm::Take)),
+    FormWord(b"dict.add", StatementForm::Dict(DictForm::Add)),
+    FormWord(b"dict.set", StatementForm::Dict(DictForm::Set)),
+    FormWord(b"dict.replace", StatementForm::Dict(DictForm::Replace)),
+    FormWord(b"dict.remove", StatementForm::Dict(DictForm::Remove)),
+    FormWord(b"dict.take", StatementForm::Dict(DictForm::Take)),
+    FormWord(b"field.set", StatementForm::Field(FieldForm::Set)),
+    FormWord(b"field.clear", StatementForm::Field(FieldForm::Clear)),
+    FormWord(b"field.take", StatementForm::Field(FieldForm::Take)),
 ];
 
 /// The forms that make an object, by its kind.
-const KINDS: [Row; 7] = [
-    Row(b"string", Form::Text(TextForm::MakeString)),
-    Row(b"mstring", Form::Text(TextForm::MakeMstring)),
-    Row(b"data", Form::Data(DataForm::MakeData)),
-    Row(b"mdata", Form::Data(DataForm::MakeMdata)),
-    Row(b"number", Form::Plain(PlainForm::MakeNumber)),
-    Row(b"array", Form::Make(Collection::Array)),
-    Row(b"dict", Form::Make(Collection::Dict)),
+const KINDS: [FormWord; 7] = [
+    FormWord(b"string", StatementForm::Text(TextForm::MakeString)),
+    FormWord(b"mstring", StatementForm::Text(TextForm::MakeMstring)),
+    FormWord(b"data", StatementForm::Data(DataForm::MakeData)),
+    FormWord(b"mdata", StatementForm::Data(DataForm::MakeMdata)),
+    FormWord(b"number", StatementForm::Plain(PlainForm::MakeNumber)),
+    FormWord(b"array", StatementForm::Make(Collection::Array)),
+    FormWord(b"dict", StatementForm::Make(Collection::Dict)),
 ];
 
 /// The form that a word finds.
-fn form_in(rows: &[Row], word: &[u8]) -> Result<Form, Refusal>
-    ensures { result ≡ form_in (map row_of rows.now) word.now }
+fn form_in(rows: &[FormWord], word: &[u8]) -> Result<StatementForm, Refusal>
+    ensures { result ≡ form_in (map form_word_of rows.now) word.now }
 {
-    for Row(found_by, form) in rows {
+    for FormWord(found_by, form) in rows {
         if is(word, found_by) {
             return Ok(*form);
         }
@@ -68,7 +69,7 @@ fn form_in(rows: &[Row], word: &[u8]) -> Result<Form, Refusal>
 }
 
 /// The form that words begin which make an object.
-fn make_of(words: &[&[u8]]) -> Result<Form, Refusal>
+fn make_of(words: &[&[u8]]) -> Result<StatementForm, Refusal>
     ensures { result ≡ make_of (lent words.now) }
 {
     let form = form_in(&KINDS, word_at(words, 2))?;
@@ -76,7 +77,7 @@ fn make_of(words: &[&[u8]]) -> Result<Form, Refusal>
 }
 
 /// The form that words begin.
-pub(crate) fn form_of(words: &[&[u8]]) -> Result<Form, Refusal>
+pub(crate) fn form_of(words: &[&[u8]]) -> Result<StatementForm, Refusal>
     ensures { result ≡ form_of (lent words.now) }
 {
     let first = word_at(words, 0);
@@ -88,27 +89,27 @@ pub(crate) fn form_of(words: &[&[u8]]) -> Result<Form, Refusal>
 }
 
 /// Whether a word is of a class.
-fn is_of(class: Class, word: &[u8]) -> bool
+fn is_of(class: Operand, word: &[u8]) -> bool
     ensures { result ≡ is_of class word.now }
 {
     match class {
-        Class::Fixed => true,
-        Class::Variable | Class::Name => is_name(word),
-        Class::Text => is_text(word),
-        Class::Hex => is_hex(word),
-        Class::Int => integer_of(word).is_some(),
-        Class::Index => index_of(word).is_some(),
-        Class::Kind => kind_of(word).is_some(),
-        Class::Plain => is(word, b"plain"),
-        Class::Fields => is(word, b"fields"),
-        Class::Count => is_count(word),
-        Class::Equal => is(word, b"equal"),
-        Class::Equality => is(word, b"identity") || is(word, b"key"),
+        Operand::Fixed => true,
+        Operand::Variable | Operand::Name => is_name(word),
+        Operand::Text => is_text(word),
+        Operand::Hex => is_hex(word),
+        Operand::Int => integer_of(word).is_some(),
+        Operand::Index => index_of(word).is_some(),
+        Operand::Kind => kind_of(word).is_some(),
+        Operand::Plain => is(word, b"plain"),
+        Operand::Fields => is(word, b"fields"),
+        Operand::Count => is_count(word),
+        Operand::Equal => is(word, b"equal"),
+        Operand::Equality => is(word, b"identity") || is(word, b"key"),
     }
 }
 
 /// Whether as many words as classes are each of theirs.
-pub(crate) fn are_of(classes: &[Class], words: &[&[u8]]) -> Result<(), Refusal>
+pub(crate) fn are_of(classes: &[Operand], words: &[&[u8]]) -> Result<(), Refusal>
     requires { length words.now ≡ length classes.now }
     ensures { result ≡ are_of classes.now (lent words.now) }
 {

@@ -2,12 +2,12 @@
 ghost use Rattle.std.specs.Prelude.{◌≡◌, ◌≤◌, ◌<◌, ◌∷◌, length, take, drop, MatchOption, IfSome, IfOk, slice_index, None, true, false};
 ghost use Rattle.std.specs.List.{list_all, list_any};
 ghost use Rattle.std.specs.Str.{bytes_eq};
-ghost use Rattle.cf_syntax.specs.Words.{is_blank, goes, words, words_from, is_letter, is_name_byte, is_reserved, is_name, is_text, unescaped, text_from, text_of};
+ghost use Rattle.cf_syntax.specs.Words.{is_blank, goes, words, words_from, is_letter, is_name_byte, is_reserved, is_name, is_text, unescape, text_from, text_of};
 ghost use Rattle.cf_syntax.specs.Table.{word_at};
-ghost use Rattle.cf_syntax.specs.Text.{formed};
+ghost use Rattle.cf_syntax.specs.Text.{words_or_refusal};
 ghost use Rattle.cf_script.specs.Gives.{GivesAs};
 ghost use Rattle.cf_script.specs.Views.{lent};
-ghost use Rattle.cf_syntax.proofs.WordLaws.{IsWithin, begun, behind};
+ghost use Rattle.cf_syntax.proofs.WordLaws.{IsWithin, first_place, behind};
 
 use crate::fault::{ScriptFault, UNREAD};
 use crate::lines::is_blank;
@@ -63,7 +63,7 @@ fn goes(place: Place, byte: u8) -> Option<Place>
 
 /// Where the byte after the first one of a word stands.
 fn start(first: u8) -> Place
-    ensures { result ≡ begun first }
+    ensures { result ≡ first_place first }
 {
     if first == b'"' {
         Place::Quoted
@@ -75,7 +75,8 @@ fn start(first: u8) -> Place
 /// How many bytes go on with a word whose place is given, or `None` where it is not of its form.
 fn word_len(place: Place, bytes: &[u8]) -> Option<usize>
     requires { IsWithin place }
-    ensures words { MatchOption result (words_from place bytes.now ≡ None) (λ n. words_from place bytes.now ≡ behind (take n bytes.now) (words (drop n bytes.now))) }
+    ensures words { MatchOption result (words_from place bytes.now ≡ None)
+        (λ n. words_from place bytes.now ≡ behind (take n bytes.now) (words (drop n bytes.now))) }
     ensures within { IfSome result (λ n. n ≤ length bytes.now) }
 {
     let mut place = place;
@@ -94,8 +95,9 @@ fn word_len(place: Place, bytes: &[u8]) -> Option<usize>
 /// The first word, and what stands after it; `None` where it is not of its form.
 fn first_word(bytes: &[u8]) -> Option<(&[u8], &[u8])>
     requires some { 0 < length bytes.now }
-    requires begun { is_blank (slice_index bytes.now 0) ≡ false }
-    ensures words { MatchOption result (words bytes.now ≡ None) (λ r. words bytes.now ≡ behind r.0.now (words r.1.now)) }
+    requires starts { is_blank (slice_index bytes.now 0) ≡ false }
+    ensures words { MatchOption result (words bytes.now ≡ None)
+        (λ r. words bytes.now ≡ behind r.0.now (words r.1.now)) }
     ensures shorter { IfSome result (λ r. length r.1.now < length bytes.now) }
 {
     let (_, behind) = bytes.split_at(1);
@@ -106,7 +108,7 @@ fn first_word(bytes: &[u8]) -> Option<(&[u8], &[u8])>
 /// The bytes without the blanks at their front.
 fn skip_blanks(bytes: &[u8]) -> &[u8]
     ensures words { words result.now ≡ words bytes.now }
-    ensures begun { 0 < length result.now → is_blank (slice_index result.now 0) ≡ false }
+    ensures starts { 0 < length result.now → is_blank (slice_index result.now 0) ≡ false }
     ensures within { length result.now ≤ length bytes.now }
 {
     for (i, b) in bytes.iter().enumerate() {
@@ -120,7 +122,7 @@ fn skip_blanks(bytes: &[u8]) -> &[u8]
 
 /// The words of a line, in place of what `found` has.
 pub(crate) fn split_words<'a>(found: &mut Vec<&'a [u8]>, line: &'a [u8]) -> Result<(), ScriptFault>
-    ensures { GivesAs (λ _. lent found.new.items) result (formed (words line.now)) }
+    ensures { GivesAs (λ _. lent found.new.items) result (words_or_refusal (words line.now)) }
 {
     found.clear();
     let mut rest = skip_blanks(line);
@@ -203,8 +205,8 @@ pub(crate) fn is_text(word: &[u8]) -> bool
     }
 }
 
-fn unescaped(byte: u8) -> u8
-    ensures { result ≡ unescaped byte }
+fn unescape(byte: u8) -> u8
+    ensures { result ≡ unescape byte }
 {
     if byte == b'n' { b'\n' } else { byte }
 }
@@ -217,7 +219,7 @@ fn text_from(alloc: Global, bytes: &[u8]) -> Result<Vec<u8>, AllocError>
     let mut escape = false;
     for b in bytes {
         if escape {
-            text.push(unescaped(*b))?;
+            text.push(unescape(*b))?;
             escape = false;
         } else if *b == b'"' {
             return Ok(text);

@@ -5,21 +5,21 @@ use Rattle.cf_contents.specs.Deeds as deeds
 use Rattle.cf_body.specs.Bodies.{BodyView, object_in, held_of}
 use Rattle.cf_body.specs.Changes.{done_of, CanBe, HasRoom}
 use Rattle.cf_contents.specs.Stores.{live, Ready}
-use Rattle.cf_body.specs.declared.change.Change.{Change}
-use Rattle.cf_body.specs.declared.change.Change.TheVariants.{Nothing}
-use Rattle.cf_store.specs.declared.deed.Origin.{Origin}
-use Rattle.cf_store.specs.declared.deed.Origin.TheVariants.{Nowhere, Fresh, There}
-use Rattle.cf_store.specs.declared.deed.Deed.{Deed}
-use Rattle.cf_store.specs.declared.deed.ReadyDeed.{ReadyDeed}
+use Rattle.cf_body.specs.declared.change.BodyChange.{BodyChange}
+use Rattle.cf_body.specs.declared.change.BodyChange.TheVariants.{Nothing}
+use Rattle.cf_store.specs.declared.plan.Origin.{Origin}
+use Rattle.cf_store.specs.declared.plan.Origin.TheVariants.{Nowhere, Fresh, There}
+use Rattle.cf_store.specs.declared.plan.Plan.{Plan}
+use Rattle.cf_store.specs.declared.plan.ReadyPlan.{ReadyPlan}
 use Rattle.cf_store.specs.declared.store.Edited.{Edited}
 
 -- the object, where it was made, can be changed so
-abbrev pub CanBeAt : Change → Option Numbered → Type 0
+abbrev pub CanBeAt : BodyChange → Option Numbered → Type 0
 CanBeAt change None = Unit {0}
 CanBeAt change (Some u) = CanBe change u.object.content
 
 -- a change can be done on the body of an object without memory
-abbrev pub IsReadyAt : Change → Option BodyView → Type 0
+abbrev pub IsReadyAt : BodyChange → Option BodyView → Type 0
 IsReadyAt change None = Unit {0}
 IsReadyAt change (Some b) = CanBe change b.content × HasRoom change b
 
@@ -34,20 +34,20 @@ IsNew Nowhere = Unit {0}
 IsNew (Fresh b) = held_of b ≡ live (object_in b)
 IsNew (There o) = Unit {0}
 
-abbrev pub deed_by : Deed → deeds.Deed
+abbrev pub deed_by : Plan → deeds.Deed
 deed_by d = record { answer = d.answer; origin = origin_of d.origin; change = done_of d.change }
 
-abbrev pub ready_by : ReadyDeed → Ready
+abbrev pub ready_by : ReadyPlan → Ready
 ready_by r = record { object = r.object; deed = deed_by r.deed }
 
 -- it is the deed, and can be done to the first object that is used
-pub record Does (deed : deeds.Deed) (a : Option Numbered) (d : Deed) : Type 0 where
+pub record Does (deed : deeds.Deed) (a : Option Numbered) (d : Plan) : Type 0 where
   pub is : deed_by d ≡ deed
   pub new : IsNew d.origin
   pub can : CanBeAt d.change a
 
 -- it is a deed that changes nothing
-pub record IsAlone (deed : deeds.Deed) (d : Deed) : Type 0 where
+pub record IsAlone (deed : deeds.Deed) (d : Plan) : Type 0 where
   pub is : deed_by d ≡ deed
   pub new : IsNew d.origin
   pub change : d.change ≡ Nothing
@@ -57,7 +57,7 @@ body_at bodies None = None
 body_at bodies (Some o) = slice_get bodies o
 
 -- what is ready can be done
-abbrev pub IsReadyIn : List BodyView → Option ReadyDeed → Type 0
+abbrev pub IsReadyIn : List BodyView → Option ReadyPlan → Type 0
 IsReadyIn bodies None = Unit {0}
 IsReadyIn bodies (Some r) = IsNew r.deed.origin × IsReadyAt r.deed.change (body_at bodies r.object)
 

@@ -5,21 +5,21 @@ use Rattle.cf_syntax.specs.declared.script.ClassLine.{ClassLine}
 use Rattle.cf_contents.specs.Keys.{Numbered, number_of}
 use Rattle.cf_contents.specs.Deeds as deeds
 use Rattle.cf_store.specs.Applies.{CanBeAt}
-use Rattle.cf_body.specs.declared.change.Change.TheVariants.{PutPair, RemovePair}
-use Rattle.cf_store.specs.declared.pair_deeds.Entry.{Entry}
+use Rattle.cf_body.specs.declared.change.BodyChange.TheVariants.{PutPair, RemovePair}
+use Rattle.cf_store.specs.declared.pair_plans.FoundPair.{FoundPair}
 
 -- a deed by what is found
-abbrev pub deed_with : Option Entry → (Cell → Option ℕ → deeds.Deed) → deeds.Deed
-deed_with None deed = deeds.skipped
+abbrev pub deed_with : Option FoundPair → (Cell → Option ℕ → deeds.Deed) → deeds.Deed
+deed_with None deed = deeds.skipping
 deed_with (Some e) deed = deed e.key e.value
 
 -- the key is that of the second object, and the first one can be changed by it
-pub record IsEntry (a b : Option Numbered) (e : Entry) : Type 0 where
+pub record IsFoundPair (a b : Option Numbered) (e : FoundPair) : Type 0 where
   pub named : number_of b ≡ Some e.key.id
   pub puts : (key : Cell) (value : ℕ) → CanBeAt (PutPair key value) a
   pub removes : (key : Cell) → CanBeAt (RemovePair key) a
 
 -- what is found decides each deed on a pair
-pub record IsFound (classes : List ClassLine) (a b : Option Numbered) (found : Option Entry) : Type 0 where
+pub record IsFound (classes : List ClassLine) (a b : Option Numbered) (found : Option FoundPair) : Type 0 where
   pub is : (deed : Cell → Option ℕ → deeds.Deed) → deeds.with_pair classes a b deed ≡ deed_with found deed
-  pub entry : IfSome found (IsEntry a b)
+  pub entry : IfSome found (IsFoundPair a b)

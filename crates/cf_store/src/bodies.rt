@@ -5,25 +5,26 @@ ghost use Rattle.cf_contents.specs.Deeds.{object_of, taken_in, given_out};
 ghost use Rattle.cf_body.specs.Bodies.{held_of};
 ghost use Rattle.cf_body.specs.Changes.{done_of, CanBe};
 ghost use Rattle.cf_store.specs.Applies.{IsNew, IsReadyAt, body_at, ready_by};
-ghost use Rattle.cf_contents.specs.Stores.{MayGrow, objects_of, readied, bodies_changed};
+ghost use Rattle.cf_contents.specs.Stores.{MayGrow, objects_of, ready_deed, bodies_changed};
 
-use crate::deed::ReadyDeed;
-use crate::deeds::deed;
+use crate::plan::ReadyPlan;
+use crate::plans::plan_of;
 use crate::seen::{Found, see};
-use cf_body::{Body, Change, Moved};
+use cf_body::{Body, BodyChange, Moved};
 use cf_ids::ObjId;
 use cf_syntax::{ClassLine, Statement};
 use std::alloc::{AllocError as NoMemory, Global};
 
 /// What a statement does among bodies, where it uses these objects.
-pub(crate) fn deed_among(
+pub(crate) fn plan_among(
     alloc: Global,
     classes: &[ClassLine],
     bodies: &[Body],
     statement: &Statement,
     used: &[Option<ObjId>; 3],
-) -> Result<ReadyDeed, NoMemory>
-    ensures ready { IfOk result (λ r. ready_by r ≡ readied classes.now (map held_of bodies.now) statement.now used.now) }
+) -> Result<ReadyPlan, NoMemory>
+    ensures ready { IfOk result
+        (λ r. ready_by r ≡ ready_deed classes.now (map held_of bodies.now) statement.now used.now) }
     ensures new { IfOk result (λ r. IsNew r.deed.origin) }
     ensures can { IfOk result (λ r. IfSome (body_at bodies.now r.object) (λ b. CanBe r.deed.change b.content)) }
 {
@@ -32,8 +33,8 @@ pub(crate) fn deed_among(
         second: see(bodies, used[1]),
         third: see(bodies, used[2]),
     };
-    let deed = deed(alloc, classes, statement, &found)?;
-    Ok(ReadyDeed {
+    let deed = plan_of(alloc, classes, statement, &found)?;
+    Ok(ReadyPlan {
         object: used[0],
         deed,
     })
@@ -56,7 +57,7 @@ fn place_of(bodies: &[Body], object: Option<ObjId>) -> Option<usize>
 pub(crate) fn make_room(
     bodies: &mut Vec<Body>,
     object: Option<ObjId>,
-    change: &Change,
+    change: &BodyChange,
 ) -> Result<(), NoMemory>
     requires can { IfSome (body_at bodies.old.items object) (λ b. CanBe change.now b.content) }
     requires few { MayGrow (map held_of bodies.old.items) }
@@ -73,9 +74,14 @@ pub(crate) fn make_room(
 }
 
 /// Changes the body of an object, where it was made.
-pub(crate) fn change_body(bodies: &mut Vec<Body>, object: Option<ObjId>, change: Change) -> Moved
+pub(crate) fn change_body(
+    bodies: &mut Vec<Body>,
+    object: Option<ObjId>,
+    change: BodyChange,
+) -> Moved
     requires { IsReadyAt change (body_at bodies.old.items object) }
-    ensures bodies { map held_of bodies.new.items ≡ bodies_changed object (done_of change) (map held_of bodies.old.items) }
+    ensures bodies { map held_of bodies.new.items
+        ≡ bodies_changed object (done_of change) (map held_of bodies.old.items) }
     ensures took { let old = objects_of (map held_of bodies.old.items) in
         present result.took ≡ taken_in (object_of old object) (done_of change) }
     ensures gave { let old = objects_of (map held_of bodies.old.items) in

@@ -2,15 +2,15 @@
 #![tactic(auto)]
 
 mod bodies;
-mod content_deeds;
-mod deed;
-mod deeds;
+mod content_plans;
 mod making;
-mod pair_deeds;
-mod place_deeds;
+mod pair_plans;
+mod place_plans;
+mod plan;
+mod plans;
 mod seen;
 mod store;
 
-pub use deed::Origin;
+pub use plan::Origin;
 pub use std::alloc::AllocError as NoMemory;
 pub use store::{Edited, Store};

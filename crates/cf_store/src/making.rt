@@ -2,10 +2,10 @@
 ghost use Rattle.std.specs.Prelude.{◌≡◌, ◌<◌, None, [], length, replicate, IfOk};
 ghost use Rattle.cf_contents.specs.Contents.{text_content, data_content, number_content, array_content, dictionary_content, string_class, data_class, number_class, array_class, dictionary_class, instance_of};
 ghost use Rattle.cf_contents.specs.Keys.{class_line};
-ghost use Rattle.cf_contents.specs.Deeds.{made, fresh_if, deed_of};
+ghost use Rattle.cf_contents.specs.Deeds.{creating, fresh_if, deed_of};
 ghost use Rattle.cf_store.specs.Applies.{IsAlone};
 
-use crate::deed::Deed;
+use crate::plan::Plan;
 use cf_array::Array;
 use cf_body::{Instance, Kind, Pairs, class_line};
 use cf_data::Bytes;
@@ -27,11 +27,11 @@ const ARRAY: TypeId = TypeId(6);
 const DICTIONARY: TypeId = TypeId(7);
 
 /// What a statement does where no object is found that it uses.
-pub(crate) fn deed_alone(
+pub(crate) fn plan_alone(
     alloc: Global,
     classes: &[ClassLine],
     statement: &Statement,
-) -> Result<Deed, NoMemory>
+) -> Result<Plan, NoMemory>
     ensures { IfOk result (λ d. IsAlone (deed_of classes.now statement.now None None None) d) }
 {
     match statement {
@@ -47,27 +47,27 @@ pub(crate) fn deed_alone(
             key,
             ..
         } => make_instance(alloc, classes, *class, *key),
-        Statement::Retain { .. } | Statement::Release { .. } => Ok(Deed::answered(Answer::Ok)),
-        _ => Ok(Deed::skipped()),
+        Statement::Retain { .. } | Statement::Release { .. } => Ok(Plan::answering(Answer::Ok)),
+        _ => Ok(Plan::skipping()),
     }
 }
 
 /// Makes a string of a text.
-fn make_text(alloc: Global, mutable: bool, literal: &TextLiteral) -> Result<Deed, NoMemory>
-    ensures { let deed = made string_class (text_content mutable literal.now) in
+fn make_text(alloc: Global, mutable: bool, literal: &TextLiteral) -> Result<Plan, NoMemory>
+    ensures { let deed = creating string_class (text_content mutable literal.now) in
         IfOk result (λ d. IsAlone deed d) }
 {
     let text = literal.text().copy(alloc)?;
-    Ok(Deed::made(TypeId::STRING, Kind::Text { mutable, text }))
+    Ok(Plan::creating(TypeId::STRING, Kind::Text { mutable, text }))
 }
 
 /// Makes data of bytes.
-fn make_data(alloc: Global, mutable: bool, literal: &DataLiteral) -> Result<Deed, NoMemory>
-    ensures { let deed = made data_class (data_content mutable literal.now) in
+fn make_data(alloc: Global, mutable: bool, literal: &DataLiteral) -> Result<Plan, NoMemory>
+    ensures { let deed = creating data_class (data_content mutable literal.now) in
         IfOk result (λ d. IsAlone deed d) }
 {
     let bytes = copy_bytes(alloc, literal.bytes())?;
-    Ok(Deed::made(DATA, Kind::Data { mutable, bytes }))
+    Ok(Plan::creating(DATA, Kind::Data { mutable, bytes }))
 }
 
 /// The same bytes once more.
@@ -81,25 +81,25 @@ pub(crate) fn copy_bytes(alloc: Global, bytes: &[u8]) -> Result<Bytes, NoMemory>
 }
 
 /// Makes a number.
-fn make_number(number: Num) -> Deed
-    ensures { IsAlone (made number_class (number_content number)) result }
+fn make_number(number: Num) -> Plan
+    ensures { IsAlone (creating number_class (number_content number)) result }
 {
-    Deed::made(NUMBER, Kind::Number(number))
+    Plan::creating(NUMBER, Kind::Number(number))
 }
 
 /// Makes an array without elements.
-fn make_array(alloc: Global, plain: bool) -> Deed
-    ensures { IsAlone (made array_class (array_content plain [])) result }
+fn make_array(alloc: Global, plain: bool) -> Plan
+    ensures { IsAlone (creating array_class (array_content plain [])) result }
 {
     let elements = Array::new(alloc);
-    Deed::made(ARRAY, Kind::Array { plain, elements })
+    Plan::creating(ARRAY, Kind::Array { plain, elements })
 }
 
 /// Makes a dictionary without pairs.
-fn make_dictionary(alloc: Global, plain: bool) -> Deed
-    ensures { IsAlone (made dictionary_class (dictionary_content plain [])) result }
+fn make_dictionary(alloc: Global, plain: bool) -> Plan
+    ensures { IsAlone (creating dictionary_class (dictionary_content plain [])) result }
 {
-    Deed::made(DICTIONARY, Kind::Dictionary(Pairs::new(alloc, plain)))
+    Plan::creating(DICTIONARY, Kind::Dictionary(Pairs::new(alloc, plain)))
 }
 
 /// Makes an instance of a class, with empty fields.
@@ -108,15 +108,15 @@ fn make_instance(
     classes: &[ClassLine],
     class: TypeId,
     key: i64,
-) -> Result<Deed, NoMemory>
+) -> Result<Plan, NoMemory>
     ensures { let deed = fresh_if (instance_of class key (class_line classes.now class)) in
         IfOk result (λ d. IsAlone deed d) }
 {
     let Some(line) = class_line(classes, class) else {
-        return Ok(Deed::skipped());
+        return Ok(Plan::skipping());
     };
     let fields = empty_fields(alloc, line.fields)?;
-    Ok(Deed::made(class, Kind::Instance(Instance { key, fields })))
+    Ok(Plan::creating(class, Kind::Instance(Instance { key, fields })))
 }
 
 /// So many empty fields.

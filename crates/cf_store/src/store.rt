@@ -6,10 +6,10 @@ ghost use Rattle.cf_contents.specs.Deeds.{object_of, coming_in, going_out, taken
 ghost use Rattle.cf_body.specs.Bodies.{held_of};
 ghost use Rattle.cf_body.specs.Changes.{done_of};
 ghost use Rattle.cf_store.specs.Applies.{IsReadyAt, IsDeed, body_at, ready_by};
-ghost use Rattle.cf_contents.specs.Stores.{Held, MayGrow, objects_of, readied, with_body, body_retired, body_dropped, bodies_changed, is_live_in, given_up_in, left_in};
+ghost use Rattle.cf_contents.specs.Stores.{Held, MayGrow, objects_of, ready_deed, with_body, body_finalised, body_dropped, bodies_changed, is_live_in, given_up_in, left_in};
 
-use crate::bodies::{change_body, deed_among, make_room};
-use crate::deed::{Deed, Origin, ReadyDeed, set_ready};
+use crate::bodies::{change_body, make_room, plan_among};
+use crate::plan::{Origin, Plan, ReadyPlan, set_ready};
 use cf_body::{Body, Moved};
 use cf_ids::{Answer, ObjId, TypeId};
 use cf_syntax::{ClassLine, Statement};
@@ -33,7 +33,7 @@ pub struct Edited {
 #[derive(Drop)]
 pub struct Store {
     bodies: Vec<Body>,
-    ready: Option<ReadyDeed>,
+    ready: Option<ReadyPlan>,
 }
 
 impl Model for Store {
@@ -86,7 +86,7 @@ impl Store {
         ensures { result ≡ is_live_in self.now.bodies o }
     {
         match self.bodies.get(o.0 as usize) {
-            Some(body) => !body.is_dead(),
+            Some(body) => !body.is_finalised(),
             None => false,
         }
     }
@@ -118,7 +118,7 @@ impl Store {
     /// Finalises an object: it gives up its slots from now on.
     pub fn retire(&mut self, o: ObjId)
         requires { is_live_in self.old.bodies o ≡ true }
-        ensures bodies { self.new.bodies ≡ with_body body_retired o self.old.bodies }
+        ensures bodies { self.new.bodies ≡ with_body body_finalised o self.old.bodies }
         ensures ready { self.new.ready ≡ self.old.ready }
         ensures room { self.new.room ≡ self.old.room }
     {
@@ -169,13 +169,14 @@ impl Store {
     ) -> Result<(), NoMemory>
         requires { MayGrow self.old.bodies }
         ensures bodies { self.new.bodies ≡ self.old.bodies }
-        ensures ready { OnOk result (self.new.ready ≡ Some (readied classes.now self.old.bodies statement.now used.now)) }
+        ensures ready { OnOk result
+            (self.new.ready ≡ Some (ready_deed classes.now self.old.bodies statement.now used.now)) }
         ensures room { OnOk result (0 < self.new.room) }
         ensures kept { self.old.room ≤ self.new.room }
         ensures refused { OnErr result (self.new.ready ≡ self.old.ready) }
     {
         self.bodies.reserve(1)?;
-        let ready = deed_among(alloc, classes, &self.bodies, statement, used)?;
+        let ready = plan_among(alloc, classes, &self.bodies, statement, used)?;
         make_room(&mut self.bodies, ready.object, &ready.deed.change)?;
         set_ready(&mut self.ready, Some(ready));
         Ok(())
@@ -189,14 +190,15 @@ impl Store {
             present result.took ≡ taken_in (object_of (objects_of self.old.bodies) r.object) r.deed.change) }
         ensures gave { IfSome self.old.ready (λ r.
             present result.gave ≡ given_out (object_of (objects_of self.old.bodies) r.object) r.deed.change) }
-        ensures bodies { IfSome self.old.ready (λ r. self.new.bodies ≡ bodies_changed r.object r.deed.change self.old.bodies) }
+        ensures bodies { IfSome self.old.ready
+            (λ r. self.new.bodies ≡ bodies_changed r.object r.deed.change self.old.bodies) }
         ensures ready { self.new.ready ≡ None }
         ensures room { self.new.room ≡ self.old.room }
     {
-        let Some(ReadyDeed { object, deed }) = self.ready.take() else {
+        let Some(ReadyPlan { object, deed }) = self.ready.take() else {
             unreachable!()
         };
-        let Deed {
+        let Plan {
             answer,
             origin,
             change,

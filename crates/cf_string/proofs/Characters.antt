@@ -157,7 +157,8 @@ pub record Spelled (units : List ℕ) : Type 0 where
   pub are : all_scalars characters ≡ true
   pub spell : units_of characters ≡ units
 
-spelled_one : (u : ℕ) (us : List ℕ) → u < 2 ^ 16 → is_high_surrogate u ≡ false → is_low_surrogate u ≡ false → Spelled us
+spelled_one : (u : ℕ) (us : List ℕ) → u < 2 ^ 16 → is_high_surrogate u ≡ false → is_low_surrogate u ≡ false
+    → Spelled us
     → Spelled (u ∷ us)
 spelled_one u us fits high low rest = record {
   characters = u ∷ rest.characters;

@@ -4,7 +4,7 @@ use Rattle.std.proofs.lemmas.Bool.{cases_lt, or_parts, ltb-false}
 use Rattle.std.proofs.lemmas.List.{get_or-take, get_or-drop, get_or_append_left, get_or-append_right, get_or_past, length-take, length-take-le, take-append-le, take-take, drop_at, append_assoc}
 use Rattle.std.specs.Char.Utf16.{is_high_surrogate, is_low_surrogate}
 use Rattle.cf_string.specs.Units.{IsText, splits_pair, replaced}
-use Rattle.cf_string.specs.Faults.{cut_fault}
+use Rattle.cf_string.specs.Faults.{split_fault}
 use Rattle.cf_string.specs.declared.faults.StrFault.TheVariants.{Range, SplitsPair}
 
 low_past : (units : List ℕ) (i : ℕ) → length units ≤ i → is_low_surrogate (get_or units i 0) ≡ false
@@ -26,9 +26,9 @@ low_same : (units : List ℕ) (i j : ℕ) → i ≡ j
 low_same units i j same = ap (λ k. is_low_surrogate (get_or units k 0)) same
 
 -- no low surrogate stands at a place that splits no pair
-pub low_at_cut : (units : List ℕ) (i : ℕ) → IsText units → splits_pair units i ≡ false
+pub low_at_split : (units : List ℕ) (i : ℕ) → IsText units → splits_pair units i ≡ false
     → is_low_surrogate (get_or units i 0) ≡ false
-low_at_cut units i text whole = ⊎_elim
+low_at_split units i text whole = ⊎_elim
     (λ (inside : 0 < i). second_false _ _ (low_same units i (i - 1 + 1) (omega arith) ∙ text.paired (i - 1)) whole)
     (λ (start : i ≤ 0). low_same units i 0 (omega arith) ∙ text.starts_whole)
     (cases_lt 0 i)
@@ -110,25 +110,25 @@ whole_cut_by units at len false true is_range is_split none = cc
 whole_cut_by units at len false false is_range is_split none = let parts = or_parts _ _ is_split in
     record { fits = ltb-false _ _ is_range; front = parts.0; back = parts.1 }
 
-pub whole_cut : (units : List ℕ) (at len : ℕ) → cut_fault units at len ≡ None → IsWholeCut units at len
-whole_cut units at len none = whole_cut_by units at len _ _ refl refl none
+pub whole_split : (units : List ℕ) (at len : ℕ) → split_fault units at len ≡ None → IsWholeCut units at len
+whole_split units at len none = whole_cut_by units at len _ _ refl refl none
 
 -- a part of a text, between places that split no pair
-pub IsText-part : (units : List ℕ) (at len : ℕ) → IsText units → cut_fault units at len ≡ None
+pub IsText-part : (units : List ℕ) (at len : ℕ) → IsText units → split_fault units at len ≡ None
     → IsText (take len (drop at units))
 IsText-part units at len text none =
-    let cut = whole_cut units at len none in
-    IsText-take (drop at units) len (IsText-drop units at text (low_at_cut units at text cut.front))
-    (rw (get_or-drop at units len 0) (low_at_cut units (at + len) text cut.back))
+    let cut = whole_split units at len none in
+    IsText-take (drop at units) len (IsText-drop units at text (low_at_split units at text cut.front))
+    (rw (get_or-drop at units len 0) (low_at_split units (at + len) text cut.back))
 
 -- a text with a range replaced by another text; by the empty one it is taken out, and an empty range takes it in
 pub IsText-replaced : (units : List ℕ) (at len : ℕ) (other : List ℕ) → IsText units → IsText other
-    → cut_fault units at len ≡ None → IsText (replaced units at len other)
+    → split_fault units at len ≡ None → IsText (replaced units at len other)
 IsText-replaced units at len other text put none =
-    let cut = whole_cut units at len none in
+    let cut = whole_split units at len none in
     IsText-append (take at units ++ other) (drop (at + len) units)
-    (IsText-append (take at units) other (IsText-take units at text (low_at_cut units at text cut.front)) put)
-    (IsText-drop units (at + len) text (low_at_cut units (at + len) text cut.back))
+    (IsText-append (take at units) other (IsText-take units at text (low_at_split units at text cut.front)) put)
+    (IsText-drop units (at + len) text (low_at_split units (at + len) text cut.back))
 
 -- the second text is put in after the range, and then the range is taken out
 pub replaced_in_two : (units : List ℕ) (at len : ℕ) (other put : List ℕ) → at + len ≤ length units

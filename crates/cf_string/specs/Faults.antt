@@ -11,8 +11,8 @@ bytes_fault bytes = if is_utf8 bytes then None else Some NotUtf8
 
 -- why the units may not be cut at `at` and at `at + len`, if they may not: the range passes their length, or
 -- one of the two places falls inside a pair
-abbrev pub cut_fault : List ℕ → ℕ → ℕ → Option StrFault
-cut_fault units at len =
+abbrev pub split_fault : List ℕ → ℕ → ℕ → Option StrFault
+split_fault units at len =
     if nat_lt (length units) (at + len) then Some Range
     else (if splits_pair units at || splits_pair units (at + len) then Some SplitsPair else None)
 

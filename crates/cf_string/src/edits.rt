@@ -26,7 +26,7 @@ pub(crate) fn put_in(units: &mut Vec<u16>, at: usize, more: &[u16])
 }
 
 /// Takes out `len` units from the place `at` on. What stands after them moves down.
-pub(crate) fn cut_out(units: &mut Vec<u16>, at: usize, len: usize)
+pub(crate) fn take_out(units: &mut Vec<u16>, at: usize, len: usize)
     requires { at + len ≤ vec_len units.old }
     ensures units { units.new.items ≡ take at units.old.items ++ drop (at + len) units.old.items }
     ensures len { vec_len units.new + len ≡ vec_len units.old }

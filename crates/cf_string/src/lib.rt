@@ -2,10 +2,10 @@
 //! every text is valid, so no call leaves half a surrogate pair.
 #![tactic(auto)]
 
-mod cuts;
 mod decoding;
 mod edits;
 mod faults;
+mod splits;
 mod texts;
 
 pub use faults::StrFault;

@@ -4,13 +4,13 @@ ghost use Rattle.std.specs.Char.Utf16.{utf16_lossy_chars};
 ghost use Rattle.std.specs.Ordering.{nat_cmp};
 ghost use Rattle.std.specs.Cmp.Lexicographic.{slice_cmp};
 ghost use Rattle.std.specs.Str.{IsUtf8, chars};
-ghost use Rattle.cf_string.specs.Faults.{bytes_fault, cut_fault, done_unless, IsRefusedFor};
+ghost use Rattle.cf_string.specs.Faults.{bytes_fault, split_fault, done_unless, IsRefusedFor};
 ghost use Rattle.cf_string.specs.Units.{IsFirstPlace, IsText, StandsAt, StandsNowhereFrom, replaced, units_of};
 
-use crate::cuts::cut_fault;
 use crate::decoding::char_at;
-use crate::edits::{cut_out, push_all, put_in};
+use crate::edits::{push_all, put_in, take_out};
 use crate::faults::StrFault;
+use crate::splits::split_fault;
 use std::alloc::{AllocError as NoMemory, Global};
 use std::cmp::Ordering;
 use std::marker::Model;
@@ -95,19 +95,19 @@ impl Str {
 
     /// Why the `len` units from `at` on may not be cut out, if they may not: `Range` if they pass the length, else
     /// `SplitsPair` if one of the two ends falls inside a surrogate pair.
-    pub fn cut_fault(&self, at: usize, len: usize) -> Option<StrFault>
-        ensures { result ≡ cut_fault self.now.units at len }
+    pub fn split_fault(&self, at: usize, len: usize) -> Option<StrFault>
+        ensures { result ≡ split_fault self.now.units at len }
     {
-        cut_fault(&self.units, at, len)
+        split_fault(&self.units, at, len)
     }
 
     /// The `len` units from `at` on, as a text of their own; how much room it has is left open. `Range` and
-    /// `SplitsPair` come exactly if `cut_fault` gives them, and `NoMemory` only for want of memory.
+    /// `SplitsPair` come exactly if `split_fault` gives them, and `NoMemory` only for want of memory.
     pub fn substring(&self, alloc: Global, at: usize, len: usize) -> Result<Str, StrFault>
-        ensures fault { IsRefusedFor result (cut_fault self.now.units at len) }
+        ensures fault { IsRefusedFor result (split_fault self.now.units at len) }
         ensures units { IfOk result (λ s. s.units ≡ take len (drop at self.now.units)) }
     {
-        if let Some(fault) = cut_fault(&self.units, at, len) {
+        if let Some(fault) = split_fault(&self.units, at, len) {
             return Err(fault);
         }
         let units = Vec::from_slice(alloc, &self.units[at..at + len])?;
@@ -129,12 +129,12 @@ impl Str {
     /// falls inside a surrogate pair. A refusal changes nothing.
     pub fn insert(&mut self, at: usize, other: &Str) -> Result<(), StrFault>
         requires { length other.now.units ≤ self.old.room }
-        ensures fault { result ≡ done_unless (cut_fault self.old.units at 0) }
+        ensures fault { result ≡ done_unless (split_fault self.old.units at 0) }
         ensures units { OnOk result (self.new.units ≡ replaced self.old.units at 0 other.now.units) }
         ensures room { OnOk result (self.new.room + length other.now.units ≡ self.old.room) }
         ensures refused { OnErr result (self.new ≡ self.old) }
     {
-        if let Some(fault) = cut_fault(&self.units, at, 0) {
+        if let Some(fault) = split_fault(&self.units, at, 0) {
             return Err(fault);
         }
         put_in(&mut self.units, at, &other.units);
@@ -142,35 +142,35 @@ impl Str {
     }
 
     /// Takes out the `len` units from `at` on, and gives their places back: the room becomes more by `len`. `Range`
-    /// and `SplitsPair` come exactly if `cut_fault` gives them. A refusal changes nothing.
+    /// and `SplitsPair` come exactly if `split_fault` gives them. A refusal changes nothing.
     pub fn delete(&mut self, at: usize, len: usize) -> Result<(), StrFault>
-        ensures fault { result ≡ done_unless (cut_fault self.old.units at len) }
+        ensures fault { result ≡ done_unless (split_fault self.old.units at len) }
         ensures units { OnOk result (self.new.units ≡ replaced self.old.units at len []) }
         ensures room { OnOk result (self.new.room ≡ self.old.room + len) }
         ensures refused { OnErr result (self.new ≡ self.old) }
     {
-        if let Some(fault) = cut_fault(&self.units, at, len) {
+        if let Some(fault) = split_fault(&self.units, at, len) {
             return Err(fault);
         }
-        cut_out(&mut self.units, at, len);
+        take_out(&mut self.units, at, len);
         Ok(())
     }
 
     /// Puts the other text in place of the `len` units from `at` on, in the room that is there: the room becomes more
     /// by `len` and less by the other's length, and no memory is taken. `Range` and `SplitsPair` come exactly if
-    /// `cut_fault` gives them. A refusal changes nothing.
+    /// `split_fault` gives them. A refusal changes nothing.
     pub fn replace(&mut self, at: usize, len: usize, other: &Str) -> Result<(), StrFault>
         requires { length other.now.units ≤ self.old.room }
-        ensures fault { result ≡ done_unless (cut_fault self.old.units at len) }
+        ensures fault { result ≡ done_unless (split_fault self.old.units at len) }
         ensures units { OnOk result (self.new.units ≡ replaced self.old.units at len other.now.units) }
         ensures room { OnOk result (self.new.room + length other.now.units ≡ self.old.room + len) }
         ensures refused { OnErr result (self.new ≡ self.old) }
     {
-        if let Some(fault) = cut_fault(&self.units, at, len) {
+        if let Some(fault) = split_fault(&self.units, at, len) {
             return Err(fault);
         }
         put_in(&mut self.units, at + len, &other.units);
-        cut_out(&mut self.units, at, len);
+        take_out(&mut self.units, at, len);
         Ok(())
     }
 

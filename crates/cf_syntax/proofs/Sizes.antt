@@ -8,8 +8,8 @@ use Rattle.cf_syntax.specs.declared.script.Block.{Block}
 use Rattle.cf_syntax.specs.declared.refusal.Refusal.{Refusal}
 use Rattle.cf_syntax.specs.Lines.{in_first, pieces, without_return, lines}
 use Rattle.cf_syntax.specs.Words.{says_nothing, words}
-use Rattle.cf_syntax.specs.Table.{◌>>=◌, required, word_at, statement_of, class_of}
-use Rattle.cf_syntax.specs.Text.{Opened, Reading, start, is_word, is_header, ended, continued, classed, opened, outside, inside, placed, formed, headed, said, after_line, read_from, whole, script_of}
+use Rattle.cf_syntax.specs.Table.{◌>>=◌, require, word_at, statement_of, class_of}
+use Rattle.cf_syntax.specs.Text.{Opened, Reading, start, is_word, is_header, close_block, add_statement, add_class, open_block, outside, inside, place_line, words_or_refusal, read_header, read_line, after_line, read_from, whole, script_of}
 
 -- how many statements blocks have, and what has been read so far
 abbrev pub statements_of : List Block → ℕ
@@ -28,7 +28,8 @@ statements_of-append [] cs = omega arith
 statements_of-append (b ∷ bs) cs = omega (arith, statements_of-append bs cs)
 
 -- what holds of each step's value holds of the last one's
-bind_fine : {A B : Type 0} (r : Result A Refusal) (f : A → Result B Refusal) (P : B → Type 0) → ((x : A) → IfOk (f x) P)
+bind_fine : {A B : Type 0} (r : Result A Refusal) (f : A → Result B Refusal) (P : B → Type 0)
+    → ((x : A) → IfOk (f x) P)
     → IfOk (r >>= f) P
 bind_fine (Ok x) f P h = h x
 bind_fine (Err e) f P h = tt
@@ -52,7 +53,7 @@ abbrev Grows : Reading → Reading → Type 0
 Grows r s = size s ≤ size r + 1
 
 continued_fine : (classes : List ClassLine) (b : Opened) (line : ℕ) (ws : List (List ℕ))
-    → IfOk (continued classes b line ws) (λ c. length c.statements ≤ length b.statements + 1)
+    → IfOk (add_statement classes b line ws) (λ c. length c.statements ≤ length b.statements + 1)
 continued_fine classes b line ws =
     bind_fine (statement_of classes b.names ws) _ _ (λ s. omega (arith, length_push b.statements s.value))
 
@@ -63,26 +64,26 @@ inside_fine r b line ws e =
     let here : size r ≡ statements_of r.blocks + length b.statements =
     ap (λ (o : Option Opened). statements_of r.blocks + open_size o) e in
     cond_fine (is_word ws (codes "end")) _ _ (Grows r)
-    (omega (arith, here, statements_of-append r.blocks (ended b line ∷ [])))
-    (bind_kept (continued r.classes b line ws) _ _ (Grows r) (continued_fine r.classes b line ws)
+    (omega (arith, here, statements_of-append r.blocks (close_block b line ∷ [])))
+    (bind_kept (add_statement r.classes b line ws) _ _ (Grows r) (continued_fine r.classes b line ws)
     (λ c g. omega (arith, here, g)))
 
 outside_size : (r : Reading) → r.block ≡ None → size r ≡ statements_of r.blocks + 0
 outside_size r e = ap (λ (o : Option Opened). statements_of r.blocks + open_size o) e
 
 classed_fine : (r : Reading) (line : ℕ) (ws : List (List ℕ)) → r.block ≡ None
-    → IfOk (classed r.classes r.blocks line ws) (Grows r)
-unfolding classed
+    → IfOk (add_class r.classes r.blocks line ws) (Grows r)
+unfolding add_class
 classed_fine r line ws e =
-    bind_fine (required (length r.blocks == 0)) _ (Grows r)
+    bind_fine (require (length r.blocks == 0)) _ (Grows r)
     (λ _. bind_fine (class_of r.classes ws) _ (Grows r) (λ _. omega (arith, outside_size r e)))
 
 opened_fine : (r : Reading) (line : ℕ) (ws : List (List ℕ)) → r.block ≡ None
-    → IfOk (opened r.classes r.blocks line ws) (Grows r)
-unfolding opened
+    → IfOk (open_block r.classes r.blocks line ws) (Grows r)
+unfolding open_block
 opened_fine r line ws e =
-    bind_fine (required (is_word ws (codes "setup"))) _ (Grows r)
-    (λ _. bind_fine (required (length r.blocks == 0)) _ (Grows r) (λ _. omega (arith, outside_size r e)))
+    bind_fine (require (is_word ws (codes "setup"))) _ (Grows r)
+    (λ _. bind_fine (require (length r.blocks == 0)) _ (Grows r) (λ _. omega (arith, outside_size r e)))
 
 outside_fine : (r : Reading) (line : ℕ) (ws : List (List ℕ)) → r.block ≡ None
     → IfOk (outside r.classes r.blocks line ws) (Grows r)
@@ -91,22 +92,22 @@ outside_fine r line ws e =
     (opened_fine r line ws e)
 
 placed_fine : (r : Reading) (o : Option Opened) (line : ℕ) (ws : List (List ℕ)) → r.block ≡ o
-    → IfOk (placed r.classes r.blocks o line ws) (Grows r)
+    → IfOk (place_line r.classes r.blocks o line ws) (Grows r)
 placed_fine r None line ws e = outside_fine r line ws e
 placed_fine r (Some b) line ws e = inside_fine r b line ws e
 
-headed_fine : (r : Reading) (ws : List (List ℕ)) → IfOk (headed r ws) (Grows r)
-unfolding headed
-headed_fine r ws = bind_fine (required (is_header ws)) _ (Grows r) (λ _. omega arith)
+headed_fine : (r : Reading) (ws : List (List ℕ)) → IfOk (read_header r ws) (Grows r)
+unfolding read_header
+headed_fine r ws = bind_fine (require (is_header ws)) _ (Grows r) (λ _. omega arith)
 
-said_fine : (r : Reading) (line : List ℕ) → IfOk (said r line) (Grows r)
-unfolding said
-said_fine r line = bind_fine (formed (words line)) _ (Grows r)
+said_fine : (r : Reading) (line : List ℕ) → IfOk (read_line r line) (Grows r)
+unfolding read_line
+said_fine r line = bind_fine (words_or_refusal (words line)) _ (Grows r)
     (λ ws. cond_fine (r.count == 0) _ _ (Grows r) (headed_fine r ws) (placed_fine r r.block (r.count + 1) ws refl))
 
 line_fine : (r : Reading) (line : List ℕ) → IfOk (after_line r line) (Grows r)
 unfolding after_line
-line_fine r line = bind_fine (required (is_utf8 line)) _ (Grows r)
+line_fine r line = bind_fine (require (is_utf8 line)) _ (Grows r)
     (λ _. cond_fine (nat_lt 0 r.count && says_nothing line) _ _ (Grows r) (omega arith) (said_fine r line))
 
 read_fine : (r : Reading) (ls : List (List ℕ)) → IfOk (read_from r ls) (λ s. size s ≤ size r + length ls)
@@ -129,7 +130,7 @@ pieces-length (b ∷ bs) = piece_test b bs (pieces bs) (b == 10) (pieces-length 
 
 whole_fine : (classes : List ClassLine) (blocks : List Block) (o : Option Opened)
     → IfOk (whole classes blocks o) (λ s. statements_of s.blocks ≤ statements_of blocks)
-whole_fine classes blocks None = bind_fine (required (nat_lt 0 (length blocks))) _ _ (λ _. omega arith)
+whole_fine classes blocks None = bind_fine (require (nat_lt 0 (length blocks))) _ _ (λ _. omega arith)
 whole_fine classes blocks (Some b) = tt
 
 pub statements-within : (bs : List ℕ) → IfOk (script_of bs) (λ s. statements_of s.blocks ≤ length bs)

@@ -131,8 +131,8 @@ word_fails p b bs e = ap (λ (o : Option Place). option_and_then (λ r. option_m
 
 -- ---- the first byte of a word
 
-abbrev pub begun : ℕ → Place
-begun b = if b == 34 then Quoted else Plain
+abbrev pub first_place : ℕ → Place
+first_place b = if b == 34 then Quoted else Plain
 
 begun_goes : (t u : Bool) → t ≡ false
     → cond t (Some Between) (cond u (Some Quoted) (Some Plain)) ≡ Some (cond u Quoted Plain)
@@ -153,15 +153,16 @@ whole_map : (b : ℕ) (word : List ℕ) (o : Option (List (List ℕ)))
 whole_map b word None = refl
 whole_map b word (Some ws) = refl
 
-begins : (b : ℕ) (bs : List ℕ) → is_blank b ≡ false → words (b ∷ bs) ≡ goes_on_from (b ∷ []) (words_from (begun b) bs)
+begins : (b : ℕ) (bs : List ℕ) → is_blank b ≡ false
+    → words (b ∷ bs) ≡ goes_on_from (b ∷ []) (words_from (first_place b) bs)
 begins b bs e =
-    step_to Between (begun b) b bs (begun_goes (is_blank b) (eqb b 34) e)
-    ∙ within_step Between (begun b) b (words_from (begun b) bs) (begun_within (eqb b 34))
-    ∙ first_map b (words_from (begun b) bs)
+    step_to Between (first_place b) b bs (begun_goes (is_blank b) (eqb b 34) e)
+    ∙ within_step Between (first_place b) b (words_from (first_place b) bs) (begun_within (eqb b 34))
+    ∙ first_map b (words_from (first_place b) bs)
 
 -- a word by its first byte and the rest of it
 pub word_begins : (bytes : List ℕ) (n : ℕ) → 0 < length bytes → is_blank (get_or bytes 0 0) ≡ false
-    → words_from (begun (get_or bytes 0 0)) (drop 1 bytes)
+    → words_from (first_place (get_or bytes 0 0)) (drop 1 bytes)
     ≡ behind (take n (drop 1 bytes)) (words (drop n (drop 1 bytes)))
     → words bytes ≡ behind (take (n + 1) bytes) (words (drop (n + 1) bytes))
 word_begins [] n some e h = absurd (omega arith)
@@ -169,7 +170,7 @@ word_begins (b ∷ bs) n some e h =
     rw add-one (begins b bs e ∙ ap (goes_on_from (b ∷ [])) h ∙ whole_map b (take n bs) (words (drop n bs)))
 
 pub word_begins_not : (bytes : List ℕ) → 0 < length bytes → is_blank (get_or bytes 0 0) ≡ false
-    → words_from (begun (get_or bytes 0 0)) (drop 1 bytes) ≡ None → words bytes ≡ None
+    → words_from (first_place (get_or bytes 0 0)) (drop 1 bytes) ≡ None → words bytes ≡ None
 word_begins_not [] some e h = absurd (omega arith)
 word_begins_not (b ∷ bs) some e h = begins b bs e ∙ ap (goes_on_from (b ∷ [])) h
 

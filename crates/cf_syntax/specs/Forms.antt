@@ -2,51 +2,51 @@
 use Rattle.std.specs.Prelude.{ℕ, ◌-◌, Bool, true, false, List, [], ◌∷◌, ◌++◌, length, map, replicate, Option, Some, None}
 use Rattle.cf_syntax.specs.declared.statement.Statement.{Statement}
 use Rattle.cf_syntax.specs.declared.statement.Statement.TheVariants.{MakeString, MakeMstring, MakeData, MakeMdata, MakeNumber, New, Retain, Release, Show, StrAppend, StrInsert, StrDelete, StrReplace, StrSub, DataAppend, DataReplace, DataDelete, NumAs, MakeArray, MakeDict, ArrAppend, ArrInsert, ArrSet, ArrRemove, ArrTake, DictAdd, DictSet, DictReplace, DictRemove, DictTake, FieldSet, FieldClear, FieldTake}
-use Rattle.cf_syntax.specs.declared.statement.Touch.{Touch}
-use Rattle.cf_syntax.specs.declared.statement.Touch.TheVariants.{Nothing, Binds, Plus, Minus}
+use Rattle.cf_syntax.specs.declared.statement.Ownership.{Ownership}
+use Rattle.cf_syntax.specs.declared.statement.Ownership.TheVariants.{Keeps, Binds, Retains, Releases}
 
 -- what a statement does to the count of a variable
-abbrev pub touch_of : Statement → Touch
-touch_of (MakeString v text) = Binds v
-touch_of (MakeMstring v text) = Binds v
-touch_of (MakeData v bytes) = Binds v
-touch_of (MakeMdata v bytes) = Binds v
-touch_of (MakeNumber v number) = Binds v
-touch_of (New v class key) = Binds v
-touch_of (Retain v) = Plus v
-touch_of (Release v) = Minus v
-touch_of (Show v) = Nothing
-touch_of (StrAppend v other) = Nothing
-touch_of (StrInsert v at text) = Nothing
-touch_of (StrDelete v at len) = Nothing
-touch_of (StrReplace v at len text) = Nothing
-touch_of (StrSub v text at len) = Binds v
-touch_of (DataAppend v bytes) = Nothing
-touch_of (DataReplace v at len bytes) = Nothing
-touch_of (DataDelete v at len) = Nothing
-touch_of (NumAs v kind) = Nothing
-touch_of (MakeArray v plain) = Binds v
-touch_of (MakeDict v plain) = Binds v
-touch_of (ArrAppend v x) = Nothing
-touch_of (ArrInsert v at x) = Nothing
-touch_of (ArrSet v at x) = Nothing
-touch_of (ArrRemove v at) = Nothing
-touch_of (ArrTake v a at) = Binds v
-touch_of (DictAdd v k x) = Nothing
-touch_of (DictSet v k x) = Nothing
-touch_of (DictReplace v k x) = Nothing
-touch_of (DictRemove v k) = Nothing
-touch_of (DictTake v d k) = Binds v
-touch_of (FieldSet v at x) = Nothing
-touch_of (FieldClear v at) = Nothing
-touch_of (FieldTake v o at) = Binds v
+abbrev pub ownership_of : Statement → Ownership
+ownership_of (MakeString v text) = Binds v
+ownership_of (MakeMstring v text) = Binds v
+ownership_of (MakeData v bytes) = Binds v
+ownership_of (MakeMdata v bytes) = Binds v
+ownership_of (MakeNumber v number) = Binds v
+ownership_of (New v class key) = Binds v
+ownership_of (Retain v) = Retains v
+ownership_of (Release v) = Releases v
+ownership_of (Show v) = Keeps
+ownership_of (StrAppend v other) = Keeps
+ownership_of (StrInsert v at text) = Keeps
+ownership_of (StrDelete v at len) = Keeps
+ownership_of (StrReplace v at len text) = Keeps
+ownership_of (StrSub v text at len) = Binds v
+ownership_of (DataAppend v bytes) = Keeps
+ownership_of (DataReplace v at len bytes) = Keeps
+ownership_of (DataDelete v at len) = Keeps
+ownership_of (NumAs v kind) = Keeps
+ownership_of (MakeArray v plain) = Binds v
+ownership_of (MakeDict v plain) = Binds v
+ownership_of (ArrAppend v x) = Keeps
+ownership_of (ArrInsert v at x) = Keeps
+ownership_of (ArrSet v at x) = Keeps
+ownership_of (ArrRemove v at) = Keeps
+ownership_of (ArrTake v a at) = Binds v
+ownership_of (DictAdd v k x) = Keeps
+ownership_of (DictSet v k x) = Keeps
+ownership_of (DictReplace v k x) = Keeps
+ownership_of (DictRemove v k) = Keeps
+ownership_of (DictTake v d k) = Binds v
+ownership_of (FieldSet v at x) = Keeps
+ownership_of (FieldClear v at) = Keeps
+ownership_of (FieldTake v o at) = Binds v
 
--- the variable whose references a touch changes
-abbrev pub touched : Touch → List ℕ
-touched Nothing = []
-touched (Binds v) = []
-touched (Plus v) = v ∷ []
-touched (Minus v) = v ∷ []
+-- the variable whose references an ownership changes
+abbrev pub subject_of : Ownership → List ℕ
+subject_of Keeps = []
+subject_of (Binds v) = []
+subject_of (Retains v) = v ∷ []
+subject_of (Releases v) = v ∷ []
 
 -- the other variables that a statement uses
 abbrev pub read_by : Statement → List ℕ
@@ -86,7 +86,7 @@ read_by (FieldTake v o at) = o ∷ []
 
 -- the variables that a statement uses, in the order of its words
 abbrev pub used_by : Statement → List ℕ
-used_by s = touched (touch_of s) ++ read_by s
+used_by s = subject_of (ownership_of s) ++ read_by s
 
 -- the class that a statement names, if it names one, is one of the script
 abbrev pub is_known : Statement → Bool
@@ -107,5 +107,5 @@ makes_object (StrSub v text at len) = true
 makes_object _ = false
 
 -- a list of at most three, as three places
-abbrev pub padded : {A : Type 0} → List A → List (Option A)
-padded xs = map Some xs ++ replicate (3 - length xs) None
+abbrev pub pad : {A : Type 0} → List A → List (Option A)
+pad xs = map Some xs ++ replicate (3 - length xs) None

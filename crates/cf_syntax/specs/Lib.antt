@@ -4,7 +4,7 @@ pub mod Forms
 pub mod Lines
 pub mod Numbers
 pub mod Owned
-pub mod Rows
+pub mod Examples
 pub mod Table
 pub mod Text
 pub mod Words

@@ -6,8 +6,8 @@ use Rattle.cf_number.specs.declared.kinds.NumKind.{NumKind}
 use Rattle.cf_number.specs.declared.kinds.NumKind.TheVariants.{S8}
 use Rattle.cf_number.specs.Kinds.{fits_kind}
 use Rattle.cf_string.specs.Units.{units_of}
-use Rattle.cf_syntax.specs.declared.form.Form.{Form}
-use Rattle.cf_syntax.specs.declared.form.Form.TheVariants as forms
+use Rattle.cf_syntax.specs.declared.form.StatementForm.{StatementForm}
+use Rattle.cf_syntax.specs.declared.form.StatementForm.TheVariants as forms
 use Rattle.cf_syntax.specs.declared.form.TextForm.{TextForm}
 use Rattle.cf_syntax.specs.declared.form.TextForm.TheVariants as texts
 use Rattle.cf_syntax.specs.declared.form.DataForm.{DataForm}
@@ -22,8 +22,8 @@ use Rattle.cf_syntax.specs.declared.form.DictForm.{DictForm}
 use Rattle.cf_syntax.specs.declared.form.DictForm.TheVariants as dicts
 use Rattle.cf_syntax.specs.declared.form.FieldForm.{FieldForm}
 use Rattle.cf_syntax.specs.declared.form.FieldForm.TheVariants as fields
-use Rattle.cf_syntax.specs.declared.form.Class.{Class}
-use Rattle.cf_syntax.specs.declared.form.Class.TheVariants.{Fixed, Variable, Name, Text, Hex, Int, Index, Kind, Plain, Fields, Count, Equal, Equality}
+use Rattle.cf_syntax.specs.declared.form.Operand.{Operand}
+use Rattle.cf_syntax.specs.declared.form.Operand.TheVariants.{Fixed, Variable, Name, Text, Hex, Int, Index, Kind, Plain, Fields, Count, Equal, Equality}
 use Rattle.cf_syntax.specs.declared.refusal.Refusal.{Refusal}
 use Rattle.cf_syntax.specs.declared.refusal.Reason.TheVariants.{Unread}
 use Rattle.cf_syntax.specs.declared.script.ClassLine.{ClassLine}
@@ -31,6 +31,7 @@ use Rattle.cf_syntax.specs.declared.statement.Statement.{Statement}
 use Rattle.cf_syntax.specs.declared.statement.Statement.TheVariants.{MakeString, MakeMstring, MakeData, MakeMdata, MakeNumber, New, Retain, Release, Show, StrAppend, StrInsert, StrDelete, StrReplace, StrSub, DataAppend, DataReplace, DataDelete, NumAs, MakeArray, MakeDict, ArrAppend, ArrInsert, ArrSet, ArrRemove, ArrTake, DictAdd, DictSet, DictReplace, DictRemove, DictTake, FieldSet, FieldClear, FieldTake}
 use Rattle.cf_syntax.specs.Words.{is_name, is_text, text_of}
 use Rattle.cf_syntax.specs.Numbers.{index_of, integer_of, bytes_of, kind_of}
+use Rattle.cf_ids.specs.declared.limits.TheConstants.{FIELDS, VARIABLES}
 
 -- what a step gives, or its refusal
 infixl 10 ◌>>=◌
@@ -43,8 +44,8 @@ abbrev pub unread : Refusal
 unread = record { line = 0; reason = Unread }
 
 -- a test that a text has to pass
-abbrev pub required : Bool → Result (Unit {0}) Refusal
-required test = if test then Ok tt else Err unread
+abbrev pub require : Bool → Result (Unit {0}) Refusal
+require test = if test then Ok tt else Err unread
 
 -- the word at a place, where there is one, and the last word
 abbrev pub word_at : List (List ℕ) → ℕ → List ℕ
@@ -54,127 +55,127 @@ abbrev pub last_word : List (List ℕ) → List ℕ
 last_word ws = word_at ws (length ws - 1)
 
 -- the words of a form, in order
-abbrev pub text_classes : TextForm → List Class
-text_classes texts.MakeString = Fixed ∷ Variable ∷ Fixed ∷ Text ∷ []
-text_classes texts.MakeMstring = Fixed ∷ Variable ∷ Fixed ∷ Text ∷ []
-text_classes texts.StrInsert = Fixed ∷ Variable ∷ Index ∷ Text ∷ []
-text_classes texts.StrReplace = Fixed ∷ Variable ∷ Index ∷ Index ∷ Text ∷ []
+abbrev pub text_operands : TextForm → List Operand
+text_operands texts.MakeString = Fixed ∷ Variable ∷ Fixed ∷ Text ∷ []
+text_operands texts.MakeMstring = Fixed ∷ Variable ∷ Fixed ∷ Text ∷ []
+text_operands texts.StrInsert = Fixed ∷ Variable ∷ Index ∷ Text ∷ []
+text_operands texts.StrReplace = Fixed ∷ Variable ∷ Index ∷ Index ∷ Text ∷ []
 
-abbrev pub data_classes : DataForm → List Class
-data_classes datas.MakeData = Fixed ∷ Variable ∷ Fixed ∷ Hex ∷ []
-data_classes datas.MakeMdata = Fixed ∷ Variable ∷ Fixed ∷ Hex ∷ []
-data_classes datas.DataAppend = Fixed ∷ Variable ∷ Hex ∷ []
-data_classes datas.DataReplace = Fixed ∷ Variable ∷ Index ∷ Index ∷ Hex ∷ []
+abbrev pub data_operands : DataForm → List Operand
+data_operands datas.MakeData = Fixed ∷ Variable ∷ Fixed ∷ Hex ∷ []
+data_operands datas.MakeMdata = Fixed ∷ Variable ∷ Fixed ∷ Hex ∷ []
+data_operands datas.DataAppend = Fixed ∷ Variable ∷ Hex ∷ []
+data_operands datas.DataReplace = Fixed ∷ Variable ∷ Index ∷ Index ∷ Hex ∷ []
 
-abbrev pub plain_classes : PlainForm → List Class
-plain_classes plains.MakeNumber = Fixed ∷ Variable ∷ Fixed ∷ Kind ∷ Int ∷ []
-plain_classes plains.New = Fixed ∷ Variable ∷ Name ∷ Int ∷ []
-plain_classes plains.Retain = Fixed ∷ Variable ∷ []
-plain_classes plains.Release = Fixed ∷ Variable ∷ []
-plain_classes plains.Show = Fixed ∷ Variable ∷ []
-plain_classes plains.StrAppend = Fixed ∷ Variable ∷ Variable ∷ []
-plain_classes plains.StrDelete = Fixed ∷ Variable ∷ Index ∷ Index ∷ []
-plain_classes plains.StrSub = Fixed ∷ Variable ∷ Variable ∷ Index ∷ Index ∷ []
-plain_classes plains.DataDelete = Fixed ∷ Variable ∷ Index ∷ Index ∷ []
-plain_classes plains.NumAs = Fixed ∷ Variable ∷ Kind ∷ []
+abbrev pub plain_operands : PlainForm → List Operand
+plain_operands plains.MakeNumber = Fixed ∷ Variable ∷ Fixed ∷ Kind ∷ Int ∷ []
+plain_operands plains.New = Fixed ∷ Variable ∷ Name ∷ Int ∷ []
+plain_operands plains.Retain = Fixed ∷ Variable ∷ []
+plain_operands plains.Release = Fixed ∷ Variable ∷ []
+plain_operands plains.Show = Fixed ∷ Variable ∷ []
+plain_operands plains.StrAppend = Fixed ∷ Variable ∷ Variable ∷ []
+plain_operands plains.StrDelete = Fixed ∷ Variable ∷ Index ∷ Index ∷ []
+plain_operands plains.StrSub = Fixed ∷ Variable ∷ Variable ∷ Index ∷ Index ∷ []
+plain_operands plains.DataDelete = Fixed ∷ Variable ∷ Index ∷ Index ∷ []
+plain_operands plains.NumAs = Fixed ∷ Variable ∷ Kind ∷ []
 
-abbrev pub array_classes : ArrayForm → List Class
-array_classes arrays.Append = Fixed ∷ Variable ∷ Variable ∷ []
-array_classes arrays.Insert = Fixed ∷ Variable ∷ Index ∷ Variable ∷ []
-array_classes arrays.Set = Fixed ∷ Variable ∷ Index ∷ Variable ∷ []
-array_classes arrays.Remove = Fixed ∷ Variable ∷ Index ∷ []
-array_classes arrays.Take = Fixed ∷ Variable ∷ Variable ∷ Index ∷ []
+abbrev pub array_operands : ArrayForm → List Operand
+array_operands arrays.Append = Fixed ∷ Variable ∷ Variable ∷ []
+array_operands arrays.Insert = Fixed ∷ Variable ∷ Index ∷ Variable ∷ []
+array_operands arrays.Set = Fixed ∷ Variable ∷ Index ∷ Variable ∷ []
+array_operands arrays.Remove = Fixed ∷ Variable ∷ Index ∷ []
+array_operands arrays.Take = Fixed ∷ Variable ∷ Variable ∷ Index ∷ []
 
-abbrev pub dict_classes : DictForm → List Class
-dict_classes dicts.Add = Fixed ∷ Variable ∷ Variable ∷ Variable ∷ []
-dict_classes dicts.Set = Fixed ∷ Variable ∷ Variable ∷ Variable ∷ []
-dict_classes dicts.Replace = Fixed ∷ Variable ∷ Variable ∷ Variable ∷ []
-dict_classes dicts.Remove = Fixed ∷ Variable ∷ Variable ∷ []
-dict_classes dicts.Take = Fixed ∷ Variable ∷ Variable ∷ Variable ∷ []
+abbrev pub dict_operands : DictForm → List Operand
+dict_operands dicts.Add = Fixed ∷ Variable ∷ Variable ∷ Variable ∷ []
+dict_operands dicts.Set = Fixed ∷ Variable ∷ Variable ∷ Variable ∷ []
+dict_operands dicts.Replace = Fixed ∷ Variable ∷ Variable ∷ Variable ∷ []
+dict_operands dicts.Remove = Fixed ∷ Variable ∷ Variable ∷ []
+dict_operands dicts.Take = Fixed ∷ Variable ∷ Variable ∷ Variable ∷ []
 
-abbrev pub field_classes : FieldForm → List Class
-field_classes fields.Set = Fixed ∷ Variable ∷ Index ∷ Variable ∷ []
-field_classes fields.Clear = Fixed ∷ Variable ∷ Index ∷ []
-field_classes fields.Take = Fixed ∷ Variable ∷ Variable ∷ Index ∷ []
+abbrev pub field_operands : FieldForm → List Operand
+field_operands fields.Set = Fixed ∷ Variable ∷ Index ∷ Variable ∷ []
+field_operands fields.Clear = Fixed ∷ Variable ∷ Index ∷ []
+field_operands fields.Take = Fixed ∷ Variable ∷ Variable ∷ Index ∷ []
 
-abbrev pub classes_of : Form → List Class
-classes_of (forms.Text form) = text_classes form
-classes_of (forms.Data form) = data_classes form
-classes_of (forms.Plain form) = plain_classes form
-classes_of (forms.Make collection) = Fixed ∷ Variable ∷ Fixed ∷ []
-classes_of (forms.MakePlain collection) = Fixed ∷ Variable ∷ Fixed ∷ Plain ∷ []
-classes_of (forms.Array form) = array_classes form
-classes_of (forms.Dict form) = dict_classes form
-classes_of (forms.Field form) = field_classes form
+abbrev pub operands_of : StatementForm → List Operand
+operands_of (forms.Text form) = text_operands form
+operands_of (forms.Data form) = data_operands form
+operands_of (forms.Plain form) = plain_operands form
+operands_of (forms.Make collection) = Fixed ∷ Variable ∷ Fixed ∷ []
+operands_of (forms.MakePlain collection) = Fixed ∷ Variable ∷ Fixed ∷ Plain ∷ []
+operands_of (forms.Array form) = array_operands form
+operands_of (forms.Dict form) = dict_operands form
+operands_of (forms.Field form) = field_operands form
 
 -- a word that finds a form
-pub record Row : Type 0 where
+pub record FormWord : Type 0 where
   pub word : List ℕ
-  pub form : Form
+  pub form : StatementForm
 
-abbrev pub row : List ℕ → Form → Row
-row word form = record { word = word; form = form }
+abbrev pub form_word : List ℕ → StatementForm → FormWord
+form_word word form = record { word = word; form = form }
 
 -- the forms by their first words, and those that make an object by its kind
-abbrev pub first_words : List Row
+abbrev pub first_words : List FormWord
 first_words =
-    row (codes "retain") (forms.Plain plains.Retain)
-    ∷ row (codes "release") (forms.Plain plains.Release)
-    ∷ row (codes "show") (forms.Plain plains.Show)
-    ∷ row (codes "new") (forms.Plain plains.New)
-    ∷ row (codes "str.append") (forms.Plain plains.StrAppend)
-    ∷ row (codes "str.insert") (forms.Text texts.StrInsert)
-    ∷ row (codes "str.delete") (forms.Plain plains.StrDelete)
-    ∷ row (codes "str.replace") (forms.Text texts.StrReplace)
-    ∷ row (codes "str.sub") (forms.Plain plains.StrSub)
-    ∷ row (codes "data.append") (forms.Data datas.DataAppend)
-    ∷ row (codes "data.replace") (forms.Data datas.DataReplace)
-    ∷ row (codes "data.delete") (forms.Plain plains.DataDelete)
-    ∷ row (codes "num.as") (forms.Plain plains.NumAs)
-    ∷ row (codes "arr.append") (forms.Array arrays.Append)
-    ∷ row (codes "arr.insert") (forms.Array arrays.Insert)
-    ∷ row (codes "arr.set") (forms.Array arrays.Set)
-    ∷ row (codes "arr.remove") (forms.Array arrays.Remove)
-    ∷ row (codes "arr.take") (forms.Array arrays.Take)
-    ∷ row (codes "dict.add") (forms.Dict dicts.Add)
-    ∷ row (codes "dict.set") (forms.Dict dicts.Set)
-    ∷ row (codes "dict.replace") (forms.Dict dicts.Replace)
-    ∷ row (codes "dict.remove") (forms.Dict dicts.Remove)
-    ∷ row (codes "dict.take") (forms.Dict dicts.Take)
-    ∷ row (codes "field.set") (forms.Field fields.Set)
-    ∷ row (codes "field.clear") (forms.Field fields.Clear)
-    ∷ row (codes "field.take") (forms.Field fields.Take)
+    form_word (codes "retain") (forms.Plain plains.Retain)
+    ∷ form_word (codes "release") (forms.Plain plains.Release)
+    ∷ form_word (codes "show") (forms.Plain plains.Show)
+    ∷ form_word (codes "new") (forms.Plain plains.New)
+    ∷ form_word (codes "str.append") (forms.Plain plains.StrAppend)
+    ∷ form_word (codes "str.insert") (forms.Text texts.StrInsert)
+    ∷ form_word (codes "str.delete") (forms.Plain plains.StrDelete)
+    ∷ form_word (codes "str.replace") (forms.Text texts.StrReplace)
+    ∷ form_word (codes "str.sub") (forms.Plain plains.StrSub)
+    ∷ form_word (codes "data.append") (forms.Data datas.DataAppend)
+    ∷ form_word (codes "data.replace") (forms.Data datas.DataReplace)
+    ∷ form_word (codes "data.delete") (forms.Plain plains.DataDelete)
+    ∷ form_word (codes "num.as") (forms.Plain plains.NumAs)
+    ∷ form_word (codes "arr.append") (forms.Array arrays.Append)
+    ∷ form_word (codes "arr.insert") (forms.Array arrays.Insert)
+    ∷ form_word (codes "arr.set") (forms.Array arrays.Set)
+    ∷ form_word (codes "arr.remove") (forms.Array arrays.Remove)
+    ∷ form_word (codes "arr.take") (forms.Array arrays.Take)
+    ∷ form_word (codes "dict.add") (forms.Dict dicts.Add)
+    ∷ form_word (codes "dict.set") (forms.Dict dicts.Set)
+    ∷ form_word (codes "dict.replace") (forms.Dict dicts.Replace)
+    ∷ form_word (codes "dict.remove") (forms.Dict dicts.Remove)
+    ∷ form_word (codes "dict.take") (forms.Dict dicts.Take)
+    ∷ form_word (codes "field.set") (forms.Field fields.Set)
+    ∷ form_word (codes "field.clear") (forms.Field fields.Clear)
+    ∷ form_word (codes "field.take") (forms.Field fields.Take)
     ∷ []
 
-abbrev pub kinds : List Row
+abbrev pub kinds : List FormWord
 kinds =
-    row (codes "string") (forms.Text texts.MakeString)
-    ∷ row (codes "mstring") (forms.Text texts.MakeMstring)
-    ∷ row (codes "data") (forms.Data datas.MakeData)
-    ∷ row (codes "mdata") (forms.Data datas.MakeMdata)
-    ∷ row (codes "number") (forms.Plain plains.MakeNumber)
-    ∷ row (codes "array") (forms.Make collections.Array)
-    ∷ row (codes "dict") (forms.Make collections.Dict)
+    form_word (codes "string") (forms.Text texts.MakeString)
+    ∷ form_word (codes "mstring") (forms.Text texts.MakeMstring)
+    ∷ form_word (codes "data") (forms.Data datas.MakeData)
+    ∷ form_word (codes "mdata") (forms.Data datas.MakeMdata)
+    ∷ form_word (codes "number") (forms.Plain plains.MakeNumber)
+    ∷ form_word (codes "array") (forms.Make collections.Array)
+    ∷ form_word (codes "dict") (forms.Make collections.Dict)
     ∷ []
 
 -- the form that a word finds
-abbrev pub form_in : List Row → List ℕ → Result Form Refusal
+abbrev pub form_in : List FormWord → List ℕ → Result StatementForm Refusal
 form_in [] word = Err unread
 form_in (r ∷ rs) word = if bytes_eq word r.word then Ok r.form else form_in rs word
 
 -- a form on a line of so many words: one that makes a collection makes a plain one where there is a fourth
-abbrev pub on_words : ℕ → Form → Form
+abbrev pub on_words : ℕ → StatementForm → StatementForm
 on_words count (forms.Make collection) = if nat_lt 3 count then forms.MakePlain collection else forms.Make collection
 on_words count form = form
 
 -- the form that the words of a line begin, where it makes an object
-abbrev pub make_of : List (List ℕ) → Result Form Refusal
+abbrev pub make_of : List (List ℕ) → Result StatementForm Refusal
 make_of ws = do
   form ← form_in kinds (word_at ws 2)
   Ok (on_words (length ws) form)
 
 -- the form that the words of a line begin
-abbrev pub form_of : List (List ℕ) → Result Form Refusal
+abbrev pub form_of : List (List ℕ) → Result StatementForm Refusal
 form_of ws =
     if bytes_eq (word_at ws 0) (codes "make") then make_of ws
     else form_in first_words (word_at ws 0)
@@ -182,10 +183,10 @@ form_of ws =
 -- an INDEX that is at most 255
 abbrev pub is_count : Option ℕ → Bool
 is_count None = false
-is_count (Some n) = nat_le n 255
+is_count (Some n) = nat_le n FIELDS
 
 -- a word is of a class
-abbrev pub is_of : Class → List ℕ → Bool
+abbrev pub is_of : Operand → List ℕ → Bool
 is_of Fixed word = true
 is_of Variable word = is_name word
 is_of Name word = is_name word
@@ -201,11 +202,11 @@ is_of Equal word = bytes_eq word (codes "equal")
 is_of Equality word = bytes_eq word (codes "identity") || bytes_eq word (codes "key")
 
 -- each word is of its class, from left to right
-abbrev pub are_of : List Class → List (List ℕ) → Result (Unit {0}) Refusal
+abbrev pub are_of : List Operand → List (List ℕ) → Result (Unit {0}) Refusal
 are_of [] ws = Ok tt
 are_of (c ∷ cs) [] = Ok tt
 are_of (c ∷ cs) (w ∷ ws) = do
-  _ ← required (is_of c w)
+  _ ← require (is_of c w)
   are_of cs ws
 
 -- variables by their names, in the order of first use, and something made with them
@@ -221,16 +222,16 @@ with_name names word = if list_any (bytes_eq word) names then names else names +
 -- There are 256.
 abbrev pub with_variable : With (List ℕ) → List ℕ → Result (With (List ℕ)) Refusal
 with_variable so_far word = let n = position_or_len (bytes_eq word) so_far.names in
-    if nat_lt n 256 then Ok (record { names = with_name so_far.names word; value = so_far.value ++ n ∷ [] })
+    if nat_lt n VARIABLES then Ok (record { names = with_name so_far.names word; value = so_far.value ++ n ∷ [] })
     else Err unread
 
 -- the same with a word of a class, which may be a variable
-abbrev pub with_word : With (List ℕ) → Class → List ℕ → Result (With (List ℕ)) Refusal
+abbrev pub with_word : With (List ℕ) → Operand → List ℕ → Result (With (List ℕ)) Refusal
 with_word so_far Variable word = with_variable so_far word
 with_word so_far _ word = Ok so_far
 
 -- the same with the words of a form, from left to right
-abbrev pub with_words : With (List ℕ) → List Class → List (List ℕ) → Result (With (List ℕ)) Refusal
+abbrev pub with_words : With (List ℕ) → List Operand → List (List ℕ) → Result (With (List ℕ)) Refusal
 with_words so_far [] ws = Ok so_far
 with_words so_far (c ∷ cs) [] = Ok so_far
 with_words so_far (c ∷ cs) (w ∷ ws) = do
@@ -238,7 +239,7 @@ with_words so_far (c ∷ cs) (w ∷ ws) = do
   with_words more cs ws
 
 -- the numbers of a line's variables, in the order of its words
-abbrev pub variables_of : List Class → List (List ℕ) → List (List ℕ) → Result (With (List ℕ)) Refusal
+abbrev pub variables_of : List Operand → List (List ℕ) → List (List ℕ) → Result (With (List ℕ)) Refusal
 variables_of classes names ws = with_words (record { names = names; value = [] }) classes ws
 
 -- the type number of a class, by its name: 14 for the first class line
@@ -284,7 +285,7 @@ data_statement datas.DataReplace v ws = of_data ws (λ b. DataReplace v (index_a
 
 abbrev pub number_statement : ℕ → NumKind → ℤ → Result Statement Refusal
 number_statement v kind value = do
-  _ ← required (fits_kind kind value)
+  _ ← require (fits_kind kind value)
   Ok (MakeNumber v (record { kind = kind; value = value }))
 
 abbrev pub plain_statement : List ClassLine → PlainForm → ℕ → ℕ → List (List ℕ) → Result Statement Refusal
@@ -322,7 +323,7 @@ field_statement fields.Set v w ws = FieldSet v (index_at ws 2) w
 field_statement fields.Clear v w ws = FieldClear v (index_at ws 2)
 field_statement fields.Take v w ws = FieldTake v w (index_at ws 3)
 
-abbrev pub statement_by : List ClassLine → Form → ℕ → ℕ → ℕ → List (List ℕ) → Result Statement Refusal
+abbrev pub statement_by : List ClassLine → StatementForm → ℕ → ℕ → ℕ → List (List ℕ) → Result Statement Refusal
 statement_by classes (forms.Text form) v w x ws = text_statement form v ws
 statement_by classes (forms.Data form) v w x ws = data_statement form v ws
 statement_by classes (forms.Plain form) v w x ws = plain_statement classes form v w ws
@@ -336,14 +337,14 @@ statement_by classes (forms.Field form) v w x ws = Ok (field_statement form v w 
 unfoldable pub statement_of : List ClassLine → List (List ℕ) → List (List ℕ) → Result (With Statement) Refusal
 statement_of classes names ws = do
   form ← form_of ws
-  _ ← required (length ws == length (classes_of form))
-  _ ← are_of (classes_of form) ws
-  vs ← variables_of (classes_of form) names ws
+  _ ← require (length ws == length (operands_of form))
+  _ ← are_of (operands_of form) ws
+  vs ← variables_of (operands_of form) names ws
   s ← statement_by classes form (slice_index vs.value 0) (slice_index vs.value 1) (slice_index vs.value 2) ws
   Ok (record { names = vs.names; value = s })
 
 -- the words of a class line, and the class that they say. There are at most 1,011, and no two of one name
-abbrev pub class_words : List Class
+abbrev pub class_words : List Operand
 class_words = Fixed ∷ Name ∷ Fields ∷ Count ∷ Equal ∷ Equality ∷ []
 
 abbrev pub class_by : List (List ℕ) → ClassLine
@@ -354,8 +355,8 @@ not_named classes name = not (list_any (λ (c : ClassLine). bytes_eq name c.name
 
 unfoldable pub class_of : List ClassLine → List (List ℕ) → Result ClassLine Refusal
 class_of classes ws = do
-  _ ← required (length ws == length class_words)
+  _ ← require (length ws == length class_words)
   _ ← are_of class_words ws
-  _ ← required (not_named classes (word_at ws 1))
-  _ ← required (nat_lt (length classes) 1011)
+  _ ← require (not_named classes (word_at ws 1))
+  _ ← require (nat_lt (length classes) 1011)
   Ok (class_by ws)

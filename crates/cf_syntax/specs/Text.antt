@@ -9,7 +9,7 @@ use Rattle.cf_syntax.specs.declared.statement.Statement.{Statement}
 use Rattle.cf_syntax.specs.declared.refusal.Refusal.{Refusal}
 use Rattle.cf_syntax.specs.Lines.{lines}
 use Rattle.cf_syntax.specs.Words.{says_nothing, words}
-use Rattle.cf_syntax.specs.Table.{◌>>=◌, unread, required, word_at, statement_of, class_of, With}
+use Rattle.cf_syntax.specs.Table.{◌>>=◌, unread, require, word_at, statement_of, class_of, With}
 
 -- a block that is not ended: its variables, its statements, their lines, and its first line
 pub record Opened : Type 0 where
@@ -38,8 +38,8 @@ abbrev pub is_header : List (List ℕ) → Bool
 is_header ws = length ws == 2 && (bytes_eq (word_at ws 0) (codes "cf") && bytes_eq (word_at ws 1) (codes "1"))
 
 -- the block that a line with this number ends
-abbrev pub ended : Opened → ℕ → Block
-ended b line = record {
+abbrev pub close_block : Opened → ℕ → Block
+close_block b line = record {
   name = codes "setup";
   uses = [];
   variables = b.names;
@@ -50,8 +50,8 @@ ended b line = record {
 }
 
 -- the block that a line with this number begins
-abbrev pub begun : ℕ → Opened
-begun line = record { names = []; statements = []; numbers = []; first = line }
+abbrev pub new_block : ℕ → Opened
+new_block line = record { names = []; statements = []; numbers = []; first = line }
 
 -- a block with a statement more
 abbrev pub with_statement : Opened → With Statement → ℕ → Opened
@@ -63,27 +63,27 @@ with_statement b s line = record {
 }
 
 -- a class line with this number, which stands before setup
-unfoldable pub classed : List ClassLine → List Block → ℕ → List (List ℕ) → Result Reading Refusal
-classed classes blocks line ws = do
-  _ ← required (length blocks == 0)
+unfoldable pub add_class : List ClassLine → List Block → ℕ → List (List ℕ) → Result Reading Refusal
+add_class classes blocks line ws = do
+  _ ← require (length blocks == 0)
   class ← class_of classes ws
   Ok (record { count = line; classes = classes ++ class ∷ []; blocks = blocks; block = None })
 
 -- a line with this number that begins setup, and there is one setup
-unfoldable pub opened : List ClassLine → List Block → ℕ → List (List ℕ) → Result Reading Refusal
-opened classes blocks line ws = do
-  _ ← required (is_word ws (codes "setup"))
-  _ ← required (length blocks == 0)
-  Ok (record { count = line; classes = classes; blocks = blocks; block = Some (begun line) })
+unfoldable pub open_block : List ClassLine → List Block → ℕ → List (List ℕ) → Result Reading Refusal
+open_block classes blocks line ws = do
+  _ ← require (is_word ws (codes "setup"))
+  _ ← require (length blocks == 0)
+  Ok (record { count = line; classes = classes; blocks = blocks; block = Some (new_block line) })
 
 -- a line with this number outside a block
 abbrev pub outside : List ClassLine → List Block → ℕ → List (List ℕ) → Result Reading Refusal
 outside classes blocks line ws =
-    if bytes_eq (word_at ws 0) (codes "class") then classed classes blocks line ws else opened classes blocks line ws
+    if bytes_eq (word_at ws 0) (codes "class") then add_class classes blocks line ws else open_block classes blocks line ws
 
 -- a block with the statement of a line with this number
-abbrev pub continued : List ClassLine → Opened → ℕ → List (List ℕ) → Result Opened Refusal
-continued classes b line ws = do
+abbrev pub add_statement : List ClassLine → Opened → ℕ → List (List ℕ) → Result Opened Refusal
+add_statement classes b line ws = do
   s ← statement_of classes b.names ws
   Ok (with_statement b s line)
 
@@ -93,46 +93,46 @@ inside classes blocks b line ws =
     if is_word ws (codes "end") then Ok (record {
       count = line;
       classes = classes;
-      blocks = blocks ++ ended b line ∷ [];
+      blocks = blocks ++ close_block b line ∷ [];
       block = None;
     })
     else (do
-      c ← continued classes b line ws
+      c ← add_statement classes b line ws
       Ok (record { count = line; classes = classes; blocks = blocks; block = Some c }))
 
 -- a line with this number, by its words, after line 1
-abbrev pub placed : List ClassLine → List Block → Option Opened → ℕ → List (List ℕ) → Result Reading Refusal
-placed classes blocks None line ws = outside classes blocks line ws
-placed classes blocks (Some b) line ws = inside classes blocks b line ws
+abbrev pub place_line : List ClassLine → List Block → Option Opened → ℕ → List (List ℕ) → Result Reading Refusal
+place_line classes blocks None line ws = outside classes blocks line ws
+place_line classes blocks (Some b) line ws = inside classes blocks b line ws
 
 -- the words of a line, where each is of its form
-abbrev pub formed : Option (List (List ℕ)) → Result (List (List ℕ)) Refusal
-formed None = Err unread
-formed (Some ws) = Ok ws
+abbrev pub words_or_refusal : Option (List (List ℕ)) → Result (List (List ℕ)) Refusal
+words_or_refusal None = Err unread
+words_or_refusal (Some ws) = Ok ws
 
 -- line 1, by its words
-unfoldable pub headed : Reading → List (List ℕ) → Result Reading Refusal
-headed r ws = do
-  _ ← required (is_header ws)
+unfoldable pub read_header : Reading → List (List ℕ) → Result Reading Refusal
+read_header r ws = do
+  _ ← require (is_header ws)
   Ok (record { count = 1; classes = r.classes; blocks = r.blocks; block = r.block })
 
 -- a line that says something, by its words
-abbrev pub spoken : Reading → List (List ℕ) → Result Reading Refusal
-spoken r ws = if r.count == 0 then headed r ws else placed r.classes r.blocks r.block (r.count + 1) ws
+abbrev pub read_words : Reading → List (List ℕ) → Result Reading Refusal
+read_words r ws = if r.count == 0 then read_header r ws else place_line r.classes r.blocks r.block (r.count + 1) ws
 
 -- a line that says something
-unfoldable pub said : Reading → List ℕ → Result Reading Refusal
-said r line = do
-  ws ← formed (words line)
-  spoken r ws
+unfoldable pub read_line : Reading → List ℕ → Result Reading Refusal
+read_line r line = do
+  ws ← words_or_refusal (words line)
+  read_words r ws
 
 -- A line more. Its bytes are UTF-8. After line 1 a line may say nothing.
 unfoldable pub after_line : Reading → List ℕ → Result Reading Refusal
 after_line r line = do
-  _ ← required (is_utf8 line)
+  _ ← require (is_utf8 line)
   if nat_lt 0 r.count && says_nothing line then
       Ok (record { count = r.count + 1; classes = r.classes; blocks = r.blocks; block = r.block })
-      else said r line
+      else read_line r line
 
 -- lines more
 abbrev pub read_from : Reading → List (List ℕ) → Result Reading Refusal
@@ -145,7 +145,7 @@ read_from r (l ∷ ls) = do
 abbrev pub whole : List ClassLine → List Block → Option Opened → Result Script Refusal
 whole classes blocks (Some b) = Err unread
 whole classes blocks None = do
-  _ ← required (nat_lt 0 (length blocks))
+  _ ← require (nat_lt 0 (length blocks))
   Ok (record { classes = classes; blocks = blocks })
 
 -- the script that bytes are the text of, or the refusal of the bytes

@@ -63,13 +63,13 @@ abbrev pub is_text : List ℕ → Bool
 is_text word = slice_index word 0 == 34
 
 -- the byte that an escape stands for: LF (10) for n, else itself
-abbrev pub unescaped : ℕ → ℕ
-unescaped b = if b == 110 then 10 else b
+abbrev pub unescape : ℕ → ℕ
+unescape b = if b == 110 then 10 else b
 
 -- what a TEXT says from after its first quote on; the flag says that a backslash stands before
 abbrev pub text_from : Bool → List ℕ → List ℕ
 text_from escape [] = []
-text_from true (b ∷ bs) = unescaped b ∷ text_from false bs
+text_from true (b ∷ bs) = unescape b ∷ text_from false bs
 text_from false (b ∷ bs) = if b == 34 then [] else (if b == 92 then text_from true bs else b ∷ text_from false bs)
 
 -- what a TEXT says

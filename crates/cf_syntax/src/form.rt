@@ -1,6 +1,6 @@
 //! The forms of statements, and what the words of each have to be.
 ghost use Rattle.std.specs.Prelude.{◌≡◌};
-ghost use Rattle.cf_syntax.specs.Table.{classes_of, text_classes, data_classes, plain_classes, array_classes, dict_classes, field_classes, on_words};
+ghost use Rattle.cf_syntax.specs.Table.{operands_of, text_operands, data_operands, plain_operands, array_operands, dict_operands, field_operands, on_words};
 
 /// A form of statement that ends with a TEXT.
 #[derive(Clone, Copy)]
@@ -106,7 +106,7 @@ pub enum FieldForm {
 
 /// A form of statement. The first word of a line finds it, and after `make` the third too.
 #[derive(Clone, Copy)]
-pub enum Form {
+pub enum StatementForm {
     /// A form on texts.
     Text(TextForm),
     /// A form on data.
@@ -127,7 +127,7 @@ pub enum Form {
 
 /// What a word of a line has to be.
 #[derive(Clone, Copy)]
-pub enum Class {
+pub enum Operand {
     /// A word that found the form.
     Fixed,
     /// A variable, a NAME.
@@ -157,144 +157,194 @@ pub enum Class {
 }
 
 impl TextForm {
-    fn classes(&self) -> &'static [Class]
-        ensures { result.now ≡ text_classes self.now }
+    fn classes(&self) -> &'static [Operand]
+        ensures { result.now ≡ text_operands self.now }
     {
         match self {
             TextForm::MakeString | TextForm::MakeMstring => {
-                &[Class::Fixed, Class::Variable, Class::Fixed, Class::Text]
+                &[
+                    Operand::Fixed,
+                    Operand::Variable,
+                    Operand::Fixed,
+                    Operand::Text,
+                ]
             }
-            TextForm::StrInsert => &[Class::Fixed, Class::Variable, Class::Index, Class::Text],
+            TextForm::StrInsert => &[
+                Operand::Fixed,
+                Operand::Variable,
+                Operand::Index,
+                Operand::Text,
+            ],
             TextForm::StrReplace => &[
-                Class::Fixed,
-                Class::Variable,
-                Class::Index,
-                Class::Index,
-                Class::Text,
+                Operand::Fixed,
+                Operand::Variable,
+                Operand::Index,
+                Operand::Index,
+                Operand::Text,
             ],
         }
     }
 }
 
 impl DataForm {
-    fn classes(&self) -> &'static [Class]
-        ensures { result.now ≡ data_classes self.now }
+    fn classes(&self) -> &'static [Operand]
+        ensures { result.now ≡ data_operands self.now }
     {
         match self {
             DataForm::MakeData | DataForm::MakeMdata => {
-                &[Class::Fixed, Class::Variable, Class::Fixed, Class::Hex]
+                &[
+                    Operand::Fixed,
+                    Operand::Variable,
+                    Operand::Fixed,
+                    Operand::Hex,
+                ]
             }
-            DataForm::DataAppend => &[Class::Fixed, Class::Variable, Class::Hex],
+            DataForm::DataAppend => &[Operand::Fixed, Operand::Variable, Operand::Hex],
             DataForm::DataReplace => &[
-                Class::Fixed,
-                Class::Variable,
-                Class::Index,
-                Class::Index,
-                Class::Hex,
+                Operand::Fixed,
+                Operand::Variable,
+                Operand::Index,
+                Operand::Index,
+                Operand::Hex,
             ],
         }
     }
 }
 
 impl PlainForm {
-    fn classes(&self) -> &'static [Class]
-        ensures { result.now ≡ plain_classes self.now }
+    fn classes(&self) -> &'static [Operand]
+        ensures { result.now ≡ plain_operands self.now }
     {
         match self {
             PlainForm::MakeNumber => &[
-                Class::Fixed,
-                Class::Variable,
-                Class::Fixed,
-                Class::Kind,
-                Class::Int,
+                Operand::Fixed,
+                Operand::Variable,
+                Operand::Fixed,
+                Operand::Kind,
+                Operand::Int,
             ],
-            PlainForm::New => &[Class::Fixed, Class::Variable, Class::Name, Class::Int],
+            PlainForm::New => &[
+                Operand::Fixed,
+                Operand::Variable,
+                Operand::Name,
+                Operand::Int,
+            ],
             PlainForm::Retain | PlainForm::Release | PlainForm::Show => {
-                &[Class::Fixed, Class::Variable]
+                &[Operand::Fixed, Operand::Variable]
             }
-            PlainForm::StrAppend => &[Class::Fixed, Class::Variable, Class::Variable],
+            PlainForm::StrAppend => &[Operand::Fixed, Operand::Variable, Operand::Variable],
             PlainForm::StrDelete | PlainForm::DataDelete => {
-                &[Class::Fixed, Class::Variable, Class::Index, Class::Index]
+                &[
+                    Operand::Fixed,
+                    Operand::Variable,
+                    Operand::Index,
+                    Operand::Index,
+                ]
             }
             PlainForm::StrSub => &[
-                Class::Fixed,
-                Class::Variable,
-                Class::Variable,
-                Class::Index,
-                Class::Index,
+                Operand::Fixed,
+                Operand::Variable,
+                Operand::Variable,
+                Operand::Index,
+                Operand::Index,
             ],
-            PlainForm::NumAs => &[Class::Fixed, Class::Variable, Class::Kind],
+            PlainForm::NumAs => &[Operand::Fixed, Operand::Variable, Operand::Kind],
         }
     }
 }
 
 impl ArrayForm {
-    fn classes(&self) -> &'static [Class]
-        ensures { result.now ≡ array_classes self.now }
+    fn classes(&self) -> &'static [Operand]
+        ensures { result.now ≡ array_operands self.now }
     {
         match self {
-            ArrayForm::Append => &[Class::Fixed, Class::Variable, Class::Variable],
+            ArrayForm::Append => &[Operand::Fixed, Operand::Variable, Operand::Variable],
             ArrayForm::Insert | ArrayForm::Set => {
-                &[Class::Fixed, Class::Variable, Class::Index, Class::Variable]
+                &[
+                    Operand::Fixed,
+                    Operand::Variable,
+                    Operand::Index,
+                    Operand::Variable,
+                ]
             }
-            ArrayForm::Remove => &[Class::Fixed, Class::Variable, Class::Index],
-            ArrayForm::Take => &[Class::Fixed, Class::Variable, Class::Variable, Class::Index],
+            ArrayForm::Remove => &[Operand::Fixed, Operand::Variable, Operand::Index],
+            ArrayForm::Take => &[
+                Operand::Fixed,
+                Operand::Variable,
+                Operand::Variable,
+                Operand::Index,
+            ],
         }
     }
 }
 
 impl DictForm {
-    fn classes(&self) -> &'static [Class]
-        ensures { result.now ≡ dict_classes self.now }
+    fn classes(&self) -> &'static [Operand]
+        ensures { result.now ≡ dict_operands self.now }
     {
         match self {
             DictForm::Add | DictForm::Set | DictForm::Replace | DictForm::Take => &[
-                Class::Fixed,
-                Class::Variable,
-                Class::Variable,
-                Class::Variable,
+                Operand::Fixed,
+                Operand::Variable,
+                Operand::Variable,
+                Operand::Variable,
             ],
-            DictForm::Remove => &[Class::Fixed, Class::Variable, Class::Variable],
+            DictForm::Remove => &[Operand::Fixed, Operand::Variable, Operand::Variable],
         }
     }
 }
 
 impl FieldForm {
-    fn classes(&self) -> &'static [Class]
-        ensures { result.now ≡ field_classes self.now }
+    fn classes(&self) -> &'static [Operand]
+        ensures { result.now ≡ field_operands self.now }
     {
         match self {
-            FieldForm::Set => &[Class::Fixed, Class::Variable, Class::Index, Class::Variable],
-            FieldForm::Clear => &[Class::Fixed, Class::Variable, Class::Index],
-            FieldForm::Take => &[Class::Fixed, Class::Variable, Class::Variable, Class::Index],
+            FieldForm::Set => &[
+                Operand::Fixed,
+                Operand::Variable,
+                Operand::Index,
+                Operand::Variable,
+            ],
+            FieldForm::Clear => &[Operand::Fixed, Operand::Variable, Operand::Index],
+            FieldForm::Take => &[
+                Operand::Fixed,
+                Operand::Variable,
+                Operand::Variable,
+                Operand::Index,
+            ],
         }
     }
 }
 
-impl Form {
+impl StatementForm {
     /// The classes of the words, in order.
-    pub fn classes(&self) -> &'static [Class]
-        ensures { result.now ≡ classes_of self.now }
+    pub fn classes(&self) -> &'static [Operand]
+        ensures { result.now ≡ operands_of self.now }
     {
         match self {
-            Form::Text(form) => form.classes(),
-            Form::Data(form) => form.classes(),
-            Form::Plain(form) => form.classes(),
-            Form::Make(_) => &[Class::Fixed, Class::Variable, Class::Fixed],
-            Form::MakePlain(_) => &[Class::Fixed, Class::Variable, Class::Fixed, Class::Plain],
-            Form::Array(form) => form.classes(),
-            Form::Dict(form) => form.classes(),
-            Form::Field(form) => form.classes(),
+            StatementForm::Text(form) => form.classes(),
+            StatementForm::Data(form) => form.classes(),
+            StatementForm::Plain(form) => form.classes(),
+            StatementForm::Make(_) => &[Operand::Fixed, Operand::Variable, Operand::Fixed],
+            StatementForm::MakePlain(_) => &[
+                Operand::Fixed,
+                Operand::Variable,
+                Operand::Fixed,
+                Operand::Plain,
+            ],
+            StatementForm::Array(form) => form.classes(),
+            StatementForm::Dict(form) => form.classes(),
+            StatementForm::Field(form) => form.classes(),
         }
     }
 
     /// The form on a line of so many words: one that makes a collection makes a plain one where
     /// there is a fourth.
-    pub fn on_words(self, count: usize) -> Form
+    pub fn on_words(self, count: usize) -> StatementForm
         ensures { result ≡ on_words count self }
     {
         match self {
-            Form::Make(collection) if 3 < count => Form::MakePlain(collection),
+            StatementForm::Make(collection) if 3 < count => StatementForm::MakePlain(collection),
             form => form,
         }
     }

@@ -3,21 +3,22 @@
 #![tactic(auto)]
 
 mod counts;
+mod examples;
 mod form;
 mod literal;
 mod place;
 mod refusal;
-mod rows;
 mod script;
 mod statement;
 
 pub use counts::Counts;
+pub use examples::{a_text_and_its_script, members_and_their_script};
 pub use form::{
-    ArrayForm, Class, Collection, DataForm, DictForm, FieldForm, Form, PlainForm, TextForm,
+    ArrayForm, Collection, DataForm, DictForm, FieldForm, Operand, PlainForm, StatementForm,
+    TextForm,
 };
 pub use literal::{DataLiteral, TextLiteral};
 pub use place::Place;
 pub use refusal::{Reason, Refusal};
-pub use rows::{a_text_and_its_script, members_and_their_script};
 pub use script::{Block, ClassLine, Given, Script};
-pub use statement::{Statement, Touch};
+pub use statement::{Ownership, Statement};

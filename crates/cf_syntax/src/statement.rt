@@ -1,6 +1,6 @@
 //! The statements of a script.
 ghost use Rattle.std.specs.Prelude.{◌≡◌, ◌≤◌, length, slice_get};
-ghost use Rattle.cf_syntax.specs.Forms.{touch_of, used_by, is_known, makes_object, padded};
+ghost use Rattle.cf_syntax.specs.Forms.{ownership_of, used_by, is_known, makes_object, pad};
 
 use crate::literal::{DataLiteral, TextLiteral};
 use cf_ids::{TypeId, VarId};
@@ -195,21 +195,21 @@ pub enum Statement {
 
 /// What a statement does to the number of references that a variable of its block owns.
 #[derive(Clone, Copy)]
-pub enum Touch {
+pub enum Ownership {
     /// Nothing.
-    Nothing,
+    Keeps,
     /// It binds the variable, which then owns one where an object was found.
     Binds(VarId),
     /// One more.
-    Plus(VarId),
+    Retains(VarId),
     /// One less.
-    Minus(VarId),
+    Releases(VarId),
 }
 
 impl Statement {
     /// What the statement does to a variable's count.
-    pub fn touch(&self) -> Touch
-        ensures { result ≡ touch_of self.now }
+    pub fn ownership(&self) -> Ownership
+        ensures { result ≡ ownership_of self.now }
     {
         match self {
             Statement::MakeString { variable, .. }
@@ -223,16 +223,16 @@ impl Statement {
             | Statement::StrSub { variable, .. }
             | Statement::ArrTake { variable, .. }
             | Statement::DictTake { variable, .. }
-            | Statement::FieldTake { variable, .. } => Touch::Binds(*variable),
-            Statement::Retain { variable } => Touch::Plus(*variable),
-            Statement::Release { variable } => Touch::Minus(*variable),
-            _ => Touch::Nothing,
+            | Statement::FieldTake { variable, .. } => Ownership::Binds(*variable),
+            Statement::Retain { variable } => Ownership::Retains(*variable),
+            Statement::Release { variable } => Ownership::Releases(*variable),
+            _ => Ownership::Keeps,
         }
     }
 
     /// The variables that the statement uses, in the order of its words, then nothing.
     pub fn uses(&self) -> [Option<VarId>; 3]
-        ensures { result ≡ padded (used_by self.now) }
+        ensures { result ≡ pad (used_by self.now) }
     {
         [self.first_used(), self.second_used(), self.third_used()]
     }

@@ -110,5 +110,6 @@ pub cells_equivalence : (c : CellCallbacks) → IsEquivalence (cells_equal c)
 cells_equivalence c = subst IsEquivalence (λ i a b. sym (cells_equal_ranks c a b) i) (eq_by_cmp_equiv (cells_total c))
 
 pub cells_equal_hashes : (c : CellCallbacks) (a b : Cell) → cells_equal c a b ≡ true → cell_hash c a ≡ cell_hash c b
-cells_equal_hashes Typed a b same = ap (λ leaf. hash_of (leaf_bytes leaf)) ((leaves_equal-Decides a.leaf b.leaf).0 same)
+cells_equal_hashes Typed a b same =
+    ap (λ leaf. hash_of (leaf_bytes leaf)) ((leaves_equal-Decides a.leaf b.leaf).0 same)
 cells_equal_hashes Plain a b same = ap (λ id. hash_of (to_be_bytes w32 id)) ((Decides-eqb a.id b.id).0 same)

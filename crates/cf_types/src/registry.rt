@@ -1,5 +1,6 @@
 //! The types of a script: the built-in ones, and those that it adds.
 ghost use Rattle.std.specs.Prelude.{◌≡◌, ◌+◌, ◌-◌, ◌≤◌, [], ◌∷◌, ◌++◌, length, slice_get, IfOk, OnOk, OnErr};
+ghost use Rattle.cf_ids.specs.declared.limits.TheConstants.{TYPES};
 ghost use Rattle.std.specs.Option.{option_copied};
 ghost use Rattle.cf_types.specs.Faults.{IsRefusedFor, register_fault};
 ghost use Rattle.cf_types.specs.Registry.{built_in_classes};
@@ -43,12 +44,13 @@ pub struct Registry {
 impl Model for Registry {
     ghost use Rattle.std.specs.Prelude.{List, ◌≤◌, length};
     ghost use Rattle.cf_types.specs.declared.classes.Class.{Class};
+    ghost use Rattle.cf_ids.specs.declared.limits.TheConstants.{TYPES};
 
     ghost Value = { List Class };
 
     ghost view = { λ r. r.classes.items };
 
-    ghost invariant = { λ r. length r.classes.items ≤ 1024 };
+    ghost invariant = { λ r. length r.classes.items ≤ TYPES };
 }
 
 impl Registry {
@@ -76,7 +78,7 @@ impl Registry {
         ensures added { OnOk result (self.new ≡ self.old
             ++ record { name = name.now; fields = fields; equality = equality } ∷ []) }
         ensures refused { OnErr result (self.new ≡ self.old) }
-        ensures within { length self.old ≤ 1024 }
+        ensures within { length self.old ≤ TYPES }
     {
         if TYPES <= self.classes.len() {
             return Err(RegisterFault::Full);

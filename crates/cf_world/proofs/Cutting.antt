@@ -10,9 +10,9 @@ use Rattle.cf_contents.specs.Contents.{Object}
 use Rattle.cf_contents.specs.Stores.{Held}
 use Rattle.cf_model.specs.State.{State, Work, slots_of, look, degree}
 use Rattle.cf_model.specs.Steps.{Step, finals_of, edges_after, cut_answer, type_of, type_in, state_after, step_answer}
-use Rattle.cf_world.specs.Mirrors.{Mirrors, MirrorsState, Follows, held_at, trimmed_by, retired_if, waits_if, answer_if}
+use Rattle.cf_world.specs.Mirrors.{Mirrors, MirrorsState, Follows, held_at, trimmed_by, finalised_if, waits_if, answer_if}
 use Rattle.cf_world.specs.Worlds.{ended_at}
-use Rattle.cf_world.proofs.Mirroring.{mirrors_retired}
+use Rattle.cf_world.proofs.Mirroring.{mirrors_finalised}
 use Rattle.cf_world.proofs.Stepping.{follows_step}
 
 last_if : (n : ℕ) (b : Bool) → (n == 0) ≡ b → (n + 1 == 1) ≡ b
@@ -39,12 +39,12 @@ module _ (o n before : ℕ) (less : n + 1 ≡ before) where
   pub answer_is : (class : ℕ) → cond (n == 0) (answers.Final class) answers.More ≡ answer_if (ended_at before) class
   answer_is class = answers_if class (n == 0) refl
 
-  retired_by : (objects : List Object) (finalised dropped : List ℕ) (bodies : List Held) (b : Bool) → (n == 0) ≡ b → o < length objects → Mirrors objects finalised dropped bodies → Mirrors objects (cond b (o ∷ []) [] ++ finalised) dropped (retired_if (ended_at before) o bodies)
-  retired_by objects finalised dropped bodies true e made h = rw (end_is true e) (mirrors_retired objects finalised dropped bodies o h made)
-  retired_by objects finalised dropped bodies false e made h = rw (end_is false e) h
+  finalised_by : (objects : List Object) (finalised dropped : List ℕ) (bodies : List Held) (b : Bool) → (n == 0) ≡ b → o < length objects → Mirrors objects finalised dropped bodies → Mirrors objects (cond b (o ∷ []) [] ++ finalised) dropped (finalised_if (ended_at before) o bodies)
+  finalised_by objects finalised dropped bodies true e made h = rw (end_is true e) (mirrors_finalised objects finalised dropped bodies o h made)
+  finalised_by objects finalised dropped bodies false e made h = rw (end_is false e) h
 
-  pub retired_mirrors : (objects : List Object) (finalised dropped : List ℕ) (bodies : List Held) → o < length objects → Mirrors objects finalised dropped bodies → Mirrors objects (cond (n == 0) (o ∷ []) [] ++ finalised) dropped (retired_if (ended_at before) o bodies)
-  retired_mirrors objects finalised dropped bodies made h = retired_by objects finalised dropped bodies (n == 0) refl made h
+  pub finalised_mirrors : (objects : List Object) (finalised dropped : List ℕ) (bodies : List Held) → o < length objects → Mirrors objects finalised dropped bodies → Mirrors objects (cond (n == 0) (o ∷ []) [] ++ finalised) dropped (finalised_if (ended_at before) o bodies)
+  finalised_mirrors objects finalised dropped bodies made h = finalised_by objects finalised dropped bodies (n == 0) refl made h
 
 -- the parts after a step that cuts a reference to an object
 module _ (step : Step) (st : State) (o : ℕ) (bodies : List Held) (table : List (Option ℕ)) (work : List Work) (cuts : step.cuts ≡ Some o) (less : degree o (edges_after step st.edges) + 1 ≡ degree o st.edges) (made : o < length step.objects) (mirrors : Mirrors step.objects st.finalised (step.drops ++ st.dropped) bodies) where
@@ -52,12 +52,12 @@ module _ (step : Step) (st : State) (o : ℕ) (bodies : List Held) (table : List
   ended = ended_at (degree o st.edges)
 
   abbrev new_bodies : List Held
-  new_bodies = retired_if ended o bodies
+  new_bodies = finalised_if ended o bodies
 
   pub follows_cut : length table ≡ 256 → ((v : ℕ) → held_at table v ≡ look v (step.bindings ++ st.frame.bindings)) → work ≡ step.work → Follows (state_after step st) new_bodies table (trimmed_by new_bodies (waits_if ended o ++ work)) step.number step.is_done
   follows_cut size held is =
       let n = degree o (edges_after step st.edges) in
-      let after : MirrorsState (state_after step st) new_bodies = rw cuts (retired_mirrors o n (degree o st.edges) less step.objects st.finalised (step.drops ++ st.dropped) bodies made mirrors) in
+      let after : MirrorsState (state_after step st) new_bodies = rw cuts (finalised_mirrors o n (degree o st.edges) less step.objects st.finalised (step.drops ++ st.dropped) bodies made mirrors) in
       let waits : waits_if ended o ++ work ≡ map slots_of (finals_of step.cuts (edges_after step st.edges)) ++ step.work =
       rw cuts (ap (λ (w : List Work). w ++ work) (sym (waits_are o n (degree o st.edges) less)) ∙ ap (λ (w : List Work). map slots_of (finals_of (Some o) (edges_after step st.edges)) ++ w) is) in
       follows_step step st new_bodies table (waits_if ended o ++ work) after size held waits

@@ -5,11 +5,11 @@ use Rattle.std.proofs.lemmas.Bool.Decides.{nat_tests}
 use Rattle.cf_graph.specs.Edges.{counted}
 use Rattle.cf_syntax.specs.declared.script.Script.{Script}
 use Rattle.cf_syntax.specs.declared.statement.Statement.{Statement}
-use Rattle.cf_syntax.specs.Forms.{touch_of, used_by, padded}
+use Rattle.cf_syntax.specs.Forms.{ownership_of, used_by, pad}
 use Rattle.cf_syntax.specs.Owned.{Owned}
 use Rattle.cf_contents.specs.Contents.{Object, times}
 use Rattle.cf_contents.specs.Deeds.{first_of, object_of, deed_at, taken_in, given_out}
-use Rattle.cf_contents.specs.Stores.{Held, Ready, objects_of, readied, given_up_in, left_in}
+use Rattle.cf_contents.specs.Stores.{Held, Ready, objects_of, ready_deed, given_up_in, left_in}
 use Rattle.cf_contents.proofs.FormLaws.{form_fits}
 use Rattle.cf_model.specs.declared.action.Action.{Action}
 use Rattle.cf_model.specs.declared.action.Action.TheVariants as actions
@@ -40,7 +40,7 @@ slot_same b dropped place (o ∷ os) e = ap (λ (k : ℕ). Some (actions.DropSlo
 
 module _ (s : Script) (st : State) (bodies : List Held) (table : List (Option ℕ)) (work : List Work) (number : ℕ) (is_done : Bool) (sound_here : IsSound s st) (h : Follows st bodies table work number is_done) where
   pub used_same : (x : Statement) → used_in table x ≡ used_objects st.frame.bindings x
-  used_same x = objects_same st.frame.bindings table (padded (used_by x)) h.stands.table_is
+  used_same x = objects_same st.frame.bindings table (pad (used_by x)) h.stands.table_is
 
   pub statement_same : (o : Option Statement) → slice_get (setup s) number ≡ o → statement_action table number o ≡ demanded s st.frame
   statement_same None e = sym (demanded-done s st sound_here (ap (slice_get (setup s)) (sym h.stands.number_is) ∙ e))
@@ -67,21 +67,21 @@ unmade s st h = none_of (length st.objects) (times (length st.objects) st.finali
 
 -- ---- a statement that takes no reference away
 
-module _ (s : Script) (journal : List Entry) (bodies : List Held) (table : List (Option ℕ)) (number : ℕ) (x : Statement) (own : Owned s) (legal : IsLegal s journal) (h : Follows (After s journal) bodies table [] number false) (next : slice_get (setup s) number ≡ Some x) (within : BindsWithin (touch_of x)) (room : makes s (statement_action table number (Some x)) ≡ true → length (After s journal).objects < 65536) (uncut : cut_by (touch_of x) (first_of (used_in table x)) ≡ None) where
+module _ (s : Script) (journal : List Entry) (bodies : List Held) (table : List (Option ℕ)) (number : ℕ) (x : Statement) (own : Owned s) (legal : IsLegal s journal) (h : Follows (After s journal) bodies table [] number false) (next : slice_get (setup s) number ≡ Some x) (within : BindsWithin (ownership_of x)) (room : makes s (statement_action table number (Some x)) ≡ true → length (After s journal).objects < 65536) (uncut : cut_by (ownership_of x) (first_of (used_in table x)) ≡ None) where
   abbrev st : State
   st = After s journal
 
   abbrev ready : Ready
-  ready = readied s.classes bodies x (used_in table x)
+  ready = ready_deed s.classes bodies x (used_in table x)
 
   abbrev object : Option ℕ
-  object = object_bound bodies (touch_of x) ready.deed.origin ready.object
+  object = object_bound bodies (ownership_of x) ready.deed.origin ready.object
 
   abbrev entry : Entry
-  entry = record { thread = 0; action = statement_action table number (Some x); answer = answer_of (touch_of x) object ready.deed.answer }
+  entry = record { thread = 0; action = statement_action table number (Some x); answer = answer_of (ownership_of x) object ready.deed.answer }
 
   abbrev new_bodies : List Held
-  new_bodies = bodies_after bodies (touch_of x) ready
+  new_bodies = bodies_after bodies (ownership_of x) ready
 
   here : IsSound s st
   here = sound s journal own legal
@@ -97,14 +97,14 @@ module _ (s : Script) (journal : List Entry) (bodies : List Held) (table : List 
 
   -- the step by the objects of the table, among those of the bodies
   abbrev step_by : List Object → List (Option ℕ) → Step
-  step_by objects used = let deed = deed_at s.classes objects x used in touch_step 0 (touch_of x) deed.answer deed.origin (first_of used) (deed.change) st
+  step_by objects used = let deed = deed_at s.classes objects x used in touch_step 0 (ownership_of x) deed.answer deed.origin (first_of used) (deed.change) st
 
   step_same : step_by (objects_of bodies) (used_in table x) ≡ step
   step_same = ap (λ (os : List Object). step_by os (used_in table x)) h.mirrors.objects_are ∙ ap (step_by st.objects) (used_same s st bodies table [] number false here h x)
 
   answer_same : entry.answer ≡ answer_to s 0 st entry.action
   answer_same =
-      sym (touch_answers 0 (touch_of x) ready.deed.answer ready.deed.origin ready.object ready.deed.change st bodies h.mirrors uncut)
+      sym (touch_answers 0 (ownership_of x) ready.deed.answer ready.deed.origin ready.object ready.deed.change st bodies h.mirrors uncut)
       ∙ ap (λ (t : Step). step_answer t st) step_same
       ∙ sym (answer-demanded s st x entry.action here at action_is)
 
@@ -120,16 +120,16 @@ module _ (s : Script) (journal : List Entry) (bodies : List Held) (table : List 
   undropped : times (length st.objects) st.dropped ≡ 0
   undropped = here.kept.undropped (length st.objects) (unmade s st here)
 
-  pub statement_follows : Follows (After s (journal ++ entry ∷ [])) new_bodies (table_after (touch_of x) object table) (trimmed_by new_bodies new_work) (number + 1) false
+  pub statement_follows : Follows (After s (journal ++ entry ∷ [])) new_bodies (table_after (ownership_of x) object table) (trimmed_by new_bodies new_work) (number + 1) false
   statement_follows =
       let fits = (form_fits s.classes x _ _ _).changes in
       rw (After-more s journal entry, effect_same)
-      (follows_touch 0 (touch_of x) ready.deed.answer ready.deed.origin ready.object ready.deed.change st bodies table [] number false h (unmade s st here) undropped fits within uncut)
+      (follows_touch 0 (ownership_of x) ready.deed.answer ready.deed.origin ready.object ready.deed.change st bodies table [] number false h (unmade s st here) undropped fits within uncut)
 
-  pub statement_gains : gained s 0 st entry.action ≡ gained_after (touch_of x) object (taken_in (object_of (objects_of bodies) ready.object) ready.deed.change)
+  pub statement_gains : gained s 0 st entry.action ≡ gained_after (ownership_of x) object (taken_in (object_of (objects_of bodies) ready.object) ready.deed.change)
   statement_gains =
       ap (λ (t : Step). gained_by t.operations) (step-demanded s st (Some x) entry.action here at action_is ∙ sym step_same)
-      ∙ touch_gains 0 (touch_of x) ready.deed.answer ready.deed.origin ready.object ready.deed.change st bodies h.mirrors
+      ∙ touch_gains 0 (ownership_of x) ready.deed.answer ready.deed.origin ready.object ready.deed.change st bodies h.mirrors
 
   -- the entry is the one of the state
   pub statement_entry : entry ≡ entry_of s 0 st entry.action

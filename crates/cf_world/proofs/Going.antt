@@ -7,13 +7,13 @@ use Rattle.cf_ids.specs.declared.answer.Answer.TheVariants as answers
 use Rattle.cf_ids.specs.declared.answer.Ended.{Ended}
 use Rattle.cf_syntax.specs.declared.script.Script.{Script}
 use Rattle.cf_syntax.specs.declared.statement.Statement.{Statement}
-use Rattle.cf_syntax.specs.declared.statement.Touch.{Touch}
-use Rattle.cf_syntax.specs.declared.statement.Touch.TheVariants.{Nothing, Binds, Plus, Minus}
-use Rattle.cf_syntax.specs.Forms.{touch_of, makes_object}
+use Rattle.cf_syntax.specs.declared.statement.Ownership.{Ownership}
+use Rattle.cf_syntax.specs.declared.statement.Ownership.TheVariants.{Keeps, Binds, Retains, Releases}
+use Rattle.cf_syntax.specs.Forms.{ownership_of, makes_object}
 use Rattle.cf_contents.specs.Contents.{Object, times}
 use Rattle.cf_contents.specs.Deeds.{Origin, nowhere, fresh, there, first_of, deed_at}
 use Rattle.cf_contents.proofs.FormLaws.{MakesOnly, form_fits}
-use Rattle.cf_contents.specs.Stores.{Held, Ready, objects_of, readied, with_body, body_dropped, is_live_in, given_up_in, left_to, left_in}
+use Rattle.cf_contents.specs.Stores.{Held, Ready, objects_of, ready_deed, with_body, body_dropped, is_live_in, given_up_in, left_to, left_in}
 use Rattle.cf_contents.proofs.BodyLaws.{length-objects, length-with_body, objects-kept}
 use Rattle.cf_model.specs.declared.action.Action.{Action}
 use Rattle.cf_model.specs.declared.action.Action.TheVariants as actions
@@ -28,7 +28,7 @@ use Rattle.cf_model.proofs.Kept.{AllFinal}
 use Rattle.cf_model.proofs.Holding.{some_is}
 use Rattle.cf_model.proofs.Sizes.{makes-demanded}
 use Rattle.cf_model.proofs.Soundness.{sound, frame_statement}
-use Rattle.cf_world.specs.Mirrors.{is_fresh, MirrorsState, used_in, trimmed_by, BindsWithin, statement_action, slot_action, first_work, action_by, retired_if, waits_if, answer_if}
+use Rattle.cf_world.specs.Mirrors.{is_fresh, MirrorsState, used_in, trimmed_by, BindsWithin, statement_action, slot_action, first_work, action_by, finalised_if, waits_if, answer_if}
 use Rattle.cf_world.specs.declared.work.Item.{Item}
 use Rattle.cf_world.specs.Works.{works, IsStated}
 use Rattle.cf_world.specs.Worlds.{entry_of, ended_at}
@@ -43,12 +43,12 @@ one_more journal e = length-append journal (e ∷ [])
 -- ---- an entry that takes no reference away
 
 -- where a statement was entered
-module _ (s : Script) (journal : List Entry) (bodies : List Held) (table : List (Option ℕ)) (number : ℕ) (x : Statement) (at : IsAt s journal bodies table [] number false) (next : slice_get (setup s) number ≡ Some x) (within : BindsWithin (touch_of x)) (plain : IsPlainNext s journal table number (Some x)) where
+module _ (s : Script) (journal : List Entry) (bodies : List Held) (table : List (Option ℕ)) (number : ℕ) (x : Statement) (at : IsAt s journal bodies table [] number false) (next : slice_get (setup s) number ≡ Some x) (within : BindsWithin (ownership_of x)) (plain : IsPlainNext s journal table number (Some x)) where
   abbrev st : State
   st = After s journal
 
   abbrev r : Ready
-  r = readied s.classes bodies x (used_in table x)
+  r = ready_deed s.classes bodies x (used_in table x)
 
   module _ (entry : Entry) (bodies' : List Held) (table' : List (Option ℕ)) (work' : List Work) (number' : ℕ) (gained' : List ℕ) (is : IsStated x r bodies table number entry bodies' table' work' number' gained') where
     pub stated_entry : entry ≡ entry_of s 0 st (statement_action table number (Some x))
@@ -95,7 +95,7 @@ pub record IsReleased (s : Script) (journal : List Entry) (bodies : List Held) (
   pub live : is_live_in (bodies_taken (first_work work) bodies) o ≡ true
   pub answer : answer_to s 0 (After s journal) a ≡ answer_if (ended_at (degree o (After s journal).edges)) (type_of (objects_of (bodies_taken (first_work work) bodies)) o)
   pub gains : gained s 0 (After s journal) a ≡ []
-  pub at : let ended = ended_at (degree o (After s journal).edges) in let left = retired_if ended o (bodies_taken (first_work work) bodies) in
+  pub at : let ended = ended_at (degree o (After s journal).edges) in let left = finalised_if ended o (bodies_taken (first_work work) bodies) in
       IsAt s (journal ++ entry_of s 0 (After s journal) a ∷ []) left table (trimmed_by left (waits_if ended o ++ work_taken work)) (number_taken (first_work work) number) false
 
 -- an object that may be used is live among the bodies
@@ -111,14 +111,14 @@ class_in_bodies state bodies o h = ap (λ (os : List Object). type_of os o) (sym
 action_same : (a b : Action) → ◌≡◌ {A = Option Action} (Some a) (Some b) → a ≡ b
 action_same a b e = cc
 
-cut_parts : (touch : Touch) (p : Option ℕ) (o : ℕ) → cut_by touch p ≡ Some o → (v : ℕ) × ((touch ≡ Minus v) × (p ≡ Some o))
-cut_parts Nothing None o e = absurd cc
-cut_parts Nothing (Some p) o e = absurd cc
+cut_parts : (ownership : Ownership) (p : Option ℕ) (o : ℕ) → cut_by ownership p ≡ Some o → (v : ℕ) × ((ownership ≡ Releases v) × (p ≡ Some o))
+cut_parts Keeps None o e = absurd cc
+cut_parts Keeps (Some p) o e = absurd cc
 cut_parts (Binds v) None o e = absurd cc
 cut_parts (Binds v) (Some p) o e = absurd cc
-cut_parts (Plus v) None o e = absurd cc
-cut_parts (Plus v) (Some p) o e = absurd cc
-cut_parts (Minus v) p o e = (v, (refl, e))
+cut_parts (Retains v) None o e = absurd cc
+cut_parts (Retains v) (Some p) o e = absurd cc
+cut_parts (Releases v) p o e = (v, (refl, e))
 
 module _ (s : Script) (journal : List Entry) (bodies : List Held) (table : List (Option ℕ)) (number o : ℕ) where
   abbrev now : State
@@ -144,27 +144,27 @@ module _ (s : Script) (journal : List Entry) (bodies : List Held) (table : List 
       }
 
   -- a release
-  release_released : (x : Statement) (v : ℕ) → IsAt s journal bodies table [] number false → slice_get (setup s) number ≡ Some x → touch_of x ≡ Minus v → first_of (used_in table x) ≡ Some o → IsReleased s journal bodies table [] number o (statement_action table number (Some x))
-  release_released x v at next touch target =
-      let legal = release_legal s journal bodies table number at.owned at.legal x v o at.follows next touch target in
+  release_released : (x : Statement) (v : ℕ) → IsAt s journal bodies table [] number false → slice_get (setup s) number ≡ Some x → ownership_of x ≡ Releases v → first_of (used_in table x) ≡ Some o → IsReleased s journal bodies table [] number o (statement_action table number (Some x))
+  release_released x v at next ownership target =
+      let legal = release_legal s journal bodies table number at.owned at.legal x v o at.follows next ownership target in
       let entry = entry_of s 0 now (statement_action table number (Some x)) in
       record {
         can = tt;
-        made = made_in now bodies o at.follows.mirrors (release_made s journal bodies table number at.owned at.legal x v o at.follows next touch target);
-        live = live_in now bodies o at.follows.mirrors (release_live s journal bodies table number at.owned at.legal x v o at.follows next touch target);
-        answer = release_is s journal bodies table number at.owned at.legal x v o at.follows next touch target ∙ ap (answer_if (ended_at (degree o now.edges))) (class_in_bodies now bodies o at.follows.mirrors);
-        gains = release_gains s journal bodies table number at.owned at.legal x v o at.follows next touch target;
+        made = made_in now bodies o at.follows.mirrors (release_made s journal bodies table number at.owned at.legal x v o at.follows next ownership target);
+        live = live_in now bodies o at.follows.mirrors (release_live s journal bodies table number at.owned at.legal x v o at.follows next ownership target);
+        answer = release_is s journal bodies table number at.owned at.legal x v o at.follows next ownership target ∙ ap (answer_if (ended_at (degree o now.edges))) (class_in_bodies now bodies o at.follows.mirrors);
+        gains = release_gains s journal bodies table number at.owned at.legal x v o at.follows next ownership target;
         at = record {
           owned = at.owned;
           legal = legal_more s start journal entry at.legal legal;
-          follows = release_goes s journal bodies table number at.owned at.legal x v o at.follows next touch target;
+          follows = release_goes s journal bodies table number at.owned at.legal x v o at.follows next ownership target;
           numbers = omega (arith, at.numbers, one_more journal entry);
         };
       }
 
   -- a slot that is given up
-  dead_in : (b : ℕ) (rest : List Work) → IsAt s journal bodies table (slots_of b ∷ rest) number false → is_live_in bodies b ≡ false
-  dead_in b rest at =
+  finalised_in : (b : ℕ) (rest : List Work) → IsAt s journal bodies table (slots_of b ∷ rest) number false → is_live_in bodies b ≡ false
+  finalised_in b rest at =
       let waits : AllFinal now.finalised (slots_of b ∷ rest) = subst (AllFinal now.finalised) (sym at.follows.stands.work_is) (sound s journal at.owned at.legal).kept.waiting in
       at.follows.mirrors.live b ∙ not_zero (ltb b (length now.objects)) (times b now.finalised) waits.0
     where
@@ -189,7 +189,7 @@ module _ (s : Script) (journal : List Entry) (bodies : List Held) (table : List 
       let within : b < length now.objects = omega (arith, some_made b (slice_get bodies b) refl (left_in bodies b) o os left, length-objects bodies, ap length at.follows.mirrors.objects_are) in
       let kept : objects_of (with_body body_dropped b bodies) ≡ objects_of bodies = objects-kept body_dropped (λ h. refl) b bodies in
       record {
-        can = (dead_in b rest at, let some : length (left_in bodies b) ≡ suc (length os) = ap length left in omega (arith, some));
+        can = (finalised_in b rest at, let some : length (left_in bodies b) ≡ suc (length os) = ap length left in omega (arith, some));
         made = omega (arith, length-with_body body_dropped b bodies, made_in now bodies o at.follows.mirrors (drop_made s journal bodies table number at.owned at.legal b o os rest at.follows left));
         live = live-body body_dropped (λ h. refl) b o bodies ∙ live_in now bodies o at.follows.mirrors legal.uses.0.live;
         answer = drop_answer s journal bodies table number at.owned at.legal b o os rest at.follows left
@@ -206,8 +206,8 @@ module _ (s : Script) (journal : List Entry) (bodies : List Held) (table : List 
   statement_released : (x : Option Statement) (a : Action) → IsAt s journal bodies table [] number false → slice_get (setup s) number ≡ x → statement_action table number x ≡ a → cut_of a ≡ Some o → IsReleased s journal bodies table [] number o a
   statement_released None a at next is cut = absurd (let none : None ≡ cut_of a = ap cut_of is in cc)
   statement_released (Some x) a at next is cut =
-      let by : cut_by (touch_of x) (first_of (used_in table x)) ≡ Some o = sym (cut_of-action_of x (record { block = 0; number = number; used = used_in table x })) ∙ ap cut_of is ∙ cut in
-      let parts = cut_parts (touch_of x) (first_of (used_in table x)) o by in
+      let by : cut_by (ownership_of x) (first_of (used_in table x)) ≡ Some o = sym (cut_of-action_of x (record { block = 0; number = number; used = used_in table x })) ∙ ap cut_of is ∙ cut in
+      let parts = cut_parts (ownership_of x) (first_of (used_in table x)) o by in
       subst (IsReleased s journal bodies table [] number o) is (release_released x parts.0 at next parts.1.0 parts.1.1)
 
   slot_released : (b : ℕ) (rest : List Work) (left : List ℕ) (a : Action) → IsAt s journal bodies table (slots_of b ∷ rest) number false → left_in bodies b ≡ left → slot_action b (given_up_in bodies b) left ≡ Some a → cut_of a ≡ Some o → IsReleased s journal bodies table (slots_of b ∷ rest) number o a
@@ -242,12 +242,12 @@ module _ (s : Script) (journal : List Entry) (bodies : List Held) (table : List 
       answer_is ∙ ap (λ (bs : List Held). answer_if ended (type_of (objects_of bs) o)) taken_is ∙ ap (λ (e : Ended). answer_if e (type_of (objects_of (bodies_taken (first_work work) bodies)) o)) is ∙ sym rel.answer in
       grown ∙ ap (λ (b : Answer). journal ++ record { thread = 0; action = a; answer = b } ∷ []) same
 
-  pub release_at : taken ≡ bodies_taken (first_work work) bodies → left ≡ retired_if ended o taken → behind ≡ work_taken work → after ≡ trimmed_by (retired_if ended o taken) (waits_if ended o ++ behind) → number' ≡ number_taken (first_work work) number → journal' ≡ journal ++ entry_of s 0 (After s journal) a ∷ [] → IsAt s journal' left table after number' false
+  pub release_at : taken ≡ bodies_taken (first_work work) bodies → left ≡ finalised_if ended o taken → behind ≡ work_taken work → after ≡ trimmed_by (finalised_if ended o taken) (waits_if ended o ++ behind) → number' ≡ number_taken (first_work work) number → journal' ≡ journal ++ entry_of s 0 (After s journal) a ∷ [] → IsAt s journal' left table after number' false
   release_at taken_is left_is behind_is after_is number_is grown =
       rw (grown, left_is, after_is, behind_is, taken_is, is, number_is) rel.at
 
 -- a statement that makes an object does so where one may be made
-pub fresh_few : (s : Script) (journal : List Entry) (bodies : List Held) (table : List (Option ℕ)) (number : ℕ) (x : Statement) (ready : Option Ready) → IsAt s journal bodies table [] number false → slice_get (setup s) number ≡ Some x → IsPlainNext s journal table number (Some x) → ready ≡ Some (readied s.classes bodies x (used_in table x))
+pub fresh_few : (s : Script) (journal : List Entry) (bodies : List Held) (table : List (Option ℕ)) (number : ℕ) (x : Statement) (ready : Option Ready) → IsAt s journal bodies table [] number false → slice_get (setup s) number ≡ Some x → IsPlainNext s journal table number (Some x) → ready ≡ Some (ready_deed s.classes bodies x (used_in table x))
     → IfSome ready (λ r. is_fresh r.deed.origin ≡ true → length bodies < 65536)
 fresh_few s journal bodies table number x ready at next plain is = rw is (λ some.
     let making : makes_object x ≡ true = made_only (makes_object x) (deed_at s.classes (objects_of bodies) x (used_in table x)).origin (form_fits s.classes x _ _ _).only some in

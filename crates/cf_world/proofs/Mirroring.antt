@@ -7,7 +7,7 @@ use Rattle.std.proofs.lemmas.Bool.Decides.{nat_tests, eqb_tells}
 use Rattle.cf_graph.specs.Edges.{counted}
 use Rattle.cf_contents.specs.Contents.{Object, times, slots_in, slots_at}
 use Rattle.cf_contents.specs.Deeds.{Change, changed_by}
-use Rattle.cf_contents.specs.Stores.{Held, live, with_body, body_changed, body_retired, body_dropped, bodies_changed, is_live_body, is_live_in, given_up_by, given_up_in, left_to, left_in}
+use Rattle.cf_contents.specs.Stores.{Held, live, with_body, body_changed, body_finalised, body_dropped, bodies_changed, is_live_body, is_live_in, given_up_by, given_up_in, left_to, left_in}
 use Rattle.cf_contents.proofs.BodyLaws.{get-map, get-own, get-other, length-objects, objects-changed, objects-kept, objects-append}
 use Rattle.cf_contents.proofs.ContentLaws.{length-changed_by}
 use Rattle.cf_model.specs.State.{Work, release_of, slots_of, left_of, trimmed}
@@ -36,7 +36,7 @@ trimmed-mirrors objects finalised dropped bodies (slots_of b ∷ work) h =
 
 -- ---- a change
 
-live_same : (f : Held → Held) → ((h : Held) → (f h).is_dead ≡ h.is_dead) → (h : Option Held) → is_live_body (option_map f h) ≡ is_live_body h
+live_same : (f : Held → Held) → ((h : Held) → (f h).is_finalised ≡ h.is_finalised) → (h : Option Held) → is_live_body (option_map f h) ≡ is_live_body h
 live_same f same None = refl
 live_same f same (Some h) = ap not (same h)
 
@@ -44,7 +44,7 @@ given_same : (f : Held → Held) → ((h : Held) → (f h).given_up ≡ h.given_
 given_same f same None = refl
 given_same f same (Some h) = same h
 
-pub live-body : (f : Held → Held) → ((h : Held) → (f h).is_dead ≡ h.is_dead) → (o p : ℕ) (bodies : List Held) → is_live_in (with_body f o bodies) p ≡ is_live_in bodies p
+pub live-body : (f : Held → Held) → ((h : Held) → (f h).is_finalised ≡ h.is_finalised) → (o p : ℕ) (bodies : List Held) → is_live_in (with_body f o bodies) p ≡ is_live_in bodies p
 live-body f same o p bodies = elim (eqb_tells o p) [
   | inl e ↦ subst (λ (k : ℕ). is_live_in (with_body f o bodies) k ≡ is_live_in bodies k) e.1 (ap is_live_body (get-own f o bodies) ∙ live_same f same (slice_get bodies o))
   | inr e ↦ ap is_live_body (get-other f o p bodies e.1)
@@ -152,25 +152,25 @@ module _ (objects : List Object) (finalised dropped : List ℕ) (bodies : List H
   within : o < length bodies
   within = omega (arith, made, length-objects bodies, ap length h.objects_are)
 
-  retired_live : is_live_in (with_body body_retired o bodies) o ≡ (ltb o (length objects) && (times o (o ∷ finalised) == 0))
-  retired_live =
+  finalised_live : is_live_in (with_body body_finalised o bodies) o ≡ (ltb o (length objects) && (times o (o ∷ finalised) == 0))
+  finalised_live =
       let there = some_made bodies o within in
       let own : counted (eqb o o) ≡ 1 = ap counted (eq-eqb o o refl) in
       let below : ltb o (length objects) ≡ true = grind (arith, nat_tests) in
       let some : (times o (o ∷ finalised) == 0) ≡ false = grind (arith, nat_tests) in
-      ap is_live_body (get-own body_retired o bodies ∙ ap (option_map body_retired) there.1) ∙ sym (rw (below, some) refl)
+      ap is_live_body (get-own body_finalised o bodies ∙ ap (option_map body_finalised) there.1) ∙ sym (rw (below, some) refl)
 
-  pub mirrors_retired : Mirrors objects (o ∷ finalised) dropped (with_body body_retired o bodies)
-  mirrors_retired = record {
-    objects_are = objects-kept body_retired (λ b. refl) o bodies ∙ h.objects_are;
+  pub mirrors_finalised : Mirrors objects (o ∷ finalised) dropped (with_body body_finalised o bodies)
+  mirrors_finalised = record {
+    objects_are = objects-kept body_finalised (λ b. refl) o bodies ∙ h.objects_are;
     live = λ p. elim (eqb_tells o p) [
-      | inl e ↦ subst (λ (k : ℕ). is_live_in (with_body body_retired o bodies) k ≡ (ltb k (length objects) && (times k (o ∷ finalised) == 0))) e.1 retired_live
+      | inl e ↦ subst (λ (k : ℕ). is_live_in (with_body body_finalised o bodies) k ≡ (ltb k (length objects) && (times k (o ∷ finalised) == 0))) e.1 finalised_live
       | inr e ↦
           let none : counted (eqb o p) ≡ 0 = ap counted e.0 in
           let same : times p (o ∷ finalised) ≡ times p finalised = omega (arith, none) in
-          ap is_live_body (get-other body_retired o p bodies e.1) ∙ h.live p ∙ sym (ap (λ (n : ℕ). ltb p (length objects) && (n == 0)) same)
+          ap is_live_body (get-other body_finalised o p bodies e.1) ∙ h.live p ∙ sym (ap (λ (n : ℕ). ltb p (length objects) && (n == 0)) same)
     ];
-    given_up = λ p. given-body body_retired (λ b. refl) o p bodies ∙ h.given_up p;
+    given_up = λ p. given-body body_finalised (λ b. refl) o p bodies ∙ h.given_up p;
   }
 
   dropped_own : given_up_in (with_body body_dropped o bodies) o ≡ times o (o ∷ dropped)

@@ -12,7 +12,7 @@ use Rattle.cf_syntax.specs.declared.counts.Counts.{Counts}
 use Rattle.cf_syntax.specs.declared.script.Script.{Script}
 use Rattle.cf_syntax.specs.declared.statement.Statement.{Statement}
 use Rattle.cf_syntax.specs.Counting.{Counted}
-use Rattle.cf_syntax.specs.Owned.{given, taken}
+use Rattle.cf_syntax.specs.Owned.{given, released}
 use Rattle.cf_contents.specs.Contents.{times}
 use Rattle.cf_contents.specs.Stores.{Held, MayGrow, left_in, left_to}
 use Rattle.cf_contents.proofs.BodyLaws.{length-objects}
@@ -172,7 +172,7 @@ module _ (s : Script) (st : State) (bodies : List Held) (table : List (Option �
   weigh-all w = omega (arith, weigh-append w (of_variables ++ owed_references items) of_slots, weigh-append w of_variables (owed_references items))
 
   no_variables : (r : Reference) → ((v : ℕ) → r.holder ≡ variable 0 v → ⊥) → weigh (one r) of_variables ≡ 0
-  no_variables r apart = weigh-below-none (one r) (variable_references table passed) 256 (λ v lt. held-none r v (held_at table v) (given v passed - taken v passed) (apart v))
+  no_variables r apart = weigh-below-none (one r) (variable_references table passed) 256 (λ v lt. held-none r v (held_at table v) (given v passed - released v passed) (apart v))
 
   no_slots : (r : Reference) → ((b : ℕ) → r.holder ≡ slot b → ⊥) → weigh (one r) of_slots ≡ 0
   no_slots r apart = weigh-below-none (one r) (slot_references bodies) (length bodies) (λ b lt. other_weigh r (slot b) (left_in bodies b) (apart b))
@@ -181,13 +181,13 @@ module _ (s : Script) (st : State) (bodies : List Held) (table : List (Option �
   foreign_same r f = omega (arith, weigh-all (one r), no_variables r f.variable, owed-none r items f.owed, no_slots r f.slot, sound_here.others r f)
 
   abbrev owns : ℕ → ℕ
-  owns v = given v passed - taken v passed
+  owns v = given v passed - released v passed
 
   is_passed : passed ≡ take st.frame.number (setup s)
   is_passed = ap (λ (n : ℕ). take n (setup s)) h.stands.number_is
 
-  held_same : (v o : ℕ) → look v st.frame.bindings ≡ Some o → weigh (one (reference 0 v o)) st.edges + taken v passed ≡ given v passed
-  held_same v o is = subst (λ (ss : List Statement). weigh (one (reference 0 v o)) st.edges + taken v ss ≡ given v ss) (sym is_passed) (sound_here.holds.held v o is)
+  held_same : (v o : ℕ) → look v st.frame.bindings ≡ Some o → weigh (one (reference 0 v o)) st.edges + released v passed ≡ given v passed
+  held_same v o is = subst (λ (ss : List Statement). weigh (one (reference 0 v o)) st.edges + released v ss ≡ given v ss) (sym is_passed) (sound_here.holds.held v o is)
 
   clash : (o : ℕ) → ◌≡◌ {A = Option ℕ} None (Some o) → ⊥
   clash o e = absurd cc
@@ -267,7 +267,7 @@ edges-held v (Some o) n = each n
 pub counted-same : (table : List (Option ℕ)) (c : Counts) (earlier : List Statement) → Counted c earlier → below (counted_references table c) 256 ≡ below (variable_references table earlier) 256
 counted-same table c earlier t =
     below-same (counted_references table c) (variable_references table earlier) 256
-    (λ v small. ap (λ (n : ℕ). held_references v (held_at table v) (n - get_or c.taken v 0)) (t.gives v small) ∙ ap (λ (n : ℕ). held_references v (held_at table v) (given v earlier - n)) (t.takes v small))
+    (λ v small. ap (λ (n : ℕ). held_references v (held_at table v) (n - get_or c.released v 0)) (t.gives v small) ∙ ap (λ (n : ℕ). held_references v (held_at table v) (given v earlier - n)) (t.takes v small))
 
 pub owed-more : (us vs : List Item) → owed_references (us ++ vs) ≡ owed_references us ++ owed_references vs
 owed-more [] vs = refl
@@ -324,10 +324,10 @@ get_or_any [] v d lt = absurd (omega arith)
 get_or_any (x ∷ xs) zero d lt = refl
 get_or_any (x ∷ xs) (suc v) d lt = get_or_any xs v d (omega (arith, lt))
 
-pub variables-more : (table : List (Option ℕ)) (c : Counts) (v : ℕ) (d : Option ℕ) (n : ℕ) (start before after : List Edge) → v < length table → n ≡ get_or c.given v 0 - get_or c.taken v 0 → before ≡ start ++ edges_of (below (counted_references table c) v) → after ≡ before ++ copies (get_or table v d) n → after ≡ start ++ edges_of (below (counted_references table c) (v + 1))
+pub variables-more : (table : List (Option ℕ)) (c : Counts) (v : ℕ) (d : Option ℕ) (n : ℕ) (start before after : List Edge) → v < length table → n ≡ get_or c.given v 0 - get_or c.released v 0 → before ≡ start ++ edges_of (below (counted_references table c) v) → after ≡ before ++ copies (get_or table v d) n → after ≡ start ++ edges_of (below (counted_references table c) (v + 1))
 variables-more table c v d n start before after lt size so_far is =
     edges-more (counted_references table c) v start before after (copies (get_or table v d) n) so_far is
-    (edges-held v (held_at table v) (get_or c.given v 0 - get_or c.taken v 0)
+    (edges-held v (held_at table v) (get_or c.given v 0 - get_or c.released v 0)
     ∙ ap (λ (k : ℕ). copies (held_at table v) k) (sym size) ∙ ap (λ (found : Option ℕ). copies found n) (sym (get_or_any table v d lt)))
 
 -- a world has at most as many bodies as there are numbers of objects
@@ -362,7 +362,7 @@ view-edges w s view p es script inv is here =
     ∙ ap (λ (st : State). count_by p (edges_of st.edges)) (sym state_is ∙ ap state_of is)
 
 -- running counts of statements that take no more than they gave
-pub counts_own : (c : Counts) (done earlier : List Statement) → Counted c done → done ≡ earlier → ((v : ℕ) → taken v earlier ≤ given v earlier)
-    → (v : ℕ) → v < 256 → get_or c.taken v 0 ≤ get_or c.given v 0
+pub counts_own : (c : Counts) (done earlier : List Statement) → Counted c done → done ≡ earlier → ((v : ℕ) → released v earlier ≤ given v earlier)
+    → (v : ℕ) → v < 256 → get_or c.released v 0 ≤ get_or c.given v 0
 counts_own c done earlier counted is owns v small =
     let most = rw (← is) at (owns v) in omega (arith, counted.gives v small, counted.takes v small, most)

@@ -7,9 +7,9 @@ use Rattle.cf_graph.specs.Edges.{counted}
 use Rattle.cf_syntax.specs.declared.script.Script.{Script}
 use Rattle.cf_syntax.specs.declared.statement.Statement.{Statement}
 use Rattle.cf_syntax.specs.declared.statement.Statement.TheVariants as forms
-use Rattle.cf_syntax.specs.declared.statement.Touch.{Touch}
-use Rattle.cf_syntax.specs.declared.statement.Touch.TheVariants.{Minus}
-use Rattle.cf_syntax.specs.Forms.{touch_of, makes_object}
+use Rattle.cf_syntax.specs.declared.statement.Ownership.{Ownership}
+use Rattle.cf_syntax.specs.declared.statement.Ownership.TheVariants.{Releases}
+use Rattle.cf_syntax.specs.Forms.{ownership_of, makes_object}
 use Rattle.cf_syntax.specs.Owned.{Owned}
 use Rattle.cf_contents.specs.Contents.{times}
 use Rattle.cf_contents.specs.Stores.{Held, with_body, body_dropped, left_in, given_up_in}
@@ -29,7 +29,7 @@ use Rattle.cf_model.proofs.Soundness.{IsSound, sound, frame_statement}
 use Rattle.cf_model.proofs.Along.{live_parts}
 use Rattle.cf_model.proofs.Degrees.{degree_after}
 use Rattle.cf_model.proofs.Legality.{legal_demanded, legal_owed, legal_drop, step-demanded}
-use Rattle.cf_world.specs.Mirrors.{Mirrors, Follows, held_at, used_in, trimmed_by, statement_action, retired_if, waits_if, answer_if}
+use Rattle.cf_world.specs.Mirrors.{Mirrors, Follows, held_at, used_in, trimmed_by, statement_action, finalised_if, waits_if, answer_if}
 use Rattle.cf_world.specs.Worlds.{entry_of, ended_at}
 use Rattle.cf_world.proofs.Mirroring.{left-mirrors, mirrors_dropped}
 use Rattle.cf_world.proofs.Cutting.{follows_cut, cut_answers}
@@ -56,7 +56,7 @@ module _ (s : Script) (journal : List Entry) (a : Action) (o : ℕ) (step : Step
 
   -- the parts after it
   pub release_follows : (bodies : List Held) (table : List (Option ℕ)) (work : List Work) → o < length step.objects → Mirrors step.objects st.finalised (step.drops ++ st.dropped) bodies → length table ≡ 256 → ((v : ℕ) → held_at table v ≡ look v (step.bindings ++ st.frame.bindings)) → work ≡ step.work
-      → Follows (After s (journal ++ entry_of s 0 st a ∷ [])) (retired_if ended o bodies) table (trimmed_by (retired_if ended o bodies) (waits_if ended o ++ work)) step.number step.is_done
+      → Follows (After s (journal ++ entry_of s 0 st a ∷ [])) (finalised_if ended o bodies) table (trimmed_by (finalised_if ended o bodies) (waits_if ended o ++ work)) step.number step.is_done
   release_follows bodies table work made mirrors size held works =
       rw (After-more s journal (entry_of s 0 st a), is) (follows_cut step st o bodies table work cuts less made mirrors size held works)
 
@@ -68,7 +68,7 @@ stands_at st bodies table work m n d e numbers dones h =
     subst (λ (k : ℕ). Follows st bodies table work k d) (sym numbers) (subst (λ (b : Bool). Follows st bodies table work n b) (sym dones) h)
 
 -- a statement that takes a reference away makes no object
-minus_makes : (x : Statement) (v : ℕ) → touch_of x ≡ Minus v → makes_object x ≡ true → ⊥
+minus_makes : (x : Statement) (v : ℕ) → ownership_of x ≡ Releases v → makes_object x ≡ true → ⊥
 minus_makes (forms.Release w) v t m = absurd cc
 minus_makes _ v t m = absurd cc
 
@@ -89,7 +89,7 @@ module _ (s : Script) (journal : List Entry) (bodies : List Held) (table : List 
   pub owed_made : (o : ℕ) (rest : List Work) → Follows now bodies table (release_of o ∷ rest) number false → o < length now.objects
   owed_made o rest h = (live_parts now 0 None o (owed_legal o rest h).uses.0).1
 
-  pub owed_follows : (o : ℕ) (rest : List Work) → Follows now bodies table (release_of o ∷ rest) number false → let ended = ended_at (degree o now.edges) in Follows (After s (journal ++ entry_of s 0 now (actions.Owed o) ∷ [])) (retired_if ended o bodies) table (trimmed_by (retired_if ended o bodies) (waits_if ended o ++ rest)) number false
+  pub owed_follows : (o : ℕ) (rest : List Work) → Follows now bodies table (release_of o ∷ rest) number false → let ended = ended_at (degree o now.edges) in Follows (After s (journal ++ entry_of s 0 now (actions.Owed o) ∷ [])) (finalised_if ended o bodies) table (trimmed_by (finalised_if ended o bodies) (waits_if ended o ++ rest)) number false
   owed_follows o rest h =
       let works : rest ≡ rest_of now.frame.work = ap rest_of h.stands.work_is in
       stands_at (After s (journal ++ entry_of s 0 now (actions.Owed o) ∷ [])) _ table _ number now.frame.number false now.frame.is_done h.stands.number_is h.stands.done_is
@@ -113,14 +113,14 @@ module _ (s : Script) (journal : List Entry) (bodies : List Held) (table : List 
   drop_made b o os rest h e = (live_parts now 0 (Some b) o (drop_legal b o os rest h e).uses.0).1
 
   pub drop_follows : (b o : ℕ) (os : List ℕ) (rest : List Work) → Follows now bodies table (slots_of b ∷ rest) number false → left_in bodies b ≡ o ∷ os → b < length now.objects
-      → let ended = ended_at (degree o now.edges) in let left = retired_if ended o (with_body body_dropped b bodies) in Follows (After s (journal ++ entry_of s 0 now (drop_action b o) ∷ [])) left table (trimmed_by left (waits_if ended o ++ slots_of b ∷ rest)) number false
+      → let ended = ended_at (degree o now.edges) in let left = finalised_if ended o (with_body body_dropped b bodies) in Follows (After s (journal ++ entry_of s 0 now (drop_action b o) ∷ [])) left table (trimmed_by left (waits_if ended o ++ slots_of b ∷ rest)) number false
   drop_follows b o os rest h e made =
       stands_at (After s (journal ++ entry_of s 0 now (drop_action b o) ∷ [])) _ table _ number now.frame.number false now.frame.is_done h.stands.number_is h.stands.done_is
       (release_follows s journal (drop_action b o) o (drop_step b o now) own legal (drop_legal b o os rest h e) refl refl refl (with_body body_dropped b bodies) table (slots_of b ∷ rest) (drop_made b o os rest h e)
       (mirrors_dropped now.objects now.finalised now.dropped bodies b h.mirrors made) h.stands.size h.stands.table_is h.stands.work_is)
 
   -- a release
-  module _ (x : Statement) (v o : ℕ) (h : Follows now bodies table [] number false) (next : slice_get (setup s) number ≡ Some x) (touch : touch_of x ≡ Minus v) (target : first_of (used_in table x) ≡ Some o) where
+  module _ (x : Statement) (v o : ℕ) (h : Follows now bodies table [] number false) (next : slice_get (setup s) number ≡ Some x) (ownership : ownership_of x ≡ Releases v) (target : first_of (used_in table x) ≡ Some o) where
     abbrev action : Action
     action = statement_action table number (Some x)
 
@@ -131,7 +131,7 @@ module _ (s : Script) (journal : List Entry) (bodies : List Held) (table : List 
     action_is = statement_same s now bodies table [] number false here h (Some x) next
 
     abbrev cut_step : Step
-    cut_step = reference_step 0 (Minus v) (deed_at s.classes now.objects x (used_objects now.frame.bindings x)).answer (deed_at s.classes now.objects x (used_objects now.frame.bindings x)).origin (Some o) now
+    cut_step = reference_step 0 (Releases v) (deed_at s.classes now.objects x (used_objects now.frame.bindings x)).answer (deed_at s.classes now.objects x (used_objects now.frame.bindings x)).origin (Some o) now
 
     first_is : first_of (used_objects now.frame.bindings x) ≡ Some o
     first_is = ap first_of (sym (used_same s now bodies table [] number false here h x)) ∙ target
@@ -140,11 +140,11 @@ module _ (s : Script) (journal : List Entry) (bodies : List Held) (table : List 
     step_is =
         step-demanded s now (Some x) action here at action_is
         ∙ (let deed = deed_at s.classes now.objects x (used_objects now.frame.bindings x) in
-        ap (λ (t : Touch). touch_step 0 t deed.answer deed.origin (first_of (used_objects now.frame.bindings x)) deed.change now) touch
-        ∙ ap (λ (p : Option ℕ). reference_step 0 (Minus v) deed.answer deed.origin p now) first_is)
+        ap (λ (t : Ownership). touch_step 0 t deed.answer deed.origin (first_of (used_objects now.frame.bindings x)) deed.change now) ownership
+        ∙ ap (λ (p : Option ℕ). reference_step 0 (Releases v) deed.answer deed.origin p now) first_is)
 
     no_making : makes s action ≡ true → ⊥
-    no_making m = minus_makes x v touch (sym (ap (makes s) action_is ∙ ap (makes s) (ap (next_of now.frame) (frame_statement s now here ∙ at)) ∙ makes-demanded s now x (frame_statement s now here ∙ at)) ∙ m)
+    no_making m = minus_makes x v ownership (sym (ap (makes s) action_is ∙ ap (makes s) (ap (next_of now.frame) (frame_statement s now here ∙ at)) ∙ makes-demanded s now x (frame_statement s now here ∙ at)) ∙ m)
 
     pub release_legal : IsLegalEntry s now (entry_of s 0 now action)
     release_legal = legal_demanded s now (entry_of s 0 now action) own here (sym h.stands.done_is) (sym h.stands.work_is) refl action_is refl (λ m. absurd (no_making m))
@@ -172,7 +172,7 @@ module _ (s : Script) (journal : List Entry) (bodies : List Held) (table : List 
     pub release_gains : gained s 0 now action ≡ []
     release_gains = ap (λ (t : Step). gained_by t.operations) step_is
 
-    pub release_goes : let ended = ended_at (degree o now.edges) in Follows (After s (journal ++ entry_of s 0 now action ∷ [])) (retired_if ended o bodies) table (trimmed_by (retired_if ended o bodies) (waits_if ended o ++ [])) (number + 1) false
+    pub release_goes : let ended = ended_at (degree o now.edges) in Follows (After s (journal ++ entry_of s 0 now action ∷ [])) (finalised_if ended o bodies) table (trimmed_by (finalised_if ended o bodies) (waits_if ended o ++ [])) (number + 1) false
     release_goes =
         stands_at (After s (journal ++ entry_of s 0 now action ∷ [])) _ table _ (number + 1) (now.frame.number + 1) false now.frame.is_done (ap (λ (n : ℕ). n + 1) h.stands.number_is) h.stands.done_is
         (release_follows s journal action o cut_step own legal release_legal step_is refl refl bodies table []

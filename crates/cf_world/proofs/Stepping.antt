@@ -2,8 +2,8 @@
 use Rattle.std.proofs.Common.{◌≡◌, ℕ, zero, suc, ◌+◌, Bool, cond, List, [], ◌∷◌, ◌++◌, length, map, Option, Some, None, refl, sym, ap, ◌∙◌, append-nil}
 use Rattle.std.specs.Prelude.{slice_get}
 use Rattle.cf_ids.specs.declared.answer.Answer.{Answer}
-use Rattle.cf_syntax.specs.declared.statement.Touch.{Touch}
-use Rattle.cf_syntax.specs.declared.statement.Touch.TheVariants.{Nothing, Binds, Plus, Minus}
+use Rattle.cf_syntax.specs.declared.statement.Ownership.{Ownership}
+use Rattle.cf_syntax.specs.declared.statement.Ownership.TheVariants.{Keeps, Binds, Retains, Releases}
 use Rattle.cf_contents.specs.Contents.{Object, times}
 use Rattle.cf_contents.specs.Deeds.{Origin, nowhere, fresh, there, Change, unchanged, object_of, taken_in, given_out}
 use Rattle.cf_contents.specs.Stores.{Held, live, objects_of, with_body, body_changed, bodies_changed}
@@ -67,14 +67,14 @@ module _ (st : State) (bodies : List Held) (h : MirrorsState st bodies) (unmade 
   kept_mirrors : (o : Option ℕ) (change : Change) (origin : Origin) → change ≡ unchanged → Mirrors (st.objects ++ made_from origin) st.finalised st.dropped (bodies_changed o change bodies ++ map live (made_from origin))
   kept_mirrors o change origin e = rw (e, unchanged_bodies o bodies) (source_mirrors origin st bodies unmade undropped h)
 
-  touch_mirrors : (t : ℕ) (touch : Touch) (answer : Answer) (origin : Origin) (used : Option ℕ) (change : Change) → ChangesFor touch change
-      → Mirrors (touch_step t touch answer origin used change st).objects st.finalised st.dropped (bodies_changed used change bodies ++ map live (made_by touch origin))
-  touch_mirrors t Nothing answer origin used change e = rw (append-nil (bodies_changed used change bodies)) (mirrors_changed st.objects st.finalised st.dropped bodies used change h)
+  touch_mirrors : (t : ℕ) (ownership : Ownership) (answer : Answer) (origin : Origin) (used : Option ℕ) (change : Change) → ChangesFor ownership change
+      → Mirrors (touch_step t ownership answer origin used change st).objects st.finalised st.dropped (bodies_changed used change bodies ++ map live (made_by ownership origin))
+  touch_mirrors t Keeps answer origin used change e = rw (append-nil (bodies_changed used change bodies)) (mirrors_changed st.objects st.finalised st.dropped bodies used change h)
   touch_mirrors t (Binds v) answer origin used change e = kept_mirrors used change origin e
-  touch_mirrors t (Plus v) answer origin used change e = kept_mirrors used change nowhere e
-  touch_mirrors t (Minus v) answer origin used change e = kept_mirrors used change nowhere e
+  touch_mirrors t (Retains v) answer origin used change e = kept_mirrors used change nowhere e
+  touch_mirrors t (Releases v) answer origin used change e = kept_mirrors used change nowhere e
 
--- what a touch gains, and what it answers where it takes no reference away
+-- what an ownership gains, and what it answers where it takes no reference away
 gained-adds : (b : ℕ) (t : ℕ) (ts gs : List ℕ) → gained_by (adds_to b ts ++ moves_from t b gs) ≡ ts
 gained-adds b t [] [] = refl
 gained-adds b t [] (g ∷ gs) = gained-adds b t [] gs
@@ -88,39 +88,39 @@ bound_gains : (t v : ℕ) (object : Option ℕ) (took : List ℕ) → gained_by 
 bound_gains t v None took = refl
 bound_gains t v (Some o) took = refl
 
-plus_gains : (t v : ℕ) (object : Option ℕ) (took : List ℕ) → gained_by (operations_of t (Plus v) object) ≡ gained_after (Plus v) object took
+plus_gains : (t v : ℕ) (object : Option ℕ) (took : List ℕ) → gained_by (operations_of t (Retains v) object) ≡ gained_after (Retains v) object took
 plus_gains t v None took = refl
 plus_gains t v (Some o) took = refl
 
-minus_gains : (t v : ℕ) (object : Option ℕ) → gained_by (operations_of t (Minus v) object) ≡ []
+minus_gains : (t v : ℕ) (object : Option ℕ) → gained_by (operations_of t (Releases v) object) ≡ []
 minus_gains t v None = refl
 minus_gains t v (Some o) = refl
 
-pub touch_gains : (t : ℕ) (touch : Touch) (answer : Answer) (origin : Origin) (used : Option ℕ) (change : Change) (st : State) (bodies : List Held) → MirrorsState st bodies
-    → gained_by (touch_step t touch answer origin used change st).operations ≡ gained_after touch (object_bound bodies touch origin used) (taken_in (object_of (objects_of bodies) used) change)
-touch_gains t Nothing answer origin used change st bodies h = change_gains t answer used change st ∙ ap (λ (os : List Object). taken_in (object_of os used) change) (sym h.objects_are)
+pub touch_gains : (t : ℕ) (ownership : Ownership) (answer : Answer) (origin : Origin) (used : Option ℕ) (change : Change) (st : State) (bodies : List Held) → MirrorsState st bodies
+    → gained_by (touch_step t ownership answer origin used change st).operations ≡ gained_after ownership (object_bound bodies ownership origin used) (taken_in (object_of (objects_of bodies) used) change)
+touch_gains t Keeps answer origin used change st bodies h = change_gains t answer used change st ∙ ap (λ (os : List Object). taken_in (object_of os used) change) (sym h.objects_are)
 touch_gains t (Binds v) answer origin used change st bodies h = rw (found_same st bodies origin h) (bound_gains t v (found st origin) [])
-touch_gains t (Plus v) answer origin used change st bodies h = plus_gains t v used []
-touch_gains t (Minus v) answer origin used change st bodies h = minus_gains t v used
+touch_gains t (Retains v) answer origin used change st bodies h = plus_gains t v used []
+touch_gains t (Releases v) answer origin used change st bodies h = minus_gains t v used
 
-pub touch_answers : (t : ℕ) (touch : Touch) (answer : Answer) (origin : Origin) (used : Option ℕ) (change : Change) (st : State) (bodies : List Held) → MirrorsState st bodies → cut_by touch used ≡ None
-    → step_answer (touch_step t touch answer origin used change st) st ≡ answer_of touch (object_bound bodies touch origin used) answer
-touch_answers t Nothing answer origin used change st bodies h uncut = refl
+pub touch_answers : (t : ℕ) (ownership : Ownership) (answer : Answer) (origin : Origin) (used : Option ℕ) (change : Change) (st : State) (bodies : List Held) → MirrorsState st bodies → cut_by ownership used ≡ None
+    → step_answer (touch_step t ownership answer origin used change st) st ≡ answer_of ownership (object_bound bodies ownership origin used) answer
+touch_answers t Keeps answer origin used change st bodies h uncut = refl
 touch_answers t (Binds v) answer origin used change st bodies h uncut = rw (found_same st bodies origin h) (bound_answers (found st origin))
   where
     bound_answers : (o : Option ℕ) → step_answer (reference_step t (Binds v) answer origin o st) st ≡ answer_of (Binds v) o answer
     bound_answers None = refl
     bound_answers (Some p) = refl
-touch_answers t (Plus v) answer origin None change st bodies h uncut = refl
-touch_answers t (Plus v) answer origin (Some o) change st bodies h uncut = refl
-touch_answers t (Minus v) answer origin None change st bodies h uncut = refl
-touch_answers t (Minus v) answer origin (Some o) change st bodies h uncut = absurd cc
+touch_answers t (Retains v) answer origin None change st bodies h uncut = refl
+touch_answers t (Retains v) answer origin (Some o) change st bodies h uncut = refl
+touch_answers t (Releases v) answer origin None change st bodies h uncut = refl
+touch_answers t (Releases v) answer origin (Some o) change st bodies h uncut = absurd cc
 
--- the cuts of a touch
-touch_cuts : (t : ℕ) (touch : Touch) (answer : Answer) (origin : Origin) (used : Option ℕ) (change : Change) (st : State) → (touch_step t touch answer origin used change st).cuts ≡ cut_by touch used
-touch_cuts t Nothing answer origin used change st = nothing_cut used
+-- the cuts of an ownership
+touch_cuts : (t : ℕ) (ownership : Ownership) (answer : Answer) (origin : Origin) (used : Option ℕ) (change : Change) (st : State) → (touch_step t ownership answer origin used change st).cuts ≡ cut_by ownership used
+touch_cuts t Keeps answer origin used change st = nothing_cut used
   where
-    nothing_cut : (o : Option ℕ) → None ≡ cut_by Nothing o
+    nothing_cut : (o : Option ℕ) → None ≡ cut_by Keeps o
     nothing_cut None = refl
     nothing_cut (Some o) = refl
 touch_cuts t (Binds v) answer origin used change st = bound_cut (found st origin) used
@@ -130,64 +130,64 @@ touch_cuts t (Binds v) answer origin used change st = bound_cut (found st origin
     bound_cut None (Some p) = refl
     bound_cut (Some o) None = refl
     bound_cut (Some o) (Some p) = refl
-touch_cuts t (Plus v) answer origin used change st = refl
-touch_cuts t (Minus v) answer origin used change st = refl
+touch_cuts t (Retains v) answer origin used change st = refl
+touch_cuts t (Releases v) answer origin used change st = refl
 
--- what a touch binds, by the parts
-touch_binds : (t : ℕ) (touch : Touch) (answer : Answer) (origin : Origin) (used : Option ℕ) (change : Change) (st : State) (bodies : List Held) → MirrorsState st bodies → (touch_step t touch answer origin used change st).bindings ≡ bindings_by touch (object_bound bodies touch origin used)
-touch_binds t Nothing answer origin used change st bodies h = refl
+-- what an ownership binds, by the parts
+touch_binds : (t : ℕ) (ownership : Ownership) (answer : Answer) (origin : Origin) (used : Option ℕ) (change : Change) (st : State) (bodies : List Held) → MirrorsState st bodies → (touch_step t ownership answer origin used change st).bindings ≡ bindings_by ownership (object_bound bodies ownership origin used)
+touch_binds t Keeps answer origin used change st bodies h = refl
 touch_binds t (Binds v) answer origin used change st bodies h = rw (found_same st bodies origin h) refl
-touch_binds t (Plus v) answer origin used change st bodies h = refl
-touch_binds t (Minus v) answer origin used change st bodies h = refl
+touch_binds t (Retains v) answer origin used change st bodies h = refl
+touch_binds t (Releases v) answer origin used change st bodies h = refl
 
--- the work of a touch
-touch_works : (t : ℕ) (touch : Touch) (answer : Answer) (origin : Origin) (used : Option ℕ) (change : Change) (st : State) (bodies : List Held) → MirrorsState st bodies → ChangesFor touch change → (touch_step t touch answer origin used change st).work ≡ map release_of (given_out (object_of (objects_of bodies) used) change) ++ st.frame.work
-touch_works t Nothing answer origin used change st bodies h e = ap (λ (os : List Object). map release_of (given_out (object_of os used) change) ++ st.frame.work) (sym h.objects_are)
+-- the work of an ownership
+touch_works : (t : ℕ) (ownership : Ownership) (answer : Answer) (origin : Origin) (used : Option ℕ) (change : Change) (st : State) (bodies : List Held) → MirrorsState st bodies → ChangesFor ownership change → (touch_step t ownership answer origin used change st).work ≡ map release_of (given_out (object_of (objects_of bodies) used) change) ++ st.frame.work
+touch_works t Keeps answer origin used change st bodies h e = ap (λ (os : List Object). map release_of (given_out (object_of os used) change) ++ st.frame.work) (sym h.objects_are)
 touch_works t (Binds v) answer origin used change st bodies h e = rw (e, given_none (object_of (objects_of bodies) used)) refl
-touch_works t (Plus v) answer origin used change st bodies h e = rw (e, given_none (object_of (objects_of bodies) used)) refl
-touch_works t (Minus v) answer origin used change st bodies h e = rw (e, given_none (object_of (objects_of bodies) used)) refl
+touch_works t (Retains v) answer origin used change st bodies h e = rw (e, given_none (object_of (objects_of bodies) used)) refl
+touch_works t (Releases v) answer origin used change st bodies h e = rw (e, given_none (object_of (objects_of bodies) used)) refl
 
-touch_number : (t : ℕ) (touch : Touch) (answer : Answer) (origin : Origin) (used : Option ℕ) (change : Change) (st : State) → (touch_step t touch answer origin used change st).number ≡ st.frame.number + 1
-touch_number t Nothing answer origin used change st = refl
+touch_number : (t : ℕ) (ownership : Ownership) (answer : Answer) (origin : Origin) (used : Option ℕ) (change : Change) (st : State) → (touch_step t ownership answer origin used change st).number ≡ st.frame.number + 1
+touch_number t Keeps answer origin used change st = refl
 touch_number t (Binds v) answer origin used change st = refl
-touch_number t (Plus v) answer origin used change st = refl
-touch_number t (Minus v) answer origin used change st = refl
+touch_number t (Retains v) answer origin used change st = refl
+touch_number t (Releases v) answer origin used change st = refl
 
-touch_done : (t : ℕ) (touch : Touch) (answer : Answer) (origin : Origin) (used : Option ℕ) (change : Change) (st : State) → (touch_step t touch answer origin used change st).is_done ≡ st.frame.is_done
-touch_done t Nothing answer origin used change st = refl
+touch_done : (t : ℕ) (ownership : Ownership) (answer : Answer) (origin : Origin) (used : Option ℕ) (change : Change) (st : State) → (touch_step t ownership answer origin used change st).is_done ≡ st.frame.is_done
+touch_done t Keeps answer origin used change st = refl
 touch_done t (Binds v) answer origin used change st = refl
-touch_done t (Plus v) answer origin used change st = refl
-touch_done t (Minus v) answer origin used change st = refl
+touch_done t (Retains v) answer origin used change st = refl
+touch_done t (Releases v) answer origin used change st = refl
 
-touch_drops : (t : ℕ) (touch : Touch) (answer : Answer) (origin : Origin) (used : Option ℕ) (change : Change) (st : State) → (touch_step t touch answer origin used change st).drops ≡ []
-touch_drops t Nothing answer origin used change st = refl
+touch_drops : (t : ℕ) (ownership : Ownership) (answer : Answer) (origin : Origin) (used : Option ℕ) (change : Change) (st : State) → (touch_step t ownership answer origin used change st).drops ≡ []
+touch_drops t Keeps answer origin used change st = refl
 touch_drops t (Binds v) answer origin used change st = refl
-touch_drops t (Plus v) answer origin used change st = refl
-touch_drops t (Minus v) answer origin used change st = refl
+touch_drops t (Retains v) answer origin used change st = refl
+touch_drops t (Releases v) answer origin used change st = refl
 
--- the parts after a touch that takes no reference away
-module _ (t : ℕ) (touch : Touch) (answer : Answer) (origin : Origin) (used : Option ℕ) (change : Change) (st : State) (bodies : List Held) (table : List (Option ℕ)) (work : List Work) (number : ℕ) (is_done : Bool) (h : Follows st bodies table work number is_done) (unmade : times (length st.objects) st.finalised ≡ 0) (undropped : times (length st.objects) st.dropped ≡ 0) (fits : ChangesFor touch change) (within : BindsWithin touch) where
+-- the parts after an ownership that takes no reference away
+module _ (t : ℕ) (ownership : Ownership) (answer : Answer) (origin : Origin) (used : Option ℕ) (change : Change) (st : State) (bodies : List Held) (table : List (Option ℕ)) (work : List Work) (number : ℕ) (is_done : Bool) (h : Follows st bodies table work number is_done) (unmade : times (length st.objects) st.finalised ≡ 0) (undropped : times (length st.objects) st.dropped ≡ 0) (fits : ChangesFor ownership change) (within : BindsWithin ownership) where
   abbrev step : Step
-  step = touch_step t touch answer origin used change st
+  step = touch_step t ownership answer origin used change st
 
   abbrev new_bodies : List Held
-  new_bodies = bodies_changed used change bodies ++ map live (made_by touch origin)
+  new_bodies = bodies_changed used change bodies ++ map live (made_by ownership origin)
 
   abbrev object : Option ℕ
-  object = object_bound bodies touch origin used
+  object = object_bound bodies ownership origin used
 
   abbrev new_work : List Work
   new_work = map release_of (given_out (object_of (objects_of bodies) used) change) ++ work
 
-  pub follows_touch : cut_by touch used ≡ None → Follows (state_after step st) new_bodies (table_after touch object table) (trimmed_by new_bodies new_work) (number + 1) is_done
+  pub follows_touch : cut_by ownership used ≡ None → Follows (state_after step st) new_bodies (table_after ownership object table) (trimmed_by new_bodies new_work) (number + 1) is_done
   follows_touch uncut =
-      let cuts : step.cuts ≡ None = touch_cuts t touch answer origin used change st ∙ uncut in
-      let mirrors : MirrorsState (state_after step st) new_bodies = rw (cuts, touch_drops t touch answer origin used change st) (touch_mirrors st bodies h.mirrors unmade undropped t touch answer origin used change fits) in
-      let held = λ (v : ℕ). table-after touch object st.frame.bindings table h.stands.size within h.stands.table_is v ∙ ap (λ (bs : List Binding). look v (bs ++ st.frame.bindings)) (sym (touch_binds t touch answer origin used change st bodies h.mirrors)) in
+      let cuts : step.cuts ≡ None = touch_cuts t ownership answer origin used change st ∙ uncut in
+      let mirrors : MirrorsState (state_after step st) new_bodies = rw (cuts, touch_drops t ownership answer origin used change st) (touch_mirrors st bodies h.mirrors unmade undropped t ownership answer origin used change fits) in
+      let held = λ (v : ℕ). table-after ownership object st.frame.bindings table h.stands.size within h.stands.table_is v ∙ ap (λ (bs : List Binding). look v (bs ++ st.frame.bindings)) (sym (touch_binds t ownership answer origin used change st bodies h.mirrors)) in
       let works : new_work ≡ map slots_of (finals_of step.cuts (edges_after step st.edges)) ++ step.work =
       ap (λ (w : List Work). map release_of (given_out (object_of (objects_of bodies) used) change) ++ w) h.stands.work_is
-      ∙ sym (touch_works t touch answer origin used change st bodies h.mirrors fits)
+      ∙ sym (touch_works t ownership answer origin used change st bodies h.mirrors fits)
       ∙ sym (ap (λ (c : Option ℕ). map slots_of (finals_of c (edges_after step st.edges)) ++ step.work) cuts) in
-      let number_is : number + 1 ≡ step.number = ap (λ (n : ℕ). n + 1) h.stands.number_is ∙ sym (touch_number t touch answer origin used change st) in
-      let done_is : is_done ≡ step.is_done = h.stands.done_is ∙ sym (touch_done t touch answer origin used change st) in
-      rw (number_is, done_is) (follows_step step st new_bodies (table_after touch object table) new_work mirrors (size-after touch object table ∙ h.stands.size) held works)
+      let number_is : number + 1 ≡ step.number = ap (λ (n : ℕ). n + 1) h.stands.number_is ∙ sym (touch_number t ownership answer origin used change st) in
+      let done_is : is_done ≡ step.is_done = h.stands.done_is ∙ sym (touch_done t ownership answer origin used change st) in
+      rw (number_is, done_is) (follows_step step st new_bodies (table_after ownership object table) new_work mirrors (size-after ownership object table ∙ h.stands.size) held works)

@@ -4,8 +4,8 @@ use Rattle.std.specs.Prelude.{slice_set}
 use Rattle.std.proofs.lemmas.Bool.Decides.{eqb_tells}
 use Rattle.std.proofs.lemmas.List.{get_or-set_same, get_or-set_other}
 use Rattle.std.proofs.Math.ListN.{length-set}
-use Rattle.cf_syntax.specs.declared.statement.Touch.{Touch}
-use Rattle.cf_syntax.specs.declared.statement.Touch.TheVariants.{Nothing, Binds, Plus, Minus}
+use Rattle.cf_syntax.specs.declared.statement.Ownership.{Ownership}
+use Rattle.cf_syntax.specs.declared.statement.Ownership.TheVariants.{Keeps, Binds, Retains, Releases}
 use Rattle.cf_model.specs.State.{Binding, look}
 use Rattle.cf_model.specs.Steps.{bindings_by}
 use Rattle.cf_model.specs.Journals.{object_at}
@@ -18,18 +18,18 @@ binds_at v w object bindings table lt h =
       | inr p ↦ get_or-set_other table v w object None (λ e. p.1 (sym e)) ∙ h w ∙ sym (ap (λ (b : Bool). cond b object (look w bindings)) p.0)
     ]
 
--- the table after a touch has the objects of the variables after it
-pub table-after : (touch : Touch) (object : Option ℕ) (bindings : List Binding) (table : List (Option ℕ)) → length table ≡ 256 → BindsWithin touch → ((v : ℕ) → held_at table v ≡ look v bindings) → (v : ℕ) → held_at (table_after touch object table) v ≡ look v (bindings_by touch object ++ bindings)
-table-after Nothing object bindings table size within h v = h v
+-- the table after an ownership has the objects of the variables after it
+pub table-after : (ownership : Ownership) (object : Option ℕ) (bindings : List Binding) (table : List (Option ℕ)) → length table ≡ 256 → BindsWithin ownership → ((v : ℕ) → held_at table v ≡ look v bindings) → (v : ℕ) → held_at (table_after ownership object table) v ≡ look v (bindings_by ownership object ++ bindings)
+table-after Keeps object bindings table size within h v = h v
 table-after (Binds u) object bindings table size within h v = binds_at u v object bindings table (omega (arith, within, size)) h
-table-after (Plus u) object bindings table size within h v = h v
-table-after (Minus u) object bindings table size within h v = h v
+table-after (Retains u) object bindings table size within h v = h v
+table-after (Releases u) object bindings table size within h v = h v
 
-pub size-after : (touch : Touch) (object : Option ℕ) (table : List (Option ℕ)) → length (table_after touch object table) ≡ length table
-size-after Nothing object table = refl
+pub size-after : (ownership : Ownership) (object : Option ℕ) (table : List (Option ℕ)) → length (table_after ownership object table) ≡ length table
+size-after Keeps object table = refl
 size-after (Binds v) object table = length-set table v object
-size-after (Plus v) object table = refl
-size-after (Minus v) object table = refl
+size-after (Retains v) object table = refl
+size-after (Releases v) object table = refl
 
 object_same : (bindings : List Binding) (table : List (Option ℕ)) → ((v : ℕ) → held_at table v ≡ look v bindings) → (p : Option ℕ) → object_held table p ≡ object_at bindings p
 object_same bindings table h None = refl

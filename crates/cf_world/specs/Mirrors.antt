@@ -5,12 +5,12 @@ use Rattle.cf_ids.specs.declared.answer.Answer.TheVariants as answers
 use Rattle.cf_ids.specs.declared.answer.Ended.{Ended}
 use Rattle.cf_ids.specs.declared.answer.Ended.TheVariants.{More, Last}
 use Rattle.cf_syntax.specs.declared.statement.Statement.{Statement}
-use Rattle.cf_syntax.specs.declared.statement.Touch.{Touch}
-use Rattle.cf_syntax.specs.declared.statement.Touch.TheVariants.{Nothing, Binds, Plus, Minus}
-use Rattle.cf_syntax.specs.Forms.{used_by, padded}
+use Rattle.cf_syntax.specs.declared.statement.Ownership.{Ownership}
+use Rattle.cf_syntax.specs.declared.statement.Ownership.TheVariants.{Keeps, Binds, Retains, Releases}
+use Rattle.cf_syntax.specs.Forms.{used_by, pad}
 use Rattle.cf_contents.specs.Contents.{Object, times, present}
 use Rattle.cf_contents.specs.Deeds.{Origin, nowhere, fresh, there}
-use Rattle.cf_contents.specs.Stores.{Held, Ready, live, objects_of, with_body, body_retired, bodies_changed, is_live_in, given_up_in, left_in}
+use Rattle.cf_contents.specs.Stores.{Held, Ready, live, objects_of, with_body, body_finalised, bodies_changed, is_live_in, given_up_in, left_in}
 use Rattle.cf_model.specs.State.{State, Frame, Work, release_of, slots_of, look}
 use Rattle.cf_model.specs.declared.action.Action.{Action}
 use Rattle.cf_model.specs.declared.action.Action.TheVariants as actions
@@ -34,7 +34,7 @@ object_held table (Some v) = held_at table v
 
 -- the objects of the variables that a statement uses, by a table
 abbrev pub used_in : List (Option ℕ) → Statement → List (Option ℕ)
-used_in table x = map (object_held table) (padded (used_by x))
+used_in table x = map (object_held table) (pad (used_by x))
 
 -- where a thread stands: its table has the objects of its variables, its work is the work
 pub record Stands (f : Frame) (table : List (Option ℕ)) (work : List Work) (number : ℕ) (is_done : Bool) : Type 0 where
@@ -59,7 +59,7 @@ trimmed_by bodies [] = []
 trimmed_by bodies (release_of o ∷ work) = release_of o ∷ work
 trimmed_by bodies (slots_of b ∷ work) = if length (left_in bodies b) == 0 then trimmed_by bodies work else slots_of b ∷ work
 
--- ---- what a statement does to the parts, by its touch and the deed that is ready
+-- ---- what a statement does to the parts, by its ownership and the deed that is ready
 
 -- a deed may make an object
 abbrev pub is_fresh : Origin → Bool
@@ -73,44 +73,44 @@ found_in bodies nowhere = None
 found_in bodies (fresh ob) = Some (length bodies)
 found_in bodies (there o) = if is_live_in bodies o then Some o else None
 
--- the object that a touch is about: what is found for one that binds, and else the one that is used
-abbrev pub object_bound : List Held → Touch → Origin → Option ℕ → Option ℕ
-object_bound bodies Nothing origin used = None
+-- the object that an ownership is about: what is found for one that binds, and else the one that is used
+abbrev pub object_bound : List Held → Ownership → Origin → Option ℕ → Option ℕ
+object_bound bodies Keeps origin used = None
 object_bound bodies (Binds v) origin used = found_in bodies origin
-object_bound bodies (Plus v) origin used = used
-object_bound bodies (Minus v) origin used = used
+object_bound bodies (Retains v) origin used = used
+object_bound bodies (Releases v) origin used = used
 
 -- the bodies after a statement: one is changed, and one more may be made
-abbrev pub bodies_after : List Held → Touch → Ready → List Held
-bodies_after bodies touch r = bodies_changed r.object r.deed.change bodies ++ map live (made_by touch r.deed.origin)
+abbrev pub bodies_after : List Held → Ownership → Ready → List Held
+bodies_after bodies ownership r = bodies_changed r.object r.deed.change bodies ++ map live (made_by ownership r.deed.origin)
 
--- the table after a touch: only one that binds writes a variable
-abbrev pub table_after : Touch → Option ℕ → List (Option ℕ) → List (Option ℕ)
-table_after Nothing object table = table
+-- the table after an ownership: only one that binds writes a variable
+abbrev pub table_after : Ownership → Option ℕ → List (Option ℕ) → List (Option ℕ)
+table_after Keeps object table = table
 table_after (Binds v) object table = slice_set table v object
-table_after (Plus v) object table = table
-table_after (Minus v) object table = table
+table_after (Retains v) object table = table
+table_after (Releases v) object table = table
 
--- the variable that a touch binds has a place in the table
-abbrev pub BindsWithin : Touch → Type 0
-BindsWithin Nothing = Unit {0}
+-- the variable that an ownership binds has a place in the table
+abbrev pub BindsWithin : Ownership → Type 0
+BindsWithin Keeps = Unit {0}
 BindsWithin (Binds v) = v < 256
-BindsWithin (Plus v) = Unit {0}
-BindsWithin (Minus v) = Unit {0}
+BindsWithin (Retains v) = Unit {0}
+BindsWithin (Releases v) = Unit {0}
 
 -- what a statement gains: what is bound or retained, or what comes into a body
-abbrev pub gained_after : Touch → Option ℕ → List ℕ → List ℕ
-gained_after Nothing object took = took
+abbrev pub gained_after : Ownership → Option ℕ → List ℕ → List ℕ
+gained_after Keeps object took = took
 gained_after (Binds v) object took = present (object ∷ [])
-gained_after (Plus v) object took = present (object ∷ [])
-gained_after (Minus v) object took = []
+gained_after (Retains v) object took = present (object ∷ [])
+gained_after (Releases v) object took = []
 
 -- ---- what a release does to the parts, by what it leaves
 
 -- a release that leaves no reference finalises the body
-abbrev pub retired_if : Ended → ℕ → List Held → List Held
-retired_if More o bodies = bodies
-retired_if Last o bodies = with_body body_retired o bodies
+abbrev pub finalised_if : Ended → ℕ → List Held → List Held
+finalised_if More o bodies = bodies
+finalised_if Last o bodies = with_body body_finalised o bodies
 
 -- the slots of a body that a release finalises come into the work
 abbrev pub waits_if : Ended → ℕ → List Work

@@ -2,7 +2,7 @@
 use Rattle.std.specs.Prelude.{ℕ, zero, suc, ◌-◌, ◌≤◌, List, [], ◌∷◌, ◌++◌, map, replicate, Option, Some, None, slice_index}
 use Rattle.cf_syntax.specs.declared.counts.Counts.{Counts}
 use Rattle.cf_syntax.specs.declared.statement.Statement.{Statement}
-use Rattle.cf_syntax.specs.Owned.{given, taken}
+use Rattle.cf_syntax.specs.Owned.{given, released}
 use Rattle.cf_graph.specs.declared.edge.Edge.{Edge}
 use Rattle.cf_graph.specs.Edges.{Reference, edge_of}
 use Rattle.cf_contents.specs.Stores.{Held, left_in}
@@ -28,15 +28,15 @@ copies (Some o) n = replicate n (edge_of (owed_reference 0 o))
 
 -- the references of a variable, as many as counts say
 abbrev pub counted_references : List (Option ℕ) → Counts → ℕ → List Reference
-counted_references table c v = held_references v (held_at table v) (slice_index c.given v - slice_index c.taken v)
+counted_references table c v = held_references v (held_at table v) (slice_index c.given v - slice_index c.released v)
 
 -- the references of a variable, as many as it owns after statements
 abbrev pub variable_references : List (Option ℕ) → List Statement → ℕ → List Reference
-variable_references table earlier v = held_references v (held_at table v) (given v earlier - taken v earlier)
+variable_references table earlier v = held_references v (held_at table v) (given v earlier - released v earlier)
 
 -- of no variable do these statements take more than they gave
 abbrev pub OwnsAll : List Statement → Type 0
-OwnsAll earlier = (v : ℕ) → taken v earlier ≤ given v earlier
+OwnsAll earlier = (v : ℕ) → released v earlier ≤ given v earlier
 
 -- the references that the thread was given out
 abbrev pub owed_references : List Item → List Reference

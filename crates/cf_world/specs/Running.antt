@@ -2,10 +2,10 @@
 use Rattle.std.specs.Prelude.{◌≡◌, ℕ, ◌+◌, ◌<◌, ◌≤◌, Bool, true, false, List, [], ◌∷◌, length, Option, Some, None, not, ◌&&◌, nat_le, if◌then◌else◌}
 use Rattle.cf_syntax.specs.declared.script.Script.{Script}
 use Rattle.cf_syntax.specs.declared.statement.Statement.{Statement}
-use Rattle.cf_syntax.specs.Forms.{touch_of, makes_object}
+use Rattle.cf_syntax.specs.Forms.{ownership_of, makes_object}
 use Rattle.cf_syntax.specs.Owned.{Owned}
 use Rattle.cf_contents.specs.Deeds.{first_of}
-use Rattle.cf_contents.specs.Stores.{Held, Ready, readied, with_body, body_dropped, is_live_in, left_in}
+use Rattle.cf_contents.specs.Stores.{Held, Ready, ready_deed, with_body, body_dropped, is_live_in, left_in}
 use Rattle.cf_model.specs.declared.action.Action.{Action}
 use Rattle.cf_model.specs.declared.action.Entry.{Entry}
 use Rattle.cf_model.specs.State.{Work, release_of, slots_of}
@@ -25,13 +25,13 @@ pub record IsAt (s : Script) (journal : List Entry) (bodies : List Held) (table 
 -- room for the next statement: its deed is ready, and there is room for a body
 abbrev pub IsReadyFor : Script → List Held → List (Option ℕ) → Option Statement → Option Ready → ℕ → Type 0
 IsReadyFor s bodies table None ready room = Unit {0}
-IsReadyFor s bodies table (Some x) ready room = (ready ≡ Some (readied s.classes bodies x (used_in table x))) × (0 < room)
+IsReadyFor s bodies table (Some x) ready room = (ready ≡ Some (ready_deed s.classes bodies x (used_in table x))) × (0 < room)
 
 -- the next statement takes no reference away, and makes an object only where one may be made
 abbrev pub IsPlainNext : Script → List Entry → List (Option ℕ) → ℕ → Option Statement → Type 0
 IsPlainNext s journal table number None = Unit {0}
 IsPlainNext s journal table number (Some x) =
-    (cut_by (touch_of x) (first_of (used_in table x)) ≡ None) × (makes s (statement_action table number (Some x)) ≡ true → length (After s journal).objects < 65536)
+    (cut_by (ownership_of x) (first_of (used_in table x)) ≡ None) × (makes s (statement_action table number (Some x)) ≡ true → length (After s journal).objects < 65536)
 
 -- ---- what an entry that takes a reference away does first
 

@@ -1,9 +1,9 @@
 -- The work of a thread as the program keeps it: the first item stands last.
 use Rattle.std.specs.Prelude.{◌≡◌, ℕ, ◌+◌, Bool, false, List, [], ◌∷◌, ◌++◌, length, map, Option, Some, None, ◌==◌, if◌then◌else◌}
 use Rattle.cf_syntax.specs.declared.statement.Statement.{Statement}
-use Rattle.cf_syntax.specs.declared.statement.Touch.{Touch}
-use Rattle.cf_syntax.specs.declared.statement.Touch.TheVariants.{Nothing, Binds, Plus, Minus}
-use Rattle.cf_syntax.specs.Forms.{touch_of}
+use Rattle.cf_syntax.specs.declared.statement.Ownership.{Ownership}
+use Rattle.cf_syntax.specs.declared.statement.Ownership.TheVariants.{Keeps, Binds, Retains, Releases}
+use Rattle.cf_syntax.specs.Forms.{ownership_of}
 use Rattle.cf_contents.specs.Deeds.{object_of, taken_in, given_out}
 use Rattle.cf_contents.specs.Stores.{Held, Ready, objects_of, is_live_in, left_in}
 use Rattle.cf_model.specs.State.{Work, release_of, slots_of}
@@ -34,10 +34,10 @@ pub record IsStated (x : Statement) (r : Ready) (bodies : List Held) (table : Li
   pub entry_is : entry ≡ record {
     thread = 0;
     action = statement_action table number (Some x);
-    answer = answer_of (touch_of x) (object_bound bodies (touch_of x) r.deed.origin r.object) r.deed.answer;
+    answer = answer_of (ownership_of x) (object_bound bodies (ownership_of x) r.deed.origin r.object) r.deed.answer;
   }
-  pub bodies_are : bodies' ≡ bodies_after bodies (touch_of x) r
-  pub table_is : table' ≡ table_after (touch_of x) (object_bound bodies (touch_of x) r.deed.origin r.object) table
+  pub bodies_are : bodies' ≡ bodies_after bodies (ownership_of x) r
+  pub table_is : table' ≡ table_after (ownership_of x) (object_bound bodies (ownership_of x) r.deed.origin r.object) table
   pub work_is : work' ≡ trimmed_by bodies' (map release_of (given_out (object_of (objects_of bodies) r.object) r.deed.change) ++ [])
   pub number_is : number' ≡ number + 1
-  pub gained_is : gained ≡ gained_after (touch_of x) (object_bound bodies (touch_of x) r.deed.origin r.object) (taken_in (object_of (objects_of bodies) r.object) r.deed.change)
+  pub gained_is : gained ≡ gained_after (ownership_of x) (object_bound bodies (ownership_of x) r.deed.origin r.object) (taken_in (object_of (objects_of bodies) r.object) r.deed.change)

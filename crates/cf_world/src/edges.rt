@@ -71,11 +71,11 @@ fn add_variable(edges: &mut Vec<Edge>, object: Option<ObjId>, number: usize) -> 
 
 /// Adds the edges of the variables of setup.
 fn add_variables(edges: &mut Vec<Edge>, table: &Table, counts: &Counts) -> Result<(), NoMemory>
-    requires { (v : ℕ) → v < 256 → slice_index counts.now.taken v ≤ slice_index counts.now.given v }
+    requires { (v : ℕ) → v < 256 → slice_index counts.now.released v ≤ slice_index counts.now.given v }
     ensures { OnOk result (edges.new.items ≡ edges.old.items ++ edges_of (below (counted_references table.now counts.now) 256)) }
 {
     for v in 0..VARIABLES {
-        add_variable(edges, table[v], counts.given[v] - counts.taken[v])?;
+        add_variable(edges, table[v], counts.given[v] - counts.released[v])?;
     }
     Ok(())
 }

@@ -1,6 +1,6 @@
 //! The entry of a statement that takes no reference away, and what it does to the parts of a world.
 ghost use Rattle.std.specs.Prelude.{◌≡◌, ◌+◌, ◌<◌, ◌≤◌, ◌^◌, ◌++◌, ◌∷◌, [], true, length, map, IfSome, IsSome, vec_len, vec_capacity};
-ghost use Rattle.cf_syntax.specs.Forms.{touch_of};
+ghost use Rattle.cf_syntax.specs.Forms.{ownership_of};
 ghost use Rattle.cf_contents.specs.Contents.{present};
 ghost use Rattle.cf_contents.specs.Deeds.{first_of};
 ghost use Rattle.cf_contents.specs.Stores.{live};
@@ -14,7 +14,7 @@ use crate::work::{owe, trim};
 use cf_ids::{Answer, ObjId, ThreadId};
 use cf_model::{Action, Entry};
 use cf_store::{Edited, Origin, Store};
-use cf_syntax::{Statement, Touch};
+use cf_syntax::{Ownership, Statement};
 
 /// The object that is bound: a new one, or one that is there, if it is live.
 fn found(store: &mut Store, origin: Origin) -> Option<ObjId>
@@ -38,8 +38,8 @@ fn found(store: &mut Store, origin: Origin) -> Option<ObjId>
 }
 
 /// The object that a statement is about: what it binds, or the first that it uses where it retains or releases.
-fn touched(
-    touch: &Touch,
+fn subject_of(
+    ownership: &Ownership,
     store: &mut Store,
     origin: Origin,
     used: &[Option<ObjId>; 3],
@@ -47,23 +47,23 @@ fn touched(
     requires new { IsNew origin }
     requires room { 0 < store.old.room }
     requires few { is_fresh (origin_of origin) ≡ true → length store.old.bodies < 65536 }
-    ensures object { result ≡ object_bound store.old.bodies touch.now (origin_of origin) (first_of used.now) }
-    ensures bodies { store.new.bodies ≡ store.old.bodies ++ map live (made_by touch.now (origin_of origin)) }
+    ensures object { result ≡ object_bound store.old.bodies ownership.now (origin_of origin) (first_of used.now) }
+    ensures bodies { store.new.bodies ≡ store.old.bodies ++ map live (made_by ownership.now (origin_of origin)) }
 {
-    match touch {
-        Touch::Nothing => None,
-        Touch::Binds(_) => found(store, origin),
-        Touch::Plus(_) | Touch::Minus(_) => used[0],
+    match ownership {
+        Ownership::Keeps => None,
+        Ownership::Binds(_) => found(store, origin),
+        Ownership::Retains(_) | Ownership::Releases(_) => used[0],
     }
 }
 
 /// What a statement answers, by the object that it is about and what its deed answers.
-fn answer_of(touch: &Touch, object: &Option<ObjId>, answer: Answer) -> Answer
-    ensures { result ≡ answer_of touch.now object.now answer }
+fn answer_of(ownership: &Ownership, object: &Option<ObjId>, answer: Answer) -> Answer
+    ensures { result ≡ answer_of ownership.now object.now answer }
 {
-    match (touch, object) {
-        (Touch::Binds(_), Some(object)) => Answer::Object(*object),
-        (Touch::Plus(_) | Touch::Minus(_), None) => Answer::Skip,
+    match (ownership, object) {
+        (Ownership::Binds(_), Some(object)) => Answer::Object(*object),
+        (Ownership::Retains(_) | Ownership::Releases(_), None) => Answer::Skip,
         _ => answer,
     }
 }
@@ -81,21 +81,26 @@ fn gain_one(gained: &mut Vec<ObjId>, object: Option<ObjId>)
 }
 
 /// The references that a statement adds: to what it binds or retains, or to what comes into a body.
-fn gain(gained: &mut Vec<ObjId>, touch: &Touch, object: &Option<ObjId>, took: &[Option<ObjId>; 2])
+fn gain(
+    gained: &mut Vec<ObjId>,
+    ownership: &Ownership,
+    object: &Option<ObjId>,
+    took: &[Option<ObjId>; 2],
+)
     requires { 2 ≤ vec_capacity gained.old }
-    ensures items { gained.new.items ≡ gained_after touch.now object.now (present took.now) }
+    ensures items { gained.new.items ≡ gained_after ownership.now object.now (present took.now) }
     ensures few { vec_len gained.new ≤ 2 }
     ensures capacity { vec_capacity gained.new ≡ vec_capacity gained.old }
 {
     gained.clear();
-    match touch {
-        Touch::Nothing => {
+    match ownership {
+        Ownership::Keeps => {
             let [first, second] = *took;
             gain_one(gained, first);
             gain_one(gained, second);
         }
-        Touch::Binds(_) | Touch::Plus(_) => gain_one(gained, *object),
-        Touch::Minus(_) => {}
+        Ownership::Binds(_) | Ownership::Retains(_) => gain_one(gained, *object),
+        Ownership::Releases(_) => {}
     }
 }
 
@@ -117,25 +122,25 @@ pub(crate) fn enter_statement(
     requires few { IfSome store.old.ready (λ r. is_fresh r.deed.origin ≡ true → length store.old.bodies < 65536) }
     ensures stated { IfSome store.old.ready (λ r. IsStated statement.now r store.old.bodies frame.old.table frame.old.number
         result store.new.bodies frame.new.table (works frame.new.work.items) frame.new.number gained.new.items) }
-    ensures within { BindsWithin (touch_of statement.now) }
+    ensures within { BindsWithin (ownership_of statement.now) }
     ensures going { frame.new.is_done ≡ frame.old.is_done }
     ensures work_room { vec_capacity frame.new.work ≡ vec_capacity frame.old.work }
     ensures gained_room { vec_capacity gained.new ≡ vec_capacity gained.old }
     ensures few { vec_len gained.new ≤ 2 }
 {
     let used = used_objects(&frame.table, statement);
-    let touch = statement.touch();
+    let ownership = statement.ownership();
     let Edited {
         answer,
         origin,
         took,
         gave,
     } = store.apply();
-    let object = touched(&touch, store, origin, &used);
-    let answer = answer_of(&touch, &object, answer);
+    let object = subject_of(&ownership, store, origin, &used);
+    let answer = answer_of(&ownership, &object, answer);
     let action = Action::of(statement, 0, frame.number, used);
-    bind(&mut frame.table, &touch, &object);
-    gain(gained, &touch, &object, &took);
+    bind(&mut frame.table, &ownership, &object);
+    gain(gained, &ownership, &object, &took);
     owe(&mut frame.work, &gave);
     trim(&mut frame.work, store);
     frame.number += 1;

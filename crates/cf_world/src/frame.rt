@@ -1,7 +1,7 @@
 //! Where a thread stands in its block.
 ghost use Rattle.std.specs.Prelude.{◌≡◌, ◌+◌, ◌<◌, ◌≤◌, ◌^◌, [], length, map, slice_get, Some};
 ghost use Rattle.std.specs.Option.{option_copied};
-ghost use Rattle.cf_syntax.specs.Forms.{padded, used_by};
+ghost use Rattle.cf_syntax.specs.Forms.{pad, used_by};
 ghost use Rattle.cf_model.specs.Journals.{setup};
 ghost use Rattle.cf_world.specs.Mirrors.{object_held, used_in, table_after, BindsWithin, statement_action, slot_action, first_work, action_by};
 ghost use Rattle.cf_contents.specs.Stores.{given_up_in, left_in};
@@ -11,7 +11,7 @@ use crate::work::{Item, first, first_slot};
 use cf_ids::{ObjId, VarId};
 use cf_model::Action;
 use cf_store::Store;
-use cf_syntax::{Script, Statement, Touch};
+use cf_syntax::{Ownership, Script, Statement};
 
 /// The objects of a block's variables, by number.
 pub(crate) type Table = [Option<ObjId>; 256];
@@ -48,12 +48,12 @@ pub(crate) fn used_objects(table: &Table, statement: &Statement) -> [Option<ObjI
     ]
 }
 
-/// Binds the variable of a touch that binds one.
-pub(crate) fn bind(table: &mut Table, touch: &Touch, object: &Option<ObjId>)
-    ensures table { table.new ≡ table_after touch.now object.now table.old }
-    ensures within { BindsWithin touch.now }
+/// Binds the variable of an ownership that binds one.
+pub(crate) fn bind(table: &mut Table, ownership: &Ownership, object: &Option<ObjId>)
+    ensures table { table.new ≡ table_after ownership.now object.now table.old }
+    ensures within { BindsWithin ownership.now }
 {
-    if let Touch::Binds(v) = touch {
+    if let Ownership::Binds(v) = ownership {
         table[v.0 as usize] = *object;
     }
 }

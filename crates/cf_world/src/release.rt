@@ -2,7 +2,7 @@
 ghost use Rattle.std.specs.Prelude.{◌≡◌, ◌+◌, ◌<◌, ◌≤◌, ◌^◌, ◌++◌, true, false, length, slice_get, vec_len, vec_capacity};
 ghost use Rattle.cf_contents.specs.Stores.{objects_of, is_live_in};
 ghost use Rattle.cf_model.specs.Steps.{type_of};
-ghost use Rattle.cf_world.specs.Mirrors.{first_work, trimmed_by, retired_if, waits_if, answer_if};
+ghost use Rattle.cf_world.specs.Mirrors.{first_work, trimmed_by, finalised_if, waits_if, answer_if};
 ghost use Rattle.cf_world.specs.Works.{works};
 ghost use Rattle.cf_world.specs.Running.{CanTake, bodies_taken, work_taken, number_taken};
 
@@ -52,9 +52,9 @@ pub(crate) fn settle(store: &mut Store, frame: &mut Frame, object: ObjId, ended:
     requires live { is_live_in store.old.bodies object ≡ true }
     requires room { vec_len frame.old.work < vec_capacity frame.old.work }
     ensures answer { result ≡ answer_if ended (type_of (objects_of store.old.bodies) object) }
-    ensures bodies { store.new.bodies ≡ retired_if ended object store.old.bodies }
+    ensures bodies { store.new.bodies ≡ finalised_if ended object store.old.bodies }
     ensures work { works frame.new.work.items
-        ≡ trimmed_by (retired_if ended object store.old.bodies) (waits_if ended object ++ works frame.old.work.items) }
+        ≡ trimmed_by (finalised_if ended object store.old.bodies) (waits_if ended object ++ works frame.old.work.items) }
     ensures number { frame.new.number ≡ frame.old.number }
     ensures table { frame.new.table ≡ frame.old.table }
     ensures going { frame.new.is_done ≡ frame.old.is_done }

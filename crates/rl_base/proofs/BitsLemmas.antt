@@ -71,7 +71,8 @@ module _ {X : Type 0} (number : X → ℕ) (bit : X → Bool) (s : ℕ) where
         bit_at (changed_at number n change xs) ≡ (false || (bit_at xs && not (n == s)))
     bit_at-taken takes xs =
         rw (kept_at-changed number change s n keeps xs) (at_test (n == s) (kept_at number s xs)) where
-          at_test : (t : Bool) (o : Option X) → bit_in (cond t (option_map change o) o) ≡ (false || (bit_in o && not t))
+          at_test : (t : Bool) (o : Option X)
+              → bit_in (cond t (option_map change o) o) ≡ (false || (bit_in o && not t))
           at_test true (Some x) = takes x ∙ as_taken (bit x)
           at_test true None = refl
           at_test false o = as_left (bit_in o)

@@ -15,7 +15,8 @@ abbrev pub date_after : (first interval now : ℕ) → Option ℕ
 date_after first interval now =
     if interval == 0 then None
     else (
-    let date = first + (now + interval - first) / interval * interval in if nat_lt date (2 ^ 64) then Some date else None
+    let date =
+    first + (now + interval - first) / interval * interval in if nat_lt date (2 ^ 64) then Some date else None
     )
 
 -- whether there is a date and it is at most now

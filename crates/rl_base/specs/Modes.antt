@@ -6,6 +6,7 @@ use Rattle.cf_ids.specs.declared.numbers.ItemKind.{ItemKind}
 use Rattle.cf_ids.specs.declared.numbers.ItemKind.TheVariants.{Source, Timer, Observer}
 use Rattle.rl_base.specs.declared.places.Place.{Place}
 use Rattle.rl_base.specs.declared.places.Place.TheVariants.{Common, Mode}
+use Rattle.cf_ids.specs.declared.limits.TheConstants.{MODES}
 
 -- ---- places
 
@@ -16,7 +17,7 @@ rank (Mode m) = m + 1
 
 -- the numbers that modes can have, in order
 unfoldable pub all_modes : List ℕ
-all_modes = range_with_len 0 1024
+all_modes = range_with_len 0 MODES
 
 -- the common items and these modes, as places
 abbrev pub places : List ℕ → List Place

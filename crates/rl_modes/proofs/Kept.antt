@@ -20,6 +20,7 @@ use Rattle.rl_modes.specs.Fields.{IsCut, IsKept, Precedes, sits_before, is_seat,
 use Rattle.rl_modes.proofs.Cuts.{cut_tail, filter_but, filter_kept, length-filter_with}
 use Rattle.rl_modes.proofs.Orders.{is_below, only_at, found_at, is_found, order_with}
 use Rattle.rl_modes.proofs.Marks.{Reads, alike_with, alike_without}
+use Rattle.cf_ids.specs.declared.limits.TheConstants.{MODES}
 
 -- ---- what is there, by holdings and by seats
 
@@ -59,7 +60,7 @@ module _ (held : List Holding) (seats : List Seat) (p : Place) (i k l : ℕ) (cu
   reads_seats = record { agree = λ s e. below_at_first i (rank p) s.item (rank s.place) e; cut = seat }
 
 abbrev HasRank : Holding → Type 0
-HasRank h = rank h.place ≤ 1024
+HasRank h = rank h.place ≤ MODES
 
 -- ---- an item enters a place
 
@@ -81,7 +82,7 @@ count_with m held k new = length-filter_with (opens m) (take k held) (drop k hel
 pub kept_with : (held : List Holding) (seats : List Seat) (running more : List ℕ) (new : Holding) (seat : Seat)
     (k l : ℕ) → IsKept held seats running → IsCut (stands_before new.item.id new.place) held k
     → IsCut (sits_before new.item.id new.place) seats l → holds_at held new.item.id new.place ≡ false
-    → seat.item ≡ new.item.id → seat.place ≡ new.place → rank new.place ≤ 1024
+    → seat.item ≡ new.item.id → seat.place ≡ new.place → rank new.place ≤ MODES
     → ((m : ℕ) → slice_index more m ≡ slice_index running m + cond (opens m new) 1 0)
     → IsKept (insert held k new) (insert seats l seat) more
 kept_with held seats running more new seat k l kept cut sits absent si sp low counts = record {

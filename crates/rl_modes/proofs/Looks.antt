@@ -36,7 +36,8 @@ none_marked i (s ∷ ss) above =
     let other : eqb s.item i ≡ false = ne_eqb _ _ (λ e. absurd (omega (arith, above 0 s))) in
     rw other (none_marked i ss (All-tail (λ s. i < s.item) s ss above))
 
-none_found : (i : ℕ) (seats : List Seat) → All (λ s. i < s.item) seats → (k : ℕ) → place_if i (slice_get seats k) ≡ None
+none_found : (i : ℕ) (seats : List Seat) → All (λ s. i < s.item) seats → (k : ℕ)
+    → place_if i (slice_get seats k) ≡ None
 none_found i [] above k = refl
 none_found i (s ∷ ss) above zero =
     let other : eqb s.item i ≡ false = ne_eqb _ _ (λ e. absurd (omega (arith, above 0 s))) in rw other refl

@@ -9,6 +9,7 @@ use Rattle.rl_base.specs.Modes.{rank, places, places_of, all_modes}
 use Rattle.rl_modes.specs.Loops.{Holding, is_of, holds_at}
 use Rattle.rl_modes.specs.Fields.{Precedes, IsOrdered, places_held}
 use Rattle.rl_modes.proofs.Kept.{any_marked, and_turned}
+use Rattle.cf_ids.specs.declared.limits.TheConstants.{MODES}
 
 -- each place has a lower rank than those after it
 abbrev IsRising : List Place → Type 0
@@ -31,7 +32,8 @@ not_below (x ∷ xs) p above =
     or_from _ _ other (not_below xs p (All-tail (λ q. rank p < rank q) x xs above))
 
 module _ (holds : Place → Bool) where
-  modes_from : (n a : ℕ) (xs : List Place) → IsRising xs → All (λ q. a < rank q) xs → All (λ q. rank q ≤ a + n) xs → ((p : Place) → a < rank p → holds p ≡ is_in xs p) → filter holds (map Mode (range_with_len a n)) ≡ xs
+  modes_from : (n a : ℕ) (xs : List Place) → IsRising xs → All (λ q. a < rank q) xs → All (λ q. rank q ≤ a + n) xs
+      → ((p : Place) → a < rank p → holds p ≡ is_in xs p) → filter holds (map Mode (range_with_len a n)) ≡ xs
   modes_from zero a [] rises low high agree = refl
   modes_from zero a (x ∷ xs) rises low high agree =
       let above : a < rank x = low 0 x (omega arith) in
@@ -110,8 +112,8 @@ pub places_are : (i : ℕ) (held : List Holding) → IsOrdered held
     → places_held i held ≡ places_of (holds_at held i) all_modes
 unfolding all_modes
 places_are i held ordered =
-    sym (places_from (holds_at held i) 1024 all_modes (places_held i held) refl (held_rise i held ordered.in_order)
-    (All-map (λ q. rank q ≤ 1024) (λ h. h.place) (filter (λ h. eqb h.item.id i) held)
-    (All-filter (λ h. eqb h.item.id i) (λ h. rank h.place ≤ 1024) held ordered.below))
+    sym (places_from (holds_at held i) MODES all_modes (places_held i held) refl (held_rise i held ordered.in_order)
+    (All-map (λ q. rank q ≤ MODES) (λ h. h.place) (filter (λ h. eqb h.item.id i) held)
+    (All-filter (λ h. eqb h.item.id i) (λ h. rank h.place ≤ MODES) held ordered.below))
     (λ p. any_marked (λ h. h.item.id) (λ h. h.place) i (rank p) (is_of i p)
     (λ h. and_turned (eqb (rank h.place) (rank p)) (eqb h.item.id i)) held))

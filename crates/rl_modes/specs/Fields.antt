@@ -8,6 +8,7 @@ use Rattle.rl_base.specs.declared.places.Place.TheVariants.{Mode}
 use Rattle.rl_base.specs.Modes.{rank, keeps_open}
 use Rattle.rl_modes.specs.Loops.{Holding, holds_at, with_one}
 use Rattle.rl_modes.specs.declared.holdings.Seat.{Seat}
+use Rattle.cf_ids.specs.declared.limits.TheConstants.{MODES}
 
 -- what the holdings are to the loop: the holdings in order, and for how many there is memory
 pub record Held : Type 0 where
@@ -39,7 +40,7 @@ pub record Precedes {A : Type 0} (first second : A → ℕ) (a b : A) : Type 0 w
 -- holdings stand by place, then by item, and modes have numbers below 1,024
 pub record IsOrdered (held : List Holding) : Type 0 where
   pub in_order : AllPairs (Precedes (λ h. rank h.place) (λ h. h.item.id)) held
-  pub below : All (λ h. rank h.place ≤ 1024) held
+  pub below : All (λ h. rank h.place ≤ MODES) held
 
 -- whether a seat stands before that of this item in this place
 abbrev pub sits_before : ℕ → Place → Seat → Bool
@@ -90,7 +91,7 @@ pub record HasRoom {Y : Type 0} (places : Vec Place Y) (items : Vec Item Y) (sea
   pub items_fit : capacity ≤ vec_capacity items
   pub seats_fit : capacity ≤ vec_capacity seats
   pub table : 0 < capacity → 0 < length running.items
-  pub whole : 0 < length running.items → length running.items ≡ 1024
+  pub whole : 0 < length running.items → length running.items ≡ MODES
 
 -- ---- the modes
 

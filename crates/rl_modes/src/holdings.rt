@@ -1,5 +1,6 @@
 //! Which item is in which place, in order by place and in order by item.
 ghost use Rattle.std.specs.Prelude.{◌≡◌, ◌+◌, ◌<◌, ◌≤◌, ◌^◌, ℕ, [], ◌∷◌, cond, true, false, length, slice_get, slice_index, max, OnOk, OnErr, IsOk};
+ghost use Rattle.cf_ids.specs.declared.limits.TheConstants.{MODES};
 ghost use Rattle.std.specs.List.{AllPairs};
 ghost use Rattle.rl_base.specs.Modes.{rank, all_modes, places_of, keeps_open, is_empty};
 ghost use Rattle.rl_base.specs.declared.places.Place.TheVariants.{Mode};
@@ -42,9 +43,9 @@ fn spot_of(places: &[Place], items: &[Item], place: &Place, item: ObjId) -> usiz
 
 // Gives each mode a count, if none has one yet.
 fn make_counts(running: &mut Vec<usize>) -> Result<(), NoMemory>
-    requires { 0 < length running.old.items → length running.old.items ≡ 1024 }
+    requires { 0 < length running.old.items → length running.old.items ≡ MODES }
     ensures counts { (m : ℕ) → slice_index running.new.items m ≡ slice_index running.old.items m }
-    ensures long { OnOk result (length running.new.items ≡ 1024) }
+    ensures long { OnOk result (length running.new.items ≡ MODES) }
     ensures err { OnErr result (running.new.items ≡ running.old.items) }
 {
     if running.is_empty() {
@@ -62,11 +63,11 @@ fn count_of(running: &[usize], mode: ModeId) -> usize
 
 // Counts an item that comes into a place.
 fn count_up(running: &mut Vec<usize>, place: &Place, item: &Item)
-    requires table { length running.old.items ≡ 1024 }
+    requires table { length running.old.items ≡ MODES }
     requires fits { (m : ℕ) → slice_index running.old.items m + 1 < 2 ^ 64 }
     ensures counts { (m : ℕ) → slice_index running.new.items m ≡
         slice_index running.old.items m + cond (opens m (record { place = place.now; item = item.now })) 1 0 }
-    ensures long { length running.new.items ≡ 1024 }
+    ensures long { length running.new.items ≡ MODES }
 {
     if let Place::Mode(mode) = *place
         && keeps_open(item.kind)
@@ -77,12 +78,12 @@ fn count_up(running: &mut Vec<usize>, place: &Place, item: &Item)
 
 // Counts an item that goes out of a place.
 fn count_down(running: &mut Vec<usize>, place: &Place, item: &Item)
-    requires table { length running.old.items ≡ 1024 }
+    requires table { length running.old.items ≡ MODES }
     requires there { (m : ℕ) → cond (opens m (record { place = place.now; item = item.now })) 1 0 ≤
         slice_index running.old.items m }
     ensures counts { (m : ℕ) → slice_index running.new.items m +
         cond (opens m (record { place = place.now; item = item.now })) 1 0 ≡ slice_index running.old.items m }
-    ensures long { length running.new.items ≡ 1024 }
+    ensures long { length running.new.items ≡ MODES }
 {
     if let Place::Mode(mode) = *place
         && keeps_open(item.kind)

@@ -1,5 +1,6 @@
 //! Places in sorted lists, found by halving, and inserts in room that is there.
 ghost use Rattle.std.specs.Prelude.{◌≡◌, ℕ, ◌+◌, ◌<◌, ◌≤◌, Some, nat_lt, insert, option_copied, slice_get, vec_len, vec_capacity};
+ghost use Rattle.cf_ids.specs.declared.limits.TheConstants.{MODES};
 ghost use Rattle.std.specs.List.Sorted.{IsPartitionedBy};
 ghost use Rattle.rl_base.specs.Modes.{rank};
 ghost use Rattle.rl_modes.specs.Fields.{IsCut, IsRange, sits_before, is_seat, place_if};
@@ -11,7 +12,7 @@ use rl_base::Place;
 // Where a place stands in the order of places.
 pub fn place_rank(place: &Place) -> u16
     ensures rank { result ≡ rank place.now }
-    ensures limit { result ≤ 1024 }
+    ensures limit { result ≤ MODES }
 {
     match place {
         Place::Common => 0,
@@ -48,7 +49,7 @@ pub fn first_item(items: &[Item], least: ObjId) -> usize
 pub fn seat_of(seats: &[Seat], item: ObjId, place: &Place) -> usize
     requires { IsPartitionedBy (sits_before item place.now) seats.now }
     ensures cut { IsCut (sits_before item place.now) seats.now result }
-    ensures limit { rank place.now ≤ 1024 }
+    ensures limit { rank place.now ≤ MODES }
 {
     let rank = place_rank(place);
     seats.partition_point(|seat| {

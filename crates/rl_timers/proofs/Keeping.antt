@@ -10,13 +10,13 @@ use Rattle.std.proofs.lemmas.Option.{none-some, same_Some, slice_get_within, get
 use Rattle.rl_base.proofs.Orders.{put_with, sort_with, IsInOrder, AreApart, puts_in, sort_with-middle, IsInOrder-sort_with}
 use Rattle.rl_timers.specs.declared.rows.Row.{Row}
 use Rattle.rl_timers.specs.Timings.{Timer, Timing, with_timer, timer_at, changed, is_valid, date_of}
-use Rattle.rl_timers.specs.Queues.{Entry, Waiting, comes_first}
+use Rattle.rl_timers.specs.Queues.{QueueEntry, Waiting, comes_first}
 use Rattle.rl_timers.specs.Rows.{timer_of, timers_of, row_at, IsRising, entry_of, queued, IsTable}
 use Rattle.rl_timers.proofs.Tables.{AreBelow, AreAbove, StandsAt, stands_at, rising_parts, rising_whole, row_at-here, row_at-apart, timer_at_from_row, above_from, with_timer-place, changed-place}
 use Rattle.rl_timers.proofs.Queueing.{comes_first-order, comes_first-apart}
 
 -- the entries with one more, if there is one
-abbrev pub with_entry : Option Entry → List Entry → List Entry
+abbrev pub with_entry : Option QueueEntry → List QueueEntry → List QueueEntry
 with_entry None es = es
 with_entry (Some e) es = put_with comes_first e es
 
@@ -24,24 +24,25 @@ pub queued_in_order : (rows : List Row) → IsInOrder comes_first (queued rows)
 queued_in_order rows = IsInOrder-sort_with comes_first comes_first-order (filter_map entry_of rows)
 
 -- the entry of a row has its number
-entry_number : (r : Row) (e : Entry) → entry_of r ≡ Some e → e.number ≡ r.number
+entry_number : (r : Row) (e : QueueEntry) → entry_of r ≡ Some e → e.number ≡ r.number
 entry_number r e is = by_parts r.is_valid r.date is
   where
-    by_parts : (valid : Bool) (date : Option ℕ) → ◌≡◌ {A = Option Entry}
+    by_parts : (valid : Bool) (date : Option ℕ) → ◌≡◌ {A = Option QueueEntry}
         (cond valid (option_map (λ d. record { node = r.node; date = d; number = r.number }) date) None) (Some e)
         → e.number ≡ r.number
     by_parts false date is = absurd (none-some e is)
     by_parts true None is = absurd (none-some e is)
-    by_parts true (Some d) is = ap (λ (x : Entry). x.number) (sym (same_Some _ e is))
+    by_parts true (Some d) is = ap (λ (x : QueueEntry). x.number) (sym (same_Some _ e is))
 
 -- entries of rows with other numbers are apart
-apart_entries : (rows : List Row) (e : Entry) → All (λ r. r.number ≡ e.number → ⊥) rows
+apart_entries : (rows : List Row) (e : QueueEntry) → All (λ r. r.number ≡ e.number → ⊥) rows
     → All (λ x. AreApart comes_first x e) (filter_map entry_of rows)
 apart_entries [] e others = All-nil (λ x. AreApart comes_first x e)
 apart_entries (r ∷ rs) e others =
     with_first (entry_of r) refl (apart_entries rs e (All-tail (λ s. s.number ≡ e.number → ⊥) r rs others))
   where
-    with_first : (o : Option Entry) → entry_of r ≡ o → All (λ x. AreApart comes_first x e) (filter_map entry_of rs)
+    with_first : (o : Option QueueEntry) → entry_of r ≡ o
+        → All (λ x. AreApart comes_first x e) (filter_map entry_of rs)
         → All (λ x. AreApart comes_first x e) (filter_map entry_of (r ∷ rs))
     with_first None is rest = rw is rest
     with_first (Some x) is rest =
@@ -56,7 +57,7 @@ queued-middle front back r below =
     ap (sort_with comes_first) (filter_map-append entry_of front (r ∷ back)) ∙ with_one (entry_of r) refl
     ∙ ap (λ l. with_entry (entry_of r) (sort_with comes_first l)) (sym (filter_map-append entry_of front back))
   where
-    with_one : (o : Option Entry) → entry_of r ≡ o → sort_with comes_first
+    with_one : (o : Option QueueEntry) → entry_of r ≡ o → sort_with comes_first
         (filter_map entry_of front ++ filter_map entry_of (r ∷ back))
         ≡ with_entry (entry_of r) (sort_with comes_first (filter_map entry_of front ++ filter_map entry_of back))
     with_one None is = rw is refl
@@ -169,14 +170,14 @@ has_valid rows t p rising stands valid = by_row (slice_get rows p) refl
 
 -- what the queue leaves where it takes out the entry of a node
 abbrev pub TakesOut : Waiting → Waiting → ℕ → Type 0
-TakesOut old new node = (e : Entry) (front back : List Entry) → e.node ≡ node → old.entries ≡ front ++ e ∷ back → new
+TakesOut old new node = (e : QueueEntry) (front back : List QueueEntry) → e.node ≡ node → old.entries ≡ front ++ e ∷ back → new
     ≡ record { entries = front ++ back; room = old.room + 1 }
 
 pub left_without : (rows : List Row) (spare : ℕ) (old new : Waiting) (room p : ℕ) (r : Row) (date : ℕ)
     → IsTable rows spare old room → slice_get rows p ≡ Some r → r.is_valid ≡ true → r.date ≡ Some date
     → TakesOut old new r.node → new ≡ record { entries = queued (others rows p); room = old.room + 1 }
 left_without rows spare old new room p r date table found valid dated takes =
-    let e : Entry = record { node = r.node; date = date; number = r.number } in
+    let e : QueueEntry = record { node = r.node; date = date; number = r.number } in
     let entry : entry_of r ≡ Some e = rw (valid, dated) refl in
     let was = (is_written rows p r r table.rising found refl).was_listed in
     let rest = queued (others rows p) in
@@ -185,7 +186,7 @@ left_without rows spare old new room p r date table found valid dated takes =
     ∙ puts.after in
     takes e puts.front puts.back refl split ∙ ap (λ l. left_at l old) (sym puts.before)
   where
-    left_at : List Entry → Waiting → Waiting
+    left_at : List QueueEntry → Waiting → Waiting
     left_at l w = record { entries = l; room = w.room + 1 }
 
 pub some_date : (o : Option ℕ) → is_some o ≡ true → (date : ℕ) × (o ≡ Some date)
@@ -270,7 +271,7 @@ date_there (Some date) now due = (date, refl)
 
 -- ---- what the queue has after a row is written
 
-pub entry_put : (es rest : List Entry) (s : Row) (date t : ℕ) → es ≡ rest → s.is_valid ≡ true → s.date ≡ Some date
+pub entry_put : (es rest : List QueueEntry) (s : Row) (date t : ℕ) → es ≡ rest → s.is_valid ≡ true → s.date ≡ Some date
     → s.number ≡ t → put_with comes_first (record { node = s.node; date = date; number = t }) es
     ≡ with_entry (entry_of s) rest
 entry_put es rest s date t same valid dated number =

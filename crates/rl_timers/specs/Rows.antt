@@ -6,7 +6,7 @@ use Rattle.std.specs.Option.{option_map}
 use Rattle.rl_base.proofs.Orders.{sort_with}
 use Rattle.rl_timers.specs.declared.rows.Row.{Row}
 use Rattle.rl_timers.specs.Timings.{Timer}
-use Rattle.rl_timers.specs.Queues.{Entry, Waiting, comes_first}
+use Rattle.rl_timers.specs.Queues.{QueueEntry, Waiting, comes_first}
 
 -- what a row says of its timer
 abbrev pub timer_of : Row → Timer
@@ -26,12 +26,12 @@ IsRising [] = Unit {0}
 IsRising (r ∷ rs) = All (λ s. r.number < s.number) rs × IsRising rs
 
 -- the entry of a row, if its timer is valid and has a date
-abbrev pub entry_of : Row → Option Entry
+abbrev pub entry_of : Row → Option QueueEntry
 entry_of r =
     if r.is_valid then option_map (λ date. record { node = r.node; date = date; number = r.number }) r.date else None
 
 -- the entries of the rows, in order
-abbrev pub queued : List Row → List Entry
+abbrev pub queued : List Row → List QueueEntry
 queued rows = sort_with comes_first (filter_map entry_of rows)
 
 -- the table rises, the queue has the entries of its rows in order, and each has the room that is counted

@@ -61,7 +61,8 @@ least_among timers numbers = least_date (map (valid_date timers) numbers)
 
 -- those of these numbers that are due, by date and then by number; one that comes twice is there twice
 abbrev pub due_among : List Timer → (now : ℕ) → List ℕ → List ℕ
-due_among timers now numbers = sorted_by (λ t. pos (unwrap_or (date_of timers t) 0)) (filter (is_due timers now) numbers)
+due_among timers now numbers =
+    sorted_by (λ t. pos (unwrap_or (date_of timers t) 0)) (filter (is_due timers now) numbers)
 
 -- the timers, where the one of this number is changed
 abbrev pub changed : ℕ → (Timer → Timer) → List Timer → List Timer

@@ -5,6 +5,7 @@ use Rattle.cf_run.proofs.output.write_entries.Given as goal
 
 abbrev pub invariant-loop-entry : goal.invariant-loop-entry
 invariant-loop-entry g l = record {
-  taken : g.K.Sink.taken l.sink ≡ then_bytes (g.K.Sink.taken l.initial.sink) (text_of_lines (entry_lines l.classes (take l.entry-index l.journal)));
+  taken : g.K.Sink.taken l.sink ≡ then_bytes (g.K.Sink.taken l.initial.sink)
+      (text_of_lines (entry_lines l.classes (take l.entry-index l.journal)));
   faults : g.K.Sink.faults l.sink ≡ g.K.Sink.faults l.initial.sink;
 }

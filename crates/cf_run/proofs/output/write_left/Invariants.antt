@@ -7,7 +7,8 @@ use Rattle.cf_run.proofs.output.write_left.Given as goal
 
 abbrev pub invariant-loop-number : goal.invariant-loop-number
 invariant-loop-number g l = record {
-  taken : g.K.Sink.taken l.sink ≡ then_bytes (g.K.Sink.taken l.initial.sink) (text_of_lines (alive_below l.classes (state_of l.world).objects l.fn.tallies l.number));
+  taken : g.K.Sink.taken l.sink ≡ then_bytes (g.K.Sink.taken l.initial.sink)
+      (text_of_lines (alive_below l.classes (state_of l.world).objects l.fn.tallies l.number));
   faults : g.K.Sink.faults l.sink ≡ g.K.Sink.faults l.initial.sink;
   count : l.alive ≡ length (alive_below l.classes (state_of l.world).objects l.fn.tallies l.number);
   few : l.alive ≤ l.number;

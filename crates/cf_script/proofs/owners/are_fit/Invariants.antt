@@ -6,5 +6,6 @@ use Rattle.cf_script.proofs.owners.are_fit.Given as goal
 abbrev pub invariant-loop-statement : goal.invariant-loop-statement
 invariant-loop-statement l = record {
   counted : Counted l.counts (take l.statement-index l.statements);
-  so_far : are_fit (take l.statement-index l.statements) (drop l.statement-index l.statements) ≡ are_fit [] l.statements;
+  so_far : are_fit (take l.statement-index l.statements) (drop l.statement-index l.statements)
+      ≡ are_fit [] l.statements;
 }

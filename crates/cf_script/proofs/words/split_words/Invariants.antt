@@ -8,7 +8,7 @@ use Rattle.cf_script.proofs.words.split_words.Given as goal
 abbrev pub invariant-loop-rest : goal.invariant-loop-rest
 invariant-loop-rest l = record {
   so_far : option_map (λ ws. lent l.found.items ++ ws) (words l.rest) ≡ words l.line;
-  begun : 0 < length l.rest → is_blank (get_or l.rest 0 0) ≡ false;
+  starts : 0 < length l.rest → is_blank (get_or l.rest 0 0) ≡ false;
 }
 
 abbrev pub decreases-loop-rest : goal.decreases-loop-rest

@@ -1,5 +1,5 @@
 use Rattle.std.proofs.Common.{ap}
-use Rattle.cf_contents.specs.Stores.{Held, body_retired}
+use Rattle.cf_contents.specs.Stores.{Held, body_finalised}
 use Rattle.cf_store.proofs.Setting.{set_at, ready_stays, live_within}
 use Rattle.cf_store.proofs.store.Store.retire.Goals as goal
 
@@ -11,4 +11,4 @@ invariant_of-self c =
 pub returns-clause-bodies : goal.returns-clause-bodies
 returns-clause-bodies c =
     rw (← c.self.view_is, ← c.o.view_is)
-    (set_at body_retired _ _ _ _ (live_within _ _ (rw (← c.self.view_is, ← c.o.view_is) at c.requires)) c.index_mut.ensures.value c.retire.ensures.held)
+    (set_at body_finalised _ _ _ _ (live_within _ _ (rw (← c.self.view_is, ← c.o.view_is) at c.requires)) c.index_mut.ensures.value c.retire.ensures.held)

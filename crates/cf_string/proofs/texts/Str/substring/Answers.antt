@@ -1,6 +1,6 @@
 -- Answers to the goals of `texts::Str::substring`.
 use Rattle.std.proofs.Common.{◌≡◌, ◌+◌, ◌-◌, None, take, drop, refl, rules, arith}
-use Rattle.cf_string.specs.Faults.{cut_fault}
+use Rattle.cf_string.specs.Faults.{split_fault}
 use Rattle.cf_string.proofs.Validity.{IsText-part}
 use Rattle.cf_string.proofs.texts.Str.substring.Goals as goal
 
@@ -12,7 +12,7 @@ part_is c =
 
 pub invariant_of-result : goal.invariant_of-result
 invariant_of-result c =
-    let none : cut_fault c.self.inside.units.items c.args.at c.args.len ≡ None = search rules in
+    let none : split_fault c.self.inside.units.items c.args.at c.args.len ≡ None = search rules in
     rw (part_is c) (IsText-part _ c.args.at c.args.len c.self.invariant none)
 
 pub returns-clause-units : goal.returns-clause-units

@@ -2,7 +2,7 @@
 use Rattle.std.proofs.Common.{◌≡◌, ◌-◌, Some, true, sym, ap, ◌∙◌, arith}
 use Rattle.rl_timers.specs.declared.rows.Row.{Row}
 use Rattle.rl_timers.specs.Timings.{Timing, timer_at, with_timer}
-use Rattle.rl_timers.specs.Queues.{Entry}
+use Rattle.rl_timers.specs.Queues.{QueueEntry}
 use Rattle.rl_timers.specs.Rows.{timer_of, timers_of, queued}
 use Rattle.rl_timers.proofs.Tables.{stands_at}
 use Rattle.rl_timers.proofs.Keeping.{queued_in_order, comes_in, with_entry}
@@ -31,7 +31,7 @@ invariant_of-self c =
     c.place_of-place.ensures.lower c.place_of-place.ensures.higher) in
     let new = ap (λ (s : Timing). timer_at s.timers t) c.self.view_is ∙ c.requires.is_new in
     let in_ = comes_in rows c.place_of-place.result r c.self.invariant.rising stands new in
-    let e : Entry = record { node = c.put-node.result; date = c.args.first; number = t } in
+    let e : QueueEntry = record { node = c.put-node.result; date = c.args.first; number = t } in
     record {
       rising = rw c.insert.ensures.items in_.rising;
       listed = c.put-node.ensures.entries ∙ ap (with_entry (Some e)) c.self.invariant.listed ∙ sym in_.listed

@@ -1,7 +1,0 @@
-use Rattle.std.proofs.Common.{refl}
-use Rattle.cf_syntax.proofs.OnLiterals.{script_on_literals}
-use Rattle.cf_syntax.proofs.rows.members_and_their_script.Goals as goal
-
-pub returns : goal.returns
-unfolding script_on_literals
-returns c = refl

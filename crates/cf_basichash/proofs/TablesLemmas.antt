@@ -140,7 +140,7 @@ none_by : {K V : Type 0} (test : K → Bool) (rows : List (K × V)) (o : Option 
 none_by test rows None p = rw (missing test rows p).value (λ h. h, λ h. h)
 none_by test rows (Some i) p = rw (found test rows i p).1.value (λ h. h, λ h. h)
 
--- a place is missing exactly where a value is
+-- a place is missing exactly if a value is
 pub none_together : {K V : Type 0} (test : K → Bool) (rows : List (K × V))
     → IsNone (place_of test rows) ↔ IsNone (lookup test rows)
 none_together test rows = none_by test rows (place_of test rows) refl

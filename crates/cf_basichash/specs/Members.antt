@@ -34,6 +34,7 @@ abbrev pub rows_with_more : {E : Type 0} → (E → Bool) → List (E × ℕ) �
 rows_with_more test rows x None = rows ++ (x, 1) ∷ []
 rows_with_more test rows x (Some n) = if n == most_of_one then rows else set_value test rows (n + 1)
 
+-- the rows with one more of x
 abbrev pub rows_with : {E : Type 0} → (E → Bool) → List (E × ℕ) → E → List (E × ℕ)
 rows_with test rows x = rows_with_more test rows x (lookup test rows)
 
@@ -42,6 +43,7 @@ abbrev pub rows_with_less : {E : Type 0} → (E → Bool) → List (E × ℕ) �
 rows_with_less test rows None = rows
 rows_with_less test rows (Some n) = if n == 1 then remove_entry test rows else set_value test rows (n - 1)
 
+-- the rows with one less of the member that passes
 abbrev pub rows_without : {E : Type 0} → (E → Bool) → List (E × ℕ) → List (E × ℕ)
 rows_without test rows = rows_with_less test rows (lookup test rows)
 

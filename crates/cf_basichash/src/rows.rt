@@ -45,15 +45,14 @@ impl<K, V, C: Callbacks<K>> Rows<K, V, C> {
         }
     }
 
-    /// Makes room for at least `more` further rows. `NoMemory` comes only where the room was less, and changes
-    /// nothing.
+    /// Makes room for at least `more` further rows. `NoMemory` comes only if the room was less, and changes nothing.
     pub fn reserve(&mut self, more: usize) -> Result<(), NoMemory>
         ensures rows { self.new.rows ≡ self.old.rows }
         ensures callbacks { self.new.callbacks ≡ self.old.callbacks }
         ensures room { OnOk result (more ≤ self.new.room) }
         ensures kept { self.old.room ≤ self.new.room }
 
-        // It can be refused only where the room was missing.
+        // It can be refused only if the room was missing.
         ensures enough { more ≤ self.old.room → IsOk result }
         ensures err { OnErr result (self.new ≡ self.old) }
     {
@@ -68,7 +67,7 @@ impl<K, V, C: Callbacks<K>> Rows<K, V, C> {
         self.rows.len()
     }
 
-    /// The place of the row whose key is equal to `k`, or `None` where there is none.
+    /// The place of the row whose key is equal to `k`, or `None` if there is none.
     pub fn find(&self, k: &K) -> Option<usize>
         ensures { result ≡ place_of (C.same self.now.callbacks k.now) self.now.rows }
     {
@@ -77,7 +76,7 @@ impl<K, V, C: Callbacks<K>> Rows<K, V, C> {
             .position(|row| self.callbacks.equal(k, &row.0))
     }
 
-    /// The row at a place, or `None` where the place is not below the count.
+    /// The row at a place, or `None` if the place is not below the count.
     pub fn row(&self, i: usize) -> Option<(&K, &V)>
         ensures { option_map (λ row. (row.0.now, row.1.now)) result ≡ slice_get self.now.rows i }
     {
@@ -88,7 +87,7 @@ impl<K, V, C: Callbacks<K>> Rows<K, V, C> {
     }
 
     /// Puts a row after the last one, in the room that is there, which becomes less by 1. Key and value come back
-    /// exactly where an equal key is present, and then nothing changes.
+    /// exactly if an equal key is present, and then nothing changes.
     pub fn add(&mut self, k: K, v: V) -> Result<(), (K, V)>
         requires { 0 < self.old.room }
         ensures absent { IsOk result ↔ IsNone (place_of (C.same self.old.callbacks k) self.old.rows) }
@@ -128,7 +127,7 @@ impl<K, V, C: Callbacks<K>> Rows<K, V, C> {
         mem::replace(&mut row.0, k)
     }
 
-    /// Takes out the row at `i`, and those after it move down; the room becomes more by 1. `None` comes exactly where
+    /// Takes out the row at `i`, and those after it move down; the room becomes more by 1. `None` comes exactly if
     /// `i` is not below the count, and then nothing changes.
     pub fn remove(&mut self, i: usize) -> Option<(K, V)>
         ensures out { result ≡ slice_get self.old.rows i }

@@ -18,12 +18,15 @@ pub record BodyView : Type 0 where
   pub given_up : ℕ
   pub room : ℕ
 
+-- the object of a body
 abbrev pub object_in : BodyView → Object
 object_in b = record { class = b.class; content = b.content }
 
+-- a body without its room
 abbrev pub held_of : BodyView → Held
 held_of b = record { object = object_in b; is_finalised = b.is_finalised; given_up = b.given_up }
 
+-- the content of what the program keeps of an object
 abbrev pub content_of : Kind → Content
 content_of (Text mutable text) = text_content mutable text.units
 content_of (Data mutable bytes) = data_content mutable bytes.items
@@ -32,6 +35,7 @@ content_of (Instance i) = instance_content i.key i.fields.items
 content_of (Array plain elements) = array_content plain elements.items
 content_of (Dictionary pairs) = dictionary_content pairs.plain pairs.items
 
+-- how many more units, bytes, elements or pairs come in without memory
 abbrev pub room_of : Kind → ℕ
 room_of (Text mutable text) = text.room
 room_of (Data mutable bytes) = bytes.room
@@ -62,9 +66,10 @@ words_of (dictionary_content plain pairs) = map pair_word pairs
 abbrev pub word_at : List (List ℕ) → ℕ → List ℕ
 word_at words k = unwrap_or (slice_get words k) []
 
--- the members in brackets, by their words, and how many there are before them
+-- the members in brackets, by their words
 abbrev pub listed : Content → List ℕ
 listed c = codes "[" ++ join_with_byte 32 (take 8 (words_of c)) ++ more_if (nat_lt 8 (members_in c)) ++ codes "]"
 
+-- how many members there are, and then the members in brackets
 abbrev pub counted_list : Content → List ℕ
 counted_list c = decimal (members_in c) ++ codes " " ++ listed c

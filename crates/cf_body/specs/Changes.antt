@@ -39,7 +39,7 @@ CanBe (PutPair key value) (dictionary_content plain pairs) = Unit {0}
 CanBe (RemovePair key) (dictionary_content plain pairs) = Unit {0}
 CanBe _ _ = ⊥
 
--- for how many units, bytes, elements or pairs a change needs room, and by how many members it grows a body at most
+-- for how many units, bytes, elements or pairs a change needs room
 abbrev pub room_for : BodyChange → ℕ
 room_for Nothing = 0
 room_for (Text at len text) = length text.units
@@ -52,6 +52,7 @@ room_for (Clear at) = 0
 room_for (PutPair key value) = 1
 room_for (RemovePair key) = 0
 
+-- by how many members a change grows a body at most
 abbrev pub members_for : BodyChange → ℕ
 members_for Nothing = 0
 members_for (Text at len text) = 0

@@ -37,7 +37,7 @@ pub fn class_name(classes: &[ClassLine], class: TypeId) -> &[u8]
     }
 }
 
-/// Whether instances of a class are equal where their keys are.
+/// Whether instances of a class are equal if their keys are.
 pub(crate) fn is_keyed(classes: &[ClassLine], class: TypeId) -> bool
     ensures { result ≡ is_keyed (class_line classes.now class) }
 {

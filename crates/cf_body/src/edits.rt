@@ -27,7 +27,7 @@ impl Body {
         ensures room { OnOk result (HasRoom change.now self.new) }
         ensures kept { self.old.room ≤ self.new.room }
 
-        // It can be refused only where the room was missing.
+        // It can be refused only if the room was missing.
         ensures enough { room_for change.now ≤ self.old.room → IsOk result }
         ensures refused { OnErr result (self.new ≡ self.old) }
     {

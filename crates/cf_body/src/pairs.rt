@@ -59,7 +59,7 @@ impl Pairs {
         ensures room { OnOk result (more ≤ self.new.room) }
         ensures kept { self.old.room ≤ self.new.room }
 
-        // It can be refused only where the room was missing.
+        // It can be refused only if the room was missing.
         ensures enough { more ≤ self.old.room → IsOk result }
         ensures refused { OnErr result (self.new ≡ self.old) }
     {

@@ -3,7 +3,7 @@ use Rattle.std.proofs.Common.{◌≡◌, ℕ, zero, suc, List, [], ◌∷◌, �
 use Rattle.std.specs.Prelude.{slice_get}
 use Rattle.std.specs.Option.{option_map}
 use Rattle.cf_contents.specs.Contents.{Object}
-use Rattle.cf_contents.specs.Deeds.{Change, changed_by, with_change}
+use Rattle.cf_contents.specs.Deeds.{Change, objects_after, with_change}
 use Rattle.cf_contents.specs.Stores.{Held, objects_of, with_body, body_changed, bodies_changed}
 
 pub get-map : (bodies : List Held) (o : ℕ)
@@ -43,7 +43,7 @@ objects-body zero change (h ∷ hs) = refl
 objects-body (suc o) change (h ∷ hs) = ap (λ (os : List Object). h.object ∷ os) (objects-body o change hs)
 
 pub objects-changed : (o : Option ℕ) (change : Change) (bodies : List Held)
-    → objects_of (bodies_changed o change bodies) ≡ changed_by o change (objects_of bodies)
+    → objects_of (bodies_changed o change bodies) ≡ objects_after o change (objects_of bodies)
 objects-changed None change bodies = refl
 objects-changed (Some o) change bodies = objects-body o change bodies
 

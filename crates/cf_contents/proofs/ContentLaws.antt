@@ -4,7 +4,7 @@ use Rattle.std.proofs.Common.{◌≡◌, ℕ, zero, suc, Bool, true, List, [], �
 use Rattle.std.specs.Prelude.{slice_get}
 use Rattle.std.specs.Option.{option_map}
 use Rattle.cf_contents.specs.Contents.{Content, text_content, data_content, instance_content, array_content, dictionary_content, Object}
-use Rattle.cf_contents.specs.Deeds.{Change, unchanged, in_text, in_data, in_places, put_pair, remove_pair, Splice, text_after, data_after, places_after, content_after, with_change, changed_by}
+use Rattle.cf_contents.specs.Deeds.{Change, unchanged, in_text, in_data, in_places, put_pair, remove_pair, Splice, text_after, data_after, places_after, content_after, with_change, objects_after}
 use Rattle.cf_contents.specs.Keys.{compared_by}
 
 pub length-with_change : (o : ℕ) (change : Change) (objects : List Object)
@@ -13,10 +13,10 @@ length-with_change o change [] = refl
 length-with_change zero change (ob ∷ obs) = refl
 length-with_change (suc o) change (ob ∷ obs) = ap suc (length-with_change o change obs)
 
-pub length-changed_by : (o : Option ℕ) (change : Change) (objects : List Object)
-    → length (changed_by o change objects) ≡ length objects
-length-changed_by None change objects = refl
-length-changed_by (Some o) change objects = length-with_change o change objects
+pub length-objects_after : (o : Option ℕ) (change : Change) (objects : List Object)
+    → length (objects_after o change objects) ≡ length objects
+length-objects_after None change objects = refl
+length-objects_after (Some o) change objects = length-with_change o change objects
 
 pub class-with_change : (o : ℕ) (change : Change) (objects : List Object) (p : ℕ)
     → option_map (λ (ob : Object). ob.class) (slice_get (with_change o change objects) p)
@@ -27,20 +27,20 @@ class-with_change zero change (ob ∷ obs) (suc p) = refl
 class-with_change (suc o) change (ob ∷ obs) zero = refl
 class-with_change (suc o) change (ob ∷ obs) (suc p) = class-with_change o change obs p
 
-pub class-changed_by : (o : Option ℕ) (change : Change) (objects : List Object) (p : ℕ)
-    → option_map (λ (ob : Object). ob.class) (slice_get (changed_by o change objects) p)
+pub class-objects_after : (o : Option ℕ) (change : Change) (objects : List Object) (p : ℕ)
+    → option_map (λ (ob : Object). ob.class) (slice_get (objects_after o change objects) p)
     ≡ option_map (λ (ob : Object). ob.class) (slice_get objects p)
-class-changed_by None change objects p = refl
-class-changed_by (Some o) change objects p = class-with_change o change objects p
+class-objects_after None change objects p = refl
+class-objects_after (Some o) change objects p = class-with_change o change objects p
 
 pub with_change-unchanged : (o : ℕ) (objects : List Object) → with_change o unchanged objects ≡ objects
 with_change-unchanged o [] = refl
 with_change-unchanged zero (ob ∷ obs) = refl
 with_change-unchanged (suc o) (ob ∷ obs) = ap (λ (os : List Object). ob ∷ os) (with_change-unchanged o obs)
 
-pub changed_by-unchanged : (o : Option ℕ) (objects : List Object) → changed_by o unchanged objects ≡ objects
-changed_by-unchanged None objects = refl
-changed_by-unchanged (Some o) objects = with_change-unchanged o objects
+pub objects_after-unchanged : (o : Option ℕ) (objects : List Object) → objects_after o unchanged objects ≡ objects
+objects_after-unchanged None objects = refl
+objects_after-unchanged (Some o) objects = with_change-unchanged o objects
 
 -- what an object is compared by stays
 form-text : (keyed : Bool) (o : ℕ) (e : Splice ℕ) (c : Content)

@@ -8,7 +8,7 @@ use Rattle.std.proofs.lemmas.Map.{length-set_value}
 use Rattle.cf_types.specs.declared.cells.Cell.{Cell}
 use Rattle.cf_contents.specs.Contents.{Content, text_content, data_content, number_content, instance_content, array_content, dictionary_content, Object, size_of, size_at}
 use Rattle.cf_contents.specs.Keys.{equal_to}
-use Rattle.cf_contents.specs.Deeds.{Splice, Change, unchanged, in_text, in_data, in_places, put_pair, remove_pair, elements, text_after, data_after, places_after, put_after, removed_after, content_after, with_change, changed_by}
+use Rattle.cf_contents.specs.Deeds.{Splice, Change, unchanged, in_text, in_data, in_places, put_pair, remove_pair, elements, text_after, data_after, places_after, put_after, removed_after, content_after, with_change, objects_after}
 use Rattle.cf_contents.proofs.SlotLaws.{named_in}
 
 pub length-splice : {A : Type 0} (xs : List A) (i out : ℕ) (ys : List A)
@@ -71,10 +71,10 @@ change_size (suc o) change (ob ∷ obs) zero = omega arith
 change_size (suc o) change (ob ∷ obs) (suc p) = change_size o change obs p
 
 -- the size of each object after a change of one of them, and where one is made
-pub size-changed_by : (o : Option ℕ) (change : Change) (objects : List Object) (p : ℕ)
-    → size_at (slice_get (changed_by o change objects) p) ≤ size_at (slice_get objects p) + length (named_in change)
-size-changed_by None change objects p = omega arith
-size-changed_by (Some o) change objects p = change_size o change objects p
+pub size-objects_after : (o : Option ℕ) (change : Change) (objects : List Object) (p : ℕ)
+    → size_at (slice_get (objects_after o change objects) p) ≤ size_at (slice_get objects p) + length (named_in change)
+size-objects_after None change objects p = omega arith
+size-objects_after (Some o) change objects p = change_size o change objects p
 
 pub size-more : (objects : List Object) (ob : Object) (p : ℕ) → size_of ob.content ≡ 0
     → size_at (slice_get (objects ++ ob ∷ []) p) ≤ size_at (slice_get objects p)

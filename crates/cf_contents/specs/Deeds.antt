@@ -411,6 +411,6 @@ with_change zero change (ob ∷ obs) = object_after change ob ∷ obs
 with_change (suc o) change (ob ∷ obs) = ob ∷ with_change o change obs
 
 -- the objects with the one of a number changed, if there is a number
-abbrev pub changed_by : Option ℕ → Change → List Object → List Object
-changed_by None change objects = objects
-changed_by (Some o) change objects = with_change o change objects
+abbrev pub objects_after : Option ℕ → Change → List Object → List Object
+objects_after None change objects = objects
+objects_after (Some o) change objects = with_change o change objects

@@ -13,9 +13,11 @@ use Rattle.cf_contents.specs.Deeds.{Deed, deed_at, content_after, coming_in, goi
 abbrev pub point : ClassLine
 point = record { name = codes "point"; fields = 2; keyed = true }
 
+-- a point with the key -3 and two empty fields
 abbrev pub a_point : Object
 a_point = record { class = 14; content = instance_content (negsuc 2) (None ∷ None ∷ []) }
 
+-- the number 200, of the kind S16
 abbrev pub a_number : Object
 a_number = record { class = 5; content = number_content (record { kind = S16; value = pos 200 }) }
 
@@ -23,28 +25,35 @@ a_number = record { class = 5; content = number_content (record { kind = S16; va
 abbrev pub a_text : Object
 a_text = record { class = 3; content = text_content true (120 ∷ 55357 ∷ 56832 ∷ 122 ∷ []) }
 
+-- the immutable string hi
 abbrev pub a_string : Object
 a_string = record { class = 3; content = text_content false (codes "hi") }
 
+-- mutable data of two bytes
 abbrev pub some_data : Object
 some_data = record { class = 4; content = data_content true (10 ∷ 11 ∷ []) }
 
+-- data of no bytes
 abbrev pub no_data : Object
 no_data = record { class = 4; content = data_content false [] }
 
+-- an array of the objects 0 and 1
 abbrev pub an_array : Object
 an_array = record { class = 6; content = array_content false (0 ∷ 1 ∷ []) }
 
--- a key that is compared by a text, and dictionaries in which it has the object 3 as its value
+-- an object as a key that is compared by a text
 abbrev pub key_of : ℕ → List ℕ → Cell
 key_of o text = record { id = o; leaf = record { class = 3; form = text_form text } }
 
+-- a dictionary in which that key of the object 0 has the object 3 as its value
 abbrev pub a_dictionary : Object
 a_dictionary = record { class = 7; content = dictionary_content false ((key_of 0 (codes "k"), 3) ∷ []) }
 
+-- a plain dictionary with the same pair
 abbrev pub a_plain_one : Object
 a_plain_one = record { class = 7; content = dictionary_content true ((key_of 0 (codes "k"), 3) ∷ []) }
 
+-- a string that is equal to that key
 abbrev pub a_key : Object
 a_key = record { class = 3; content = text_content false (codes "k") }
 
@@ -52,11 +61,11 @@ a_key = record { class = 3; content = text_content false (codes "k") }
 abbrev pub deed_on : Statement → (first second third : Object) → Deed
 deed_on s a b c = deed_at (point ∷ []) (a ∷ b ∷ c ∷ []) s (Some 0 ∷ Some 1 ∷ Some 2 ∷ [])
 
--- what a statement answers on them
+-- what a statement answers on two of them
 abbrev pub answer_on : Statement → (first second : Object) → Answer
 answer_on s a b = (deed_on s a b b).answer
 
--- the same where its variables are empty
+-- what a statement answers whose variables are empty
 abbrev pub answer_on_nothing : Statement → Answer
 answer_on_nothing s = (deed_at [] [] s (None ∷ None ∷ None ∷ [])).answer
 
@@ -64,9 +73,10 @@ answer_on_nothing s = (deed_at [] [] s (None ∷ None ∷ None ∷ [])).answer
 abbrev pub after : Statement → (first second : Object) → Content
 after s a b = content_after (deed_on s a b b).change a.content
 
--- what it takes in, and what it gives out
+-- what a statement takes in to the first of the three
 abbrev pub coming : Statement → (first second : Object) → List ℕ
 coming s a b = coming_in (deed_on s a b b).change a.content
 
+-- what a statement gives out of the first of the three
 abbrev pub going : Statement → (first second : Object) → List ℕ
 going s a b = going_out (deed_on s a b b).change a.content

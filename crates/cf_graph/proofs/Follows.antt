@@ -5,7 +5,7 @@ use Rattle.std.proofs.lemmas.Bool.{cases_eq, cases_lt}
 use Rattle.std.proofs.lemmas.List.{length_push}
 use Rattle.std.proofs.lemmas.List.Elements.{Contains-append_left, Contains-push, Contains-push_cases}
 use Rattle.std.proofs.lemmas.List.Sums.{sum_by-set}
-use Rattle.cf_graph.specs.Walks.{IsLatest, Marked, unmarked, Grows}
+use Rattle.cf_graph.specs.Walks.{IsLatest, Marked, marks_left, Grows}
 
 -- marks and stack before and after a place is marked
 pub record Marks (q : ℕ) (old new : List Bool) (had has : List ℕ) : Type 0 where
@@ -15,7 +15,7 @@ pub record Marks (q : ℕ) (old new : List Bool) (had has : List ℕ) : Type 0 w
   pub found : (r : ℕ) → Marked new r → Marked old r ⊎ (Contains has r × (q ≡ r))
   pub waiting : (r : ℕ) → Contains has r → Contains had r ⊎ Marked new r
   pub stacked : (r : ℕ) → Contains had r → Contains has r
-  pub spent : unmarked new + length has ≡ unmarked old + length had
+  pub spent : marks_left new + length has ≡ marks_left old + length had
 
 set-kept : (m : List Bool) (q r : ℕ) → q < length m → Marked m r → Marked (set m q true) r
 set-kept m q r h marked = elim (cases_eq r q) [

@@ -7,10 +7,10 @@ use Rattle.cf_graph.specs.Holders.{is_owning}
 abbrev pub leads_to : ℕ → Edge → Bool
 leads_to o e = e.object == o
 
--- it leads to the object from a thread or a parcel
+-- the reference leads to the object from a thread or a parcel
 abbrev pub owns : ℕ → Edge → Bool
 owns o e = leads_to o e && is_owning e.owner
 
--- it leads to the object from elsewhere
+-- the reference leads to the object from elsewhere
 abbrev pub holds : ℕ → Edge → Bool
 holds o e = leads_to o e && not (is_owning e.owner)

@@ -14,7 +14,7 @@ abbrev pub without : Reference → List Reference → List Reference
 without r [] = []
 without r (e ∷ es) = if same r e then es else e ∷ without r es
 
--- the same reference with another holder
+-- a reference with another holder
 abbrev pub moved : Reference → Holder → Reference
 moved r h = record { holder = h; object = r.object }
 

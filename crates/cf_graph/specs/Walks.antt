@@ -39,8 +39,8 @@ abbrev pub Marked : List Bool → ℕ → Type 0
 Marked marks q = slice_index_or marks q false ≡ true
 
 -- how many places are not marked
-abbrev pub unmarked : List Bool → ℕ
-unmarked marks = count_by not marks
+abbrev pub marks_left : List Bool → ℕ
+marks_left marks = count_by not marks
 
 -- a reference leads from one place to the other
 pub record Leads (froms tos : List ℕ) (p q : ℕ) : Type 0 where
@@ -57,4 +57,4 @@ pub record Grows (froms tos : List ℕ) (p k : ℕ) (old new : List Bool) (had h
   pub found : (q : ℕ) → Marked new q → Marked old q ⊎ (Contains has q × Leads froms tos p q)
   pub waiting : (q : ℕ) → Contains has q → Contains had q ⊎ Marked new q
   pub stacked : (q : ℕ) → Contains had q → Contains has q
-  pub spent : unmarked new + length has ≡ unmarked old + length had
+  pub spent : marks_left new + length has ≡ marks_left old + length had

@@ -34,18 +34,18 @@ pub fn reached(alloc: Global, edges: &[Edge]) -> Result<Vec<ObjId>, NoMemory>
     ensures rising { IfOk result (λ v. IsStrictlyIncreasing v.items) }
     ensures reached { IfOk result (λ v. (o : ℕ) → Contains v.items o ↔ Reaches edges.now o) }
 {
-    let marks = marked(alloc, edges)?;
-    chosen(alloc, &marks)
+    let marks = mark_reached(alloc, edges)?;
+    marked_objects(alloc, &marks)
 }
 
 // The places that a walk from the first place reaches.
-fn marked(alloc: Global, edges: &[Edge]) -> Result<Vec<bool>, NoMemory>
+fn mark_reached(alloc: Global, edges: &[Edge]) -> Result<Vec<bool>, NoMemory>
     ensures places { IfOk result (λ v. length v.items ≡ 66562) }
     ensures found { IfOk result (λ v. (o : ℕ) → Marked v.items (o + 2) ↔ Reaches edges.now o) }
 {
-    let links = linked(alloc, edges)?;
+    let links = link_edges(alloc, edges)?;
     let mut walk = Walk {
-        marks: unmarked(alloc, PLACES)?,
+        marks: no_marks(alloc, PLACES)?,
         stack: Vec::new(alloc),
     };
     walk.mark(0)?;
@@ -55,11 +55,11 @@ fn marked(alloc: Global, edges: &[Edge]) -> Result<Vec<bool>, NoMemory>
     Ok(walk.marks)
 }
 
-fn linked(alloc: Global, edges: &[Edge]) -> Result<Links, NoMemory>
+fn link_edges(alloc: Global, edges: &[Edge]) -> Result<Links, NoMemory>
     ensures links { IfOk result (λ l.
         IsLinked (sources edges.now) (length edges.now) l.latest.items l.before.items) }
 {
-    let mut latest = unlinked(alloc, PLACES)?;
+    let mut latest = no_links(alloc, PLACES)?;
     let mut before = Vec::new(alloc);
     for (i, edge) in edges.iter().enumerate() {
         let from = place_of(&edge.owner);
@@ -69,14 +69,14 @@ fn linked(alloc: Global, edges: &[Edge]) -> Result<Links, NoMemory>
     Ok(Links { latest, before })
 }
 
-fn unlinked(alloc: Global, places: usize) -> Result<Vec<usize>, NoMemory>
+fn no_links(alloc: Global, places: usize) -> Result<Vec<usize>, NoMemory>
     ensures places { IfOk result (λ v. length v.items ≡ places) }
     ensures empty { IfOk result (λ v. (p : ℕ) → slice_index v.items p ≡ 0) }
 {
     vec![in alloc; 0; places]
 }
 
-fn unmarked(alloc: Global, places: usize) -> Result<Vec<bool>, NoMemory>
+fn no_marks(alloc: Global, places: usize) -> Result<Vec<bool>, NoMemory>
     ensures places { IfOk result (λ v. length v.items ≡ places) }
     ensures empty { IfOk result (λ v. (p : ℕ) → slice_index_or v.items p false ≡ false) }
 {
@@ -140,7 +140,7 @@ fn place_of_object(o: ObjId) -> usize
 }
 
 // The objects whose places are marked.
-fn chosen(alloc: Global, marks: &[bool]) -> Result<Vec<ObjId>, NoMemory>
+fn marked_objects(alloc: Global, marks: &[bool]) -> Result<Vec<ObjId>, NoMemory>
     requires places { length marks.now ≡ 66562 }
     ensures rising { IfOk result (λ v. IsStrictlyIncreasing v.items) }
     ensures chosen { IfOk result (λ v. (o : ℕ) → Contains v.items o ↔ Marked marks.now (o + 2)) }

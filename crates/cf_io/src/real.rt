@@ -2,7 +2,7 @@
 ghost use Rattle.std.specs.Prelude.{◌≡◌, None};
 
 use crate::{Failed, Sink, Source};
-use cf_fault::raised;
+use cf_fault::raise_count;
 use std::fs::File;
 use std::io;
 use std::io::{Read, Write};
@@ -52,7 +52,7 @@ impl<R: Files> Source for FileSource<R> {
                 Ok(())
             }
             Err(_) => {
-                self.faults = raised(self.faults);
+                self.faults = raise_count(self.faults);
                 Err(Failed)
             }
         }
@@ -64,7 +64,7 @@ impl<R: Files> Source for FileSource<R> {
         {
             return Ok(count);
         }
-        self.faults = raised(self.faults);
+        self.faults = raise_count(self.faults);
         Err(Failed)
     }
 }
@@ -103,7 +103,7 @@ impl<R: Print> Sink for StdSink<R> {
         match io::writer(&self.rt).write(bytes) {
             Ok(count) if count > 0 || bytes.is_empty() => Ok(count),
             _ => {
-                self.faults = raised(self.faults);
+                self.faults = raise_count(self.faults);
                 Err(Failed)
             }
         }

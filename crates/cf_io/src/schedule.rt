@@ -4,7 +4,7 @@ ghost use Rattle.cf_fault.specs.Fault.{HasCause, HasRisen};
 ghost use Rattle.cf_io.specs.Faults.{faults_after};
 
 use crate::Failed;
-use cf_fault::raised;
+use cf_fault::raise_count;
 
 // Calls are counted from 0, and those that are listed fail.
 #[derive(Drop)]
@@ -38,7 +38,7 @@ impl Schedule {
         ensures cause { HasCause result self.old.faults self.new.faults }
     {
         let call = self.calls;
-        self.calls = raised(call);
+        self.calls = raise_count(call);
         if self.failing.contains(&call) {
             return Err(self.fault());
         }
@@ -53,7 +53,7 @@ impl Schedule {
         ensures never_falls { self.old.faults ≤ self.new.faults }
         ensures risen { HasRisen self.old.faults self.new.faults }
     {
-        self.faults = raised(self.faults);
+        self.faults = raise_count(self.faults);
         Failed
     }
 }

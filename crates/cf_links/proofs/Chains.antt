@@ -4,8 +4,8 @@ use Rattle.std.specs.Option.{is_none}
 use Rattle.std.specs.List.{IsDistinct, AllByRecursion}
 use Rattle.std.proofs.lemmas.Bool.{cases_eq, cases_Bool, eq-eqb, ne_eqb, false≢true, false_from_ne_true, or_right, or_parts}
 use Rattle.cf_links.specs.Lists.{is_in, node_after, node_before, put_before, without}
-use Rattle.cf_links.specs.Chain.{Web, next_from, prev_from, AreJoined, GoesOn, Puts, Removes, turned, walk}
-use Rattle.cf_links.proofs.Turned.{AreJoined-turned, GoesOn-turned, is_in-reverse}
+use Rattle.cf_links.specs.Chain.{Web, next_from, prev_from, AreJoined, GoesOn, Puts, Removes, mirror, walk}
+use Rattle.cf_links.proofs.Turned.{AreJoined-mirror, GoesOn-mirror, is_in-reverse}
 
 -- the nodes that the links lead to are the list's
 pub walk_is : (w : Web) (l : ℕ) (from : Option ℕ) (ns : List ℕ) (steps : ℕ) → length ns ≤ steps → GoesOn w l from ns
@@ -210,19 +210,19 @@ pub next_marked : (w : Web) (l : ℕ) (ns : List ℕ) (n b : ℕ) → GoesOn w l
     → w.next n ≡ Some b
     → w.list b ≡ Some l
 next_marked w l ns n b goes among found =
-    prev_marked (turned w) l None (reverse ns) n b (λ e. absurd (cc)) (GoesOn-turned w l ns goes)
+    prev_marked (mirror w) l None (reverse ns) n b (λ e. absurd (cc)) (GoesOn-mirror w l ns goes)
     (is_in-reverse n ns among) found
 
 pub first_marked : (w : Web) (l : ℕ) (ns : List ℕ) (b : ℕ) → GoesOn w l None ns → w.first l ≡ Some b
     → w.list b ≡ Some l
 first_marked w l ns b goes found =
-    last_marked (turned w) l None (reverse ns) b (λ e. absurd (cc)) (GoesOn-turned w l ns goes) found
+    last_marked (mirror w) l None (reverse ns) b (λ e. absurd (cc)) (GoesOn-mirror w l ns goes) found
 
 pub joined_after : (w : Web) (l : ℕ) (ns : List ℕ) (n : ℕ) → GoesOn w l None ns → is_in n ns ≡ true
     → AreJoined w l (Some n) (w.next n)
 joined_after w l ns n goes among =
-    AreJoined-turned (turned w) l (w.next n) (Some n)
-    (joined_before (turned w) l None (reverse ns) n (GoesOn-turned w l ns goes) (is_in-reverse n ns among))
+    AreJoined-mirror (mirror w) l (w.next n) (Some n)
+    (joined_before (mirror w) l None (reverse ns) n (GoesOn-mirror w l ns goes) (is_in-reverse n ns among))
 
 -- a test of one side finds the gap between two that are joined
 pub finds_by_to : (gap : Option ℕ → Option ℕ → Bool) (w : Web) (l : ℕ) (p q : Option ℕ) → AreJoined w l p q

@@ -18,7 +18,7 @@ use Rattle.cf_links.specs.declared.joins.Side.TheVariants.{Before, After}
 use Rattle.cf_links.specs.Lists.{Lists, nodes_of, next_of, prev_of, list_of, without, IsValid}
 use Rattle.cf_links.specs.Sides.{with_end, put_beside, end_gap, gap_beside}
 use Rattle.cf_links.proofs.Edits.{made_from_in, prev_of_other}
-use Rattle.cf_links.specs.Chain.{Leads, turned, next_from, GoesOn, AreLists, Puts, Removes, walk}
+use Rattle.cf_links.specs.Chain.{Leads, mirror, next_from, GoesOn, AreLists, Puts, Removes, walk}
 use Rattle.cf_links.proofs.Chains.{distinct, list_in, walk_is}
 use Rattle.cf_links.proofs.Webs.{list_of_mark, next_of_link, prev_of_link, next_of_other, first_link, one_place, marked_at, next_of_marked, prev_of_marked, first_is_marked, last_is_marked, push_is, insert_is, unlink_is, same_web, make_list_is}
 use Rattle.cf_links.specs.Fields.{web_of, lists_of, values_of, SameNodes, IsThere, IsSound, CanStand, view_of}
@@ -97,7 +97,7 @@ module _ {T : Type 0} where
   next_kept nodes ends l new (Some n) apart = refl
 
   prev_kept : (nodes : Slab (NodeRecord T)) (ends : List Ends) (l : ℕ) (new : Ends) (x : Option ℕ) → x ≢ None
-      → next_from (turned (web_of nodes (set ends l new))) l x ≡ next_from (turned (web_of nodes ends)) l x
+      → next_from (mirror (web_of nodes (set ends l new))) l x ≡ next_from (mirror (web_of nodes ends)) l x
   prev_kept nodes ends l new None apart = absurd (apart refl)
   prev_kept nodes ends l new (Some n) apart = refl
 
@@ -120,7 +120,7 @@ module _ {T : Type 0} where
   pub leads_last : (nodes : Slab (NodeRecord T)) (ends : List Ends) (l : ℕ) (old : Ends) (to : Option ℕ)
       → l < length ends
       → slice_get ends l ≡ Some old
-      → Leads (turned (web_of nodes ends)) (turned (web_of nodes
+      → Leads (mirror (web_of nodes ends)) (mirror (web_of nodes
       (set ends l (record { first = old.first; last = to })))) l None to
   leads_last nodes ends l old to within found =
       let new : Ends = record { first = old.first; last = to } in

@@ -1,10 +1,10 @@
 -- Lemmas on the single steps that change links.
 use Rattle.std.proofs.Common.{◌≡◌, ◌≢◌, ℕ, Option, Some, None, sym, ◌∙◌}
 use Rattle.cf_links.proofs.Turned.{turned_next}
-use Rattle.cf_links.specs.Chain.{Web, next_from, prev_from, Leads, turned, Joins, Marks, Clears, Puts, Removes}
+use Rattle.cf_links.specs.Chain.{Web, next_from, prev_from, Leads, mirror, Joins, Marks, Clears, Puts, Removes}
 
 -- the links backwards lead elsewhere, and those onwards stay
-turned_nexts : (mid new : Web) (l : ℕ) (from to : Option ℕ) → Leads (turned mid) (turned new) l from to
+turned_nexts : (mid new : Web) (l : ℕ) (from to : Option ℕ) → Leads (mirror mid) (mirror new) l from to
     → (k : ℕ) (x : Option ℕ) → next_from new k x ≡ next_from mid k x
 turned_nexts mid new l from to leads k None = leads.lasts k
 turned_nexts mid new l from to leads k (Some n) = leads.prevs n
@@ -15,7 +15,7 @@ leads_prevs old mid l from to leads k None = leads.lasts k
 leads_prevs old mid l from to leads k (Some n) = leads.prevs n
 
 pub joins_from : (old mid new : Web) (l : ℕ) (from to : Option ℕ) → Leads old mid l from to
-    → Leads (turned mid) (turned new) l to from → Joins old new l from to
+    → Leads (mirror mid) (mirror new) l to from → Joins old new l from to
 joins_from old mid new l from to onwards backwards =
     record {
       joined = record {

@@ -6,20 +6,20 @@ use Rattle.std.proofs.lemmas.Grind.{flat_map-append}
 use Rattle.std.proofs.lemmas.List.{append_assoc, reverse-append, reverse-reverse, append-nil, length-map, map-set}
 use Rattle.std.proofs.lemmas.List.Sorted.{IsPermutation-reverse, list_any-IsPermutation}
 use Rattle.cf_links.specs.Lists.{is_in, nodes_of, put_before, put_after}
-use Rattle.cf_links.specs.Chain.{Web, next_from, prev_from, AreJoined, GoesOn, AreLists, Puts, turned}
+use Rattle.cf_links.specs.Chain.{Web, next_from, prev_from, AreJoined, GoesOn, AreLists, Puts, mirror}
 use Rattle.cf_links.proofs.Edits.{nodes_of-map}
 
 -- a link onwards of the turned web is one backwards, and the other way round
-pub turned_next : (w : Web) (l : ℕ) (x : Option ℕ) → next_from (turned w) l x ≡ prev_from w l x
+pub turned_next : (w : Web) (l : ℕ) (x : Option ℕ) → next_from (mirror w) l x ≡ prev_from w l x
 turned_next w l None = refl
 turned_next w l (Some n) = refl
 
-turned_prev : (w : Web) (l : ℕ) (x : Option ℕ) → prev_from (turned w) l x ≡ next_from w l x
+turned_prev : (w : Web) (l : ℕ) (x : Option ℕ) → prev_from (mirror w) l x ≡ next_from w l x
 turned_prev w l None = refl
 turned_prev w l (Some n) = refl
 
-pub AreJoined-turned : (w : Web) (l : ℕ) (from to : Option ℕ) → AreJoined w l from to → AreJoined (turned w) l to from
-AreJoined-turned w l from to joined =
+pub AreJoined-mirror : (w : Web) (l : ℕ) (from to : Option ℕ) → AreJoined w l from to → AreJoined (mirror w) l to from
+AreJoined-mirror w l from to joined =
     record {
       onwards = turned_next w l to ∙ joined.backwards;
       backwards = turned_prev w l from ∙ joined.onwards;
@@ -30,40 +30,40 @@ reverse-cons m ms = reverse-append (m ∷ []) ms
 
 -- the nodes that stand before `from` are `done`, the last first
 goes_back : (w : Web) (l : ℕ) (from : Option ℕ) (ns done : List ℕ) → GoesOn w l from ns
-    → ((to : Option ℕ) → AreJoined w l from to → GoesOn (turned w) l to done)
-    → GoesOn (turned w) l None (reverse ns ++ done)
+    → ((to : Option ℕ) → AreJoined w l from to → GoesOn (mirror w) l to done)
+    → GoesOn (mirror w) l None (reverse ns ++ done)
 goes_back w l from [] done goes back = back None goes
 goes_back w l from (m ∷ ms) done goes back =
     let moved : reverse (m ∷ ms) ++ done ≡ reverse ms ++ m ∷ done =
     ap (λ xs. xs ++ done) (reverse-cons m ms) ∙ append_assoc (reverse ms) (m ∷ []) done in
-    subst (λ (xs : List ℕ). GoesOn (turned w) l None xs) (sym moved)
+    subst (λ (xs : List ℕ). GoesOn (mirror w) l None xs) (sym moved)
     (goes_back w l (Some m) ms (m ∷ done) goes.2
-    (λ to joined. (AreJoined-turned w l (Some m) to joined, goes.1, back (Some m) goes.0)))
+    (λ to joined. (AreJoined-mirror w l (Some m) to joined, goes.1, back (Some m) goes.0)))
 
-pub GoesOn-turned : (w : Web) (l : ℕ) (ns : List ℕ) → GoesOn w l None ns → GoesOn (turned w) l None (reverse ns)
-GoesOn-turned w l ns goes =
-    subst (λ (xs : List ℕ). GoesOn (turned w) l None xs) (append-nil (reverse ns))
-    (goes_back w l None ns [] goes (λ to joined. AreJoined-turned w l None to joined))
+pub GoesOn-mirror : (w : Web) (l : ℕ) (ns : List ℕ) → GoesOn w l None ns → GoesOn (mirror w) l None (reverse ns)
+GoesOn-mirror w l ns goes =
+    subst (λ (xs : List ℕ). GoesOn (mirror w) l None xs) (append-nil (reverse ns))
+    (goes_back w l None ns [] goes (λ to joined. AreJoined-mirror w l None to joined))
 
 pub is_in-reverse : (n : ℕ) (ns : List ℕ) → is_in n ns ≡ true → is_in n (reverse ns) ≡ true
 is_in-reverse n ns among = sym (list_any-IsPermutation (eqb n) ns (reverse ns) (IsPermutation-reverse ns)) ∙ among
 
-pub AreLists-turned : (w : Web) (lists : List (List ℕ)) → AreLists w lists → AreLists (turned w) (map reverse lists)
-AreLists-turned w lists are =
+pub AreLists-mirror : (w : Web) (lists : List (List ℕ)) → AreLists w lists → AreLists (mirror w) (map reverse lists)
+AreLists-mirror w lists are =
     let nodes = nodes_of-map reverse refl lists in
     record {
       going = λ l made.
-          rw (nodes l) (GoesOn-turned w l (nodes_of lists l) (are.going l (omega (arith, length-map lists reverse))));
+          rw (nodes l) (GoesOn-mirror w l (nodes_of lists l) (are.going l (omega (arith, length-map lists reverse))));
       listed = λ n l mark. rw (nodes l) (is_in-reverse n (nodes_of lists l) (are.listed n l mark));
       loose = λ n none. ((are.loose n none).1, (are.loose n none).0);
     }
 
-pub Puts-turned : (old new : Web) (l n : ℕ) (from to : Option ℕ) → Puts old new l n from to
-    → Puts (turned old) (turned new) l n to from
-Puts-turned old new l n from to puts =
+pub Puts-mirror : (old new : Web) (l n : ℕ) (from to : Option ℕ) → Puts old new l n from to
+    → Puts (mirror old) (mirror new) l n to from
+Puts-mirror old new l n from to puts =
     record {
-      before = AreJoined-turned new l (Some n) to puts.after;
-      after = AreJoined-turned new l from (Some n) puts.before;
+      before = AreJoined-mirror new l (Some n) to puts.after;
+      after = AreJoined-mirror new l from (Some n) puts.before;
       mark = puts.mark;
       nexts = λ x other apart. turned_next new l x ∙ puts.prevs x other apart ∙ sym (turned_next old l x);
       prevs = λ x other apart. turned_prev new l x ∙ puts.nexts x other apart ∙ sym (turned_prev old l x);

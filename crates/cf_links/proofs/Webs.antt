@@ -10,9 +10,9 @@ use Rattle.std.proofs.lemmas.List.Folds.{list_any-append}
 use Rattle.cf_links.specs.declared.joins.Side.{Side}
 use Rattle.cf_links.specs.declared.joins.Side.TheVariants.{Before, After}
 use Rattle.cf_links.specs.Sides.{with_end, put_beside, end_gap, gap_beside}
-use Rattle.cf_links.proofs.Turned.{AreLists-turned, Puts-turned, first_by_turning, after_by_turning}
+use Rattle.cf_links.proofs.Turned.{AreLists-mirror, Puts-mirror, first_by_turning, after_by_turning}
 use Rattle.cf_links.specs.Lists.{is_in, put_before, without, nodes_of, list_of, next_of, prev_of}
-use Rattle.cf_links.specs.Chain.{Web, prev_from, GoesOn, AreLists, Puts, Removes, turned}
+use Rattle.cf_links.specs.Chain.{Web, prev_from, GoesOn, AreLists, Puts, Removes, mirror}
 use Rattle.cf_links.proofs.Edits.{nodes_of-map, made_from_in, put_before_none, without_none, is_in-put_before, is_in-without, list_of_is, list_of_none, prev_of_other}
 use Rattle.cf_links.proofs.Chains.{distinct, list_in, node_after_is, node_before_is, put_where, FindsGap, is_some_of, different, put_goes, put_where_before, put_where_back, remove_goes, other_goes, prev_marked, next_marked, first_marked, last_marked, joined_before, joined_after, joined_last, finds_by_to}
 
@@ -250,9 +250,9 @@ pub push_is : (side : Side) (old new : Web) (lists : List (List ℕ)) (l n : ℕ
     (end_gap side (old.first l) (old.last l)).to → AreLists new (with_end side lists l n)
 push_is After old new lists l n are made outside puts = push_back_is old new lists l n are made outside puts
 push_is Before old new lists l n are made outside puts =
-    let done = push_back_is (turned old) (turned new) (map reverse lists) l n (AreLists-turned old lists are)
-    (omega (arith, length-map lists reverse)) outside (Puts-turned old new l n None (old.first l) puts) in
-    subst (λ (xss : List (List ℕ)). AreLists new xss) (first_by_turning lists l n) (AreLists-turned (turned new) _ done)
+    let done = push_back_is (mirror old) (mirror new) (map reverse lists) l n (AreLists-mirror old lists are)
+    (omega (arith, length-map lists reverse)) outside (Puts-mirror old new l n None (old.first l) puts) in
+    subst (λ (xss : List (List ℕ)). AreLists new xss) (first_by_turning lists l n) (AreLists-mirror (mirror new) _ done)
 
 -- a node comes in right beside another; after it, by turning the links round
 pub insert_is : (side : Side) (old new : Web) (lists : List (List ℕ)) (l at n : ℕ) → AreLists old lists
@@ -262,10 +262,10 @@ pub insert_is : (side : Side) (old new : Web) (lists : List (List ℕ)) (l at n 
 insert_is Before old new lists l at n are mark outside puts =
     insert_before_is old new lists l at n are mark outside puts
 insert_is After old new lists l at n are mark outside puts =
-    let done = insert_before_is (turned old) (turned new) (map reverse lists) l at n (AreLists-turned old lists are)
-    mark outside (Puts-turned old new l n (Some at) (old.next at) puts) in
+    let done = insert_before_is (mirror old) (mirror new) (map reverse lists) l at n (AreLists-mirror old lists are)
+    mark outside (Puts-mirror old new l n (Some at) (old.next at) puts) in
     subst (λ (xss : List (List ℕ)). AreLists new xss) (after_by_turning at n lists)
-    (AreLists-turned (turned new) _ done)
+    (AreLists-mirror (mirror new) _ done)
 
 pub unlink_is : (old new : Web) (lists : List (List ℕ)) (l n : ℕ) → AreLists old lists → old.list n ≡ Some l
     → Removes old new l n (old.prev n) (old.next n) → AreLists new (map (without n) lists)

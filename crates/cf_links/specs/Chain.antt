@@ -78,8 +78,8 @@ pub record Leads (old new : Web) (l : ℕ) (from to : Option ℕ) : Type 0 where
   pub marks : (n : ℕ) → new.list n ≡ old.list n
 
 -- the web with each link turned round
-abbrev pub turned : Web → Web
-turned w = record { first = w.last; last = w.first; next = w.prev; prev = w.next; list = w.list }
+abbrev pub mirror : Web → Web
+mirror w = record { first = w.last; last = w.first; next = w.prev; prev = w.next; list = w.list }
 
 -- the node `to` comes right after `from` in the list l, and no other link changes
 pub record Joins (old new : Web) (l : ℕ) (from to : Option ℕ) : Type 0 where

@@ -2,7 +2,7 @@
 ghost use Rattle.std.specs.Prelude.{◌≡◌, ◌<◌, List, None, Some, length};
 ghost use Rattle.cf_links.specs.declared.joins.Ends.{Ends};
 ghost use Rattle.std.specs.Option.{ForSome};
-ghost use Rattle.cf_links.specs.Chain.{Leads, turned, Joins, Marks, Clears, Puts, Removes};
+ghost use Rattle.cf_links.specs.Chain.{Leads, mirror, Joins, Marks, Clears, Puts, Removes};
 ghost use Rattle.cf_links.specs.Fields.{CanStand, IsThere, SameNodes, web_of};
 ghost use Rattle.cf_links.specs.Sides.{end_gap, gap_beside};
 
@@ -107,7 +107,7 @@ fn set_prev<T>(
 )
     requires there { ForSome from (λ b. IsThere nodes.old b) }
     requires made { list < length ends.old }
-    ensures leads { Leads (turned (web_of nodes.old ends.old)) (turned (web_of nodes.new ends.new)) list from to }
+    ensures leads { Leads (mirror (web_of nodes.old ends.old)) (mirror (web_of nodes.new ends.new)) list from to }
     ensures same { SameNodes nodes.old nodes.new }
     ensures count { length ends.new ≡ length ends.old }
 {

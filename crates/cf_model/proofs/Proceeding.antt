@@ -9,7 +9,7 @@ use Rattle.cf_syntax.specs.Forms.{ownership_of}
 use Rattle.cf_syntax.specs.Owned.{Owned}
 use Rattle.cf_contents.specs.Contents.{Object}
 use Rattle.cf_contents.specs.Deeds.{Origin, nowhere, fresh, there, Change, first_of, deed_at}
-use Rattle.cf_contents.proofs.ContentLaws.{length-changed_by}
+use Rattle.cf_contents.proofs.ContentLaws.{length-objects_after}
 use Rattle.cf_model.specs.declared.action.Action.{Action}
 use Rattle.cf_model.specs.declared.action.Entry.{Entry}
 use Rattle.cf_model.specs.State.{State, Work, start, trimmed}
@@ -65,7 +65,7 @@ bound_one (fresh ob) objects = inr (length-append objects (ob ∷ []))
 bound_one (there o) objects = inl (ap length (append-nil objects))
 
 touch_one : (t : ℕ) (ownership : Ownership) (answer : Answer) (origin : Origin) (used : Option ℕ) (change : Change) (st : State) → let after = (touch_step t ownership answer origin used change st).objects in (length after ≡ length st.objects) ⊎ (length after ≡ length st.objects + 1)
-touch_one t Keeps answer origin used change st = inl (length-changed_by used change st.objects)
+touch_one t Keeps answer origin used change st = inl (length-objects_after used change st.objects)
 touch_one t (Binds v) answer origin used change st = bound_one origin st.objects
 touch_one t (Retains v) answer origin used change st = inl (ap length (append-nil st.objects))
 touch_one t (Releases v) answer origin used change st = inl (ap length (append-nil st.objects))

@@ -9,10 +9,10 @@ use Rattle.cf_syntax.specs.declared.statement.Ownership.TheVariants.{Keeps, Bind
 use Rattle.cf_syntax.specs.Forms.{ownership_of, makes_object}
 use Rattle.cf_contents.specs.Contents.{Object, size_at}
 use Rattle.cf_contents.specs.Deeds.{Origin, nowhere, fresh, there, Change, first_of, deed_at}
-use Rattle.cf_contents.proofs.ContentLaws.{length-changed_by}
+use Rattle.cf_contents.proofs.ContentLaws.{length-objects_after}
 use Rattle.cf_contents.proofs.FormLaws.{MakesOnly, MakesSmall, form_fits}
 use Rattle.cf_contents.proofs.SlotLaws.{named_in}
-use Rattle.cf_contents.proofs.Sizes.{size-changed_by, size-more}
+use Rattle.cf_contents.proofs.Sizes.{size-objects_after, size-more}
 use Rattle.cf_model.specs.declared.action.Action.{Action}
 use Rattle.cf_model.specs.declared.action.Entry.{Entry}
 use Rattle.cf_model.specs.State.{State, start}
@@ -28,7 +28,7 @@ bound_few true (fresh ob) objects only room few = omega (arith, room refl, lengt
 bound_few false (fresh ob) objects only room few = absurd only
 
 touch_few : (t : ℕ) (ownership : Ownership) (making : Bool) (answer : Answer) (origin : Origin) (used : Option ℕ) (change : Change) (st : State) → MakesOnly making origin → (making ≡ true → length st.objects < 65536) → length st.objects ≤ 65536 → length (touch_step t ownership answer origin used change st).objects ≤ 65536
-touch_few t Keeps making answer origin used change st only room few = omega (arith, few, length-changed_by used change st.objects)
+touch_few t Keeps making answer origin used change st only room few = omega (arith, few, length-objects_after used change st.objects)
 touch_few t (Binds v) making answer origin used change st only room few = bound_few making origin st.objects only room few
 touch_few t (Retains v) making answer origin used change st only room few = omega (arith, few, length-append st.objects [])
 touch_few t (Releases v) making answer origin used change st only room few = omega (arith, few, length-append st.objects [])
@@ -70,7 +70,7 @@ made_small n (fresh ob) objects o small h = omega (arith, h, size-more objects o
 touch_small : (t n : ℕ) (ownership : Ownership) (answer : Answer) (origin : Origin) (used : Option ℕ) (change : Change) (st : State) (o : ℕ) → MakesSmall origin
     → length (named_in change) ≤ 2 → size_at (slice_get st.objects o) ≤ n
     → size_at (slice_get (touch_step t ownership answer origin used change st).objects o) ≤ n + 2
-touch_small t n Keeps answer origin used change st o small few h = omega (arith, h, few, size-changed_by used change st.objects o)
+touch_small t n Keeps answer origin used change st o small few h = omega (arith, h, few, size-objects_after used change st.objects o)
 touch_small t n (Binds v) answer origin used change st o small few h = omega (arith, made_small n origin st.objects o small h)
 touch_small t n (Retains v) answer origin used change st o small few h = rw append-nil (omega (arith, h))
 touch_small t n (Releases v) answer origin used change st o small few h = rw append-nil (omega (arith, h))

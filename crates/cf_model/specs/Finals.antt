@@ -1,4 +1,4 @@
--- Finalised at most once, never used later, and unfinalised exactly where a reference is left. This
+-- Finalised at most once, never used later, and unfinalised exactly if a reference is left. This
 -- project's own, after the ownership rule.
 use Rattle.std.specs.Prelude.{◌≡◌, ℕ, ◌+◌, ◌<◌, ◌≤◌, ◌↔◌, ◌⊎◌, List, [], ◌∷◌, ◌++◌, Option, Some, None, IsTrue, if◌then◌else◌, ◌==◌}
 use Rattle.cf_ids.specs.declared.answer.Answer.{Answer}

@@ -29,7 +29,7 @@ abbrev pub object_at : List Binding → Option ℕ → Option ℕ
 object_at bs None = None
 object_at bs (Some v) = look v bs
 
--- the objects of the variables that a statement uses, as three places
+-- the objects of all variables that a statement uses, as three places
 abbrev pub used_objects : List Binding → Statement → List (Option ℕ)
 used_objects bs s = map (object_at bs) (pad (used_by s))
 

@@ -38,7 +38,7 @@ shown_words _ = None
 abbrev pub object_line : ℕ → List ℕ → ℕ → List (List ℕ) → List ℕ
 object_line t action o answer = joined (thread_word t ∷ action ∷ number_word o ∷ answer)
 
--- that line, if there is an object and the answer is one that is written
+-- the line of an action on an object, if there is an object and the answer is one that is written
 abbrev pub line_if : ℕ → List ℕ → Option ℕ → Option (List (List ℕ)) → Option (List ℕ)
 line_if t action (Some o) (Some answer) = Some (object_line t action o answer)
 line_if t action (Some o) None = None

@@ -6,7 +6,7 @@ use Rattle.cf_graph.specs.Edges.{Reference, weigh, leading_to, from_thread}
 use Rattle.cf_contents.specs.Contents.{Object, slots_at}
 pub use Rattle.cf_contents.specs.Contents.{times}
 
--- the object of a variable that was bound, or none where the variable is empty
+-- the object of a variable that was bound, or none if the variable is empty
 pub record Binding : Type 0 where
   pub variable : ℕ
   pub object : Option ℕ
@@ -38,7 +38,7 @@ pub record State : Type 0 where
 abbrev pub start : State
 start = record { objects = []; finalised = []; edges = []; dropped = []; frame = record { block = 0; number = 0; bindings = []; work = []; is_done = false } }
 
--- the object of a variable, or none where it is empty or not bound
+-- the object of a variable, or none if it is empty or not bound
 abbrev pub look : ℕ → List Binding → Option ℕ
 look v [] = None
 look v (b ∷ bs) = if b.variable == v then b.object else look v bs

@@ -15,7 +15,7 @@ use Rattle.cf_graph.specs.Holders.{Holder, variable, owed, slot}
 use Rattle.cf_graph.specs.Edges.{Reference}
 use Rattle.cf_graph.specs.Operations.{Operation, add, move, remove, run}
 use Rattle.cf_contents.specs.Contents.{Object}
-use Rattle.cf_contents.specs.Deeds.{Origin, nowhere, fresh, there, Change, first_of, object_of, deed_at, changed_by, taken_in, given_out}
+use Rattle.cf_contents.specs.Deeds.{Origin, nowhere, fresh, there, Change, first_of, object_of, deed_at, objects_after, taken_in, given_out}
 use Rattle.cf_model.specs.declared.action.Action.{Action}
 use Rattle.cf_model.specs.declared.action.Action.TheVariants as actions
 use Rattle.cf_model.specs.State.{Binding, Work, release_of, slots_of, State, trimmed, is_live, degree}
@@ -201,7 +201,7 @@ change_step t answer used change st = record {
   answer = answer;
   operations = change_operations t used (object_of st.objects used) change;
   cuts = None;
-  objects = changed_by used change st.objects;
+  objects = objects_after used change st.objects;
   bindings = [];
   number = st.frame.number + 1;
   drops = [];

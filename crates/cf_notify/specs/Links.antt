@@ -19,26 +19,31 @@ is_mark l (Some m) = m == l
 abbrev pub is_in : List (Option ℕ) → ℕ → ℕ → Bool
 is_in marks l k = is_mark l (slice_index_or marks k None)
 
--- the first number that passes, of those from one on; and the last one that passes, of those below one
+-- the first number that passes, of those from one on
 abbrev pub IsNext : (ℕ → Bool) → ℕ → Option ℕ → Type 0
 IsNext test from None = (j : ℕ) → from ≤ j → test j ≡ false
 IsNext test from (Some n) = (from ≤ n) × (test n ≡ true) × ((j : ℕ) → from ≤ j → j < n → test j ≡ false)
 
+-- the last number that passes, of those below one
 abbrev pub IsLast : (ℕ → Bool) → ℕ → Option ℕ → Type 0
 IsLast test to None = (j : ℕ) → j < to → test j ≡ false
 IsLast test to (Some n) = (n < to) × (test n ≡ true) × ((j : ℕ) → n < j → j < to → test j ≡ false)
 
 -- ---- links
 
+-- the link of a number that is in no list
 abbrev pub no_link : Link
 no_link = record { list = None; prev = None; next = None }
 
+-- the ends of an empty list
 abbrev pub no_ends : Ends
 no_ends = record { first = None; last = None }
 
+-- the link of a number
 abbrev pub link_at : List Link → ℕ → Link
 link_at links k = slice_index_or links k no_link
 
+-- the ends of a list
 abbrev pub ends_at : List Ends → ℕ → Ends
 ends_at ends l = slice_index_or ends l no_ends
 
@@ -61,6 +66,7 @@ abbrev pub next_links : Option ℕ → Option ℕ → List Link → List Link
 next_links None to links = links
 next_links (Some k) to links = slice_set links k (record (link_at links k) { next = to })
 
+-- the ends after that: the list itself leads to its first number
 abbrev pub next_ends : ℕ → Option ℕ → Option ℕ → List Ends → List Ends
 next_ends l None to ends = slice_set ends l (record (ends_at ends l) { first = to })
 next_ends l (Some k) to ends = ends
@@ -70,6 +76,7 @@ abbrev pub prev_links : Option ℕ → Option ℕ → List Link → List Link
 prev_links None from links = links
 prev_links (Some k) from links = slice_set links k (record (link_at links k) { prev = from })
 
+-- the ends after that: the list itself leads to its last number
 abbrev pub prev_ends : ℕ → Option ℕ → Option ℕ → List Ends → List Ends
 prev_ends l None from ends = slice_set ends l (record (ends_at ends l) { last = from })
 prev_ends l (Some k) from ends = ends

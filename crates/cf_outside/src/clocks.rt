@@ -6,7 +6,7 @@ ghost use Rattle.cf_outside.specs.Times.{reached, times_left};
 /// A clock, which says at what time a wait ends. Times are whole numbers of ticks: this project's own unit, which
 /// stands for no length of time.
 pub trait Clock {
-    /// The times, one for each wait to come, where it tells them.
+    /// The times, one for each wait to come, if it tells them.
     ghost times: { Self → Option (List ℕ) };
 
     /// Waits for the time `due`, and says which time was reached: `due` or a later one.

@@ -17,9 +17,9 @@ pub struct Case {
     pub sizes: Vec<usize>,
     /// The exit status.
     pub status: u8,
-    /// The bytes that are written, where they are told.
+    /// The bytes that are written, if they are told.
     pub written: Option<Vec<u8>>,
-    /// Each entry of the journal and its answer, a line each, where they are told.
+    /// Each entry of the journal and its answer, a line each, if they are told.
     pub answers: Option<String>,
     /// How many entries the journal has, where that is told.
     pub entries: Option<usize>,

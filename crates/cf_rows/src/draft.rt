@@ -162,7 +162,7 @@ impl<'a> Draft<'a> {
         })
     }
 
-    // The wanted answers, where they are told.
+    // The wanted answers, if they are told.
     fn wanted_answers(&self, at: &mut usize) -> Result<Option<String>, Fault> {
         if self.answers.is_empty() {
             return Ok(None);
@@ -172,7 +172,7 @@ impl<'a> Draft<'a> {
         Ok(Some(answers))
     }
 
-    // The wanted bytes, where they are told. Something has to be wanted.
+    // The wanted bytes, if they are told. Something has to be wanted.
     fn wanted_bytes(&self, at: &mut usize) -> Result<Option<Vec<u8>>, Fault> {
         if self.name.is_empty() || !self.is_written_told && self.answers.is_empty() {
             return Err(Fault::Incomplete);

@@ -1,5 +1,5 @@
 //! The program `cf_rows`: it runs the worked cases of its folder by the top call, over files and sinks in memory,
-//! writes a line for each, and ends with status 0 where each is as its file says.
+//! writes a line for each, and ends with status 0 if each is as its file says.
 #![tactic(auto)]
 
 mod answers;

@@ -7,13 +7,13 @@ use Rattle.cf_model.specs.declared.action.Entry.{Entry}
 use Rattle.cf_run.specs.declared.report.Report.{Report}
 use denote.Ref.{Bor}
 
--- what a source tells: its files and what is left of the open one, where it tells them, and its count of faults
+-- what a source tells: its files and what is left of the open one, if it tells them, and its count of faults
 pub record SourceState : Type 0 where
   pub files : Option (List File)
   pub left : Option (List ℕ)
   pub faults : ℕ
 
--- what a sink tells: the bytes that it has taken, where it tells them, and its count of faults
+-- what a sink tells: the bytes that it has taken, if it tells them, and its count of faults
 pub record SinkState : Type 0 where
   pub taken : Option (List ℕ)
   pub faults : ℕ

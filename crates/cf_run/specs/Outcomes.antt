@@ -29,7 +29,7 @@ use Rattle.cf_ids.specs.declared.limits.TheConstants.{SCRIPT_BYTES}
 abbrev pub script_bytes : ℕ
 script_bytes = SCRIPT_BYTES
 
--- a file of this name has these bytes, where the source tells its files
+-- a file of this name has these bytes, if the source tells its files
 abbrev pub IsContent : Option (List File) → List ℕ → List ℕ → Type 0
 IsContent files file bytes = IfSome files (λ told. content_of told file ≡ Some bytes)
 

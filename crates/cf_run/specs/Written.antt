@@ -17,7 +17,7 @@ pub record Cut (due : List ℕ) (old new : Option (List ℕ)) : Type 0 where
   pub part : Part due old new
   pub short : 0 < length part.rest
 
--- what an error tells: a fault only where the sink's count rose, and want of memory leaves the count
+-- what an error tells: a fault only if the sink's count rose, and want of memory leaves the count
 abbrev pub IsCause : Unwritten → (faults faults' : ℕ) → Type 0
 IsCause Fault faults faults' = HasRisen faults faults'
 IsCause NoMemory faults faults' = faults' ≡ faults

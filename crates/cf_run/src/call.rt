@@ -78,10 +78,9 @@ fn run_command<S: Source, K: Sink>(
 /// source, run it in the serial order, and write the lines of its journal to the sink. Every other command line is
 /// answered by a usage line. Lines are written after the run has ended, each by one `write_all`.
 ///
-/// The status is 0 if the script ran to its end; 2 if the words are of no form; 3 if the file is refused; 4
-/// if it could not be read; 5 if a line could not be written; 6 if memory ran out; 7 if the journal was at
-/// its limit of 1,000,000 entries before the script's end; 8 if the next action makes an object, and 65,536 were
-/// made.
+/// The status is 0 if the script ran to its end; 2 if the words are of no form; 3 where the file is refused; 4 where
+/// it could not be read; 5 where a line could not be written; 6 where memory ran out; 7 where the journal was at its
+/// limit of 1,000,000 entries before the script's end; 8 where the next action makes an object, and 65,536 were made.
 pub fn cfrun_serial<S: Source, K: Sink>(
     alloc: Global,
     words: &[&str],

@@ -71,7 +71,7 @@ passed : (t : Bool) (r : Result (Unit {0}) Refusal) → (require t >>= (λ _. r)
 passed true r e = (refl, e)
 passed false r e = absurd cc
 
--- where the words are of their classes, the word at a place is
+-- if the words are of their classes, the word at a place is
 of_at : (cs : List Operand) (ws : List (List ℕ)) (i : ℕ) → are_of cs ws ≡ Ok tt → i < length cs → i < length ws
     → is_of (get_or cs i Fixed) (get_or ws i []) ≡ true
 of_at [] ws i e inside within = absurd (omega arith)

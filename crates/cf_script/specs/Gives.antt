@@ -15,7 +15,7 @@ abbrev pub GivesAs : {X Y : Type 0} → (X → Y) → Result X ScriptFault → R
 GivesAs view (Ok x) found = found ≡ Ok (view x)
 GivesAs view (Err f) found = Fails f found
 
--- the same of a script
+-- what a reader of scripts returned is what is found, unless memory ran out
 abbrev pub Gives : Result Script ScriptFault → Result Script Refusal → Type 0
 Gives (Ok s) found = found ≡ Ok s
 Gives (Err (faults.Refused r)) found = found ≡ Err r

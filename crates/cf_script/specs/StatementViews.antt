@@ -8,6 +8,7 @@ use Rattle.cf_syntax.specs.Table.{◌>>=◌, With, operands_of, variables_of, st
 use Rattle.cf_script.specs.declared.statements.Stated.{Stated}
 use Rattle.cf_script.specs.Views.{texts}
 
+-- what a statement with names stands for
 abbrev pub statement_words_of : Stated → With Statement
 statement_words_of s = record { names = texts s.names.keys; value = s.statement }
 

@@ -269,7 +269,7 @@ fn field_statement(form: FieldForm, variable: VarId, second: VarId, words: &[&[u
     }
 }
 
-/// The variable at a place of a form, or 0 where it has none there.
+/// The variable at a place of a form, or 0 if it has none there.
 fn variable_at(variables: &[VarId], i: usize) -> VarId
     ensures { result ≡ slice_index variables.now i }
 {

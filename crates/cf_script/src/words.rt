@@ -39,7 +39,7 @@ const RESERVED: [&[u8]; 21] = [
     b"observer",
 ];
 
-/// Where the byte after this one stands, or `None` where this one may not stand here.
+/// Where the byte after this one stands, or `None` if this one may not stand here.
 fn goes(place: Place, byte: u8) -> Option<Place>
     ensures { result ≡ goes place byte }
 {
@@ -72,7 +72,7 @@ fn start(first: u8) -> Place
     }
 }
 
-/// How many bytes go on with a word whose place is given, or `None` where it is not of its form.
+/// How many bytes go on with a word whose place is given, or `None` if it is not of its form.
 fn word_len(place: Place, bytes: &[u8]) -> Option<usize>
     requires { IsWithin place }
     ensures words { MatchOption result (words_from place bytes.now ≡ None)
@@ -92,7 +92,7 @@ fn word_len(place: Place, bytes: &[u8]) -> Option<usize>
     }
 }
 
-/// The first word, and what stands after it; `None` where it is not of its form.
+/// The first word, and what stands after it; `None` if it is not of its form.
 fn first_word(bytes: &[u8]) -> Option<(&[u8], &[u8])>
     requires some { 0 < length bytes.now }
     requires starts { is_blank (slice_index bytes.now 0) ≡ false }

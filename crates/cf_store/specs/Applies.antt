@@ -23,35 +23,39 @@ abbrev pub IsReadyAt : BodyChange → Option BodyView → Type 0
 IsReadyAt change None = Unit {0}
 IsReadyAt change (Some b) = CanBe change b.content × HasRoom change b
 
--- where the object comes from that a deed binds; a new body is live and has given up nothing
+-- where the object comes from that a deed binds
 abbrev pub origin_of : Origin → deeds.Origin
 origin_of Nowhere = deeds.nowhere
 origin_of (Fresh b) = deeds.fresh (object_in b)
 origin_of (There o) = deeds.there o
 
+-- a new body that a deed makes is live and has given up nothing
 abbrev pub IsNew : Origin → Type 0
 IsNew Nowhere = Unit {0}
 IsNew (Fresh b) = held_of b ≡ live (object_in b)
 IsNew (There o) = Unit {0}
 
+-- a deed of the program, as the definitions have it
 abbrev pub deed_by : Plan → deeds.Deed
 deed_by d = record { answer = d.answer; origin = origin_of d.origin; change = done_of d.change }
 
+-- a deed that is ready, as the definitions have it
 abbrev pub ready_by : ReadyPlan → Ready
 ready_by r = record { object = r.object; deed = deed_by r.deed }
 
--- it is the deed, and can be done to the first object that is used
+-- what the code made is the deed, and can be done to the first object that is used
 pub record Does (deed : deeds.Deed) (a : Option Numbered) (d : Plan) : Type 0 where
   pub is : deed_by d ≡ deed
   pub new : IsNew d.origin
   pub can : CanBeAt d.change a
 
--- it is a deed that changes nothing
+-- what the code made is the deed, and it changes nothing
 pub record IsAlone (deed : deeds.Deed) (d : Plan) : Type 0 where
   pub is : deed_by d ≡ deed
   pub new : IsNew d.origin
   pub change : d.change ≡ Nothing
 
+-- the body of a number, if there is a number and a body
 abbrev pub body_at : List BodyView → Option ℕ → Option BodyView
 body_at bodies None = None
 body_at bodies (Some o) = slice_get bodies o

@@ -73,7 +73,7 @@ impl Store {
         self.bodies.len()
     }
 
-    /// The type of an object, or `None` where it was not made.
+    /// The type of an object, or `None` if it was not made.
     pub fn class(&self, o: ObjId) -> Option<TypeId>
         ensures { result ≡ option_map (λ (h : Held). h.object.class) (slice_get self.now.bodies o) }
     {
@@ -101,7 +101,7 @@ impl Store {
         }
     }
 
-    /// The object in the slot at a place of those that a body had: none where the slot is given up, or was not
+    /// The object in the slot at a place of those that a body had: none if the slot is given up, or was not
     /// there.
     pub fn slot(&self, o: ObjId, k: usize) -> Option<ObjId>
         ensures left { let given_up = given_up_in self.now.bodies o in

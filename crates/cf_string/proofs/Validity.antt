@@ -3,7 +3,7 @@ use Rattle.std.proofs.Common.{◌≡◌, ℕ, ◌+◌, ◌-◌, ◌<◌, ◌≤�
 use Rattle.std.proofs.lemmas.Bool.{cases_lt, or_parts, ltb-false}
 use Rattle.std.proofs.lemmas.List.{get_or-take, get_or-drop, get_or_append_left, get_or-append_right, get_or_past, length-take, length-take-le, take-append-le, take-take, drop_at, append_assoc}
 use Rattle.std.specs.Char.Utf16.{is_high_surrogate, is_low_surrogate}
-use Rattle.cf_string.specs.Units.{IsText, splits_pair, replaced}
+use Rattle.cf_string.specs.Units.{IsText, splits_pair, replacement}
 use Rattle.cf_string.specs.Faults.{split_fault}
 use Rattle.cf_string.specs.declared.faults.StrFault.TheVariants.{Range, SplitsPair}
 
@@ -122,9 +122,9 @@ IsText-part units at len text none =
     (rw (get_or-drop at units len 0) (low_at_split units (at + len) text cut.back))
 
 -- a text with a range replaced by another text; by the empty one it is taken out, and an empty range takes it in
-pub IsText-replaced : (units : List ℕ) (at len : ℕ) (other : List ℕ) → IsText units → IsText other
-    → split_fault units at len ≡ None → IsText (replaced units at len other)
-IsText-replaced units at len other text put none =
+pub IsText-replacement : (units : List ℕ) (at len : ℕ) (other : List ℕ) → IsText units → IsText other
+    → split_fault units at len ≡ None → IsText (replacement units at len other)
+IsText-replacement units at len other text put none =
     let cut = whole_split units at len none in
     IsText-append (take at units ++ other) (drop (at + len) units)
     (IsText-append (take at units) other (IsText-take units at text (low_at_split units at text cut.front)) put)
@@ -132,7 +132,7 @@ IsText-replaced units at len other text put none =
 
 -- the second text is put in after the range, and then the range is taken out
 pub replaced_in_two : (units : List ℕ) (at len : ℕ) (other put : List ℕ) → at + len ≤ length units
-    → put ≡ replaced units (at + len) 0 other → take at put ++ drop (at + len) put ≡ replaced units at len other
+    → put ≡ replacement units (at + len) 0 other → take at put ++ drop (at + len) put ≡ replacement units at len other
 replaced_in_two units at len other put fits is =
     let cut = at + len in
     let front = take cut units in

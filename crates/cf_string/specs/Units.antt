@@ -25,8 +25,8 @@ abbrev pub splits_pair : List ℕ → ℕ → Bool
 splits_pair units i = is_high_surrogate (slice_index units (i - 1)) && is_low_surrogate (slice_index units i)
 
 -- the units with `len` of them from `at` on taken out, and those of `other` put in there (this project's own)
-abbrev pub replaced : List ℕ → ℕ → ℕ → List ℕ → List ℕ
-replaced units at len other = take at units ++ other ++ drop (at + len) units
+abbrev pub replacement : List ℕ → ℕ → ℕ → List ℕ → List ℕ
+replacement units at len other = take at units ++ other ++ drop (at + len) units
 
 -- the units of `other` stand in the text, the first of them at the place i. An empty `other` stands at each
 -- place up to the length

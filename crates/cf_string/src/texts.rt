@@ -5,7 +5,7 @@ ghost use Rattle.std.specs.Ordering.{nat_cmp};
 ghost use Rattle.std.specs.Cmp.Lexicographic.{slice_cmp};
 ghost use Rattle.std.specs.Str.{IsUtf8, chars};
 ghost use Rattle.cf_string.specs.Faults.{bytes_fault, split_fault, done_unless, IsRefusedFor};
-ghost use Rattle.cf_string.specs.Units.{IsFirstPlace, IsText, StandsAt, StandsNowhereFrom, replaced, units_of};
+ghost use Rattle.cf_string.specs.Units.{IsFirstPlace, IsText, StandsAt, StandsNowhereFrom, replacement, units_of};
 
 use crate::decoding::char_at;
 use crate::edits::{push_all, put_in, take_out};
@@ -130,7 +130,7 @@ impl Str {
     pub fn insert(&mut self, at: usize, other: &Str) -> Result<(), StrFault>
         requires { length other.now.units ≤ self.old.room }
         ensures fault { result ≡ done_unless (split_fault self.old.units at 0) }
-        ensures units { OnOk result (self.new.units ≡ replaced self.old.units at 0 other.now.units) }
+        ensures units { OnOk result (self.new.units ≡ replacement self.old.units at 0 other.now.units) }
         ensures room { OnOk result (self.new.room + length other.now.units ≡ self.old.room) }
         ensures refused { OnErr result (self.new ≡ self.old) }
     {
@@ -145,7 +145,7 @@ impl Str {
     /// and `SplitsPair` come exactly if `split_fault` gives them. A refusal changes nothing.
     pub fn delete(&mut self, at: usize, len: usize) -> Result<(), StrFault>
         ensures fault { result ≡ done_unless (split_fault self.old.units at len) }
-        ensures units { OnOk result (self.new.units ≡ replaced self.old.units at len []) }
+        ensures units { OnOk result (self.new.units ≡ replacement self.old.units at len []) }
         ensures room { OnOk result (self.new.room ≡ self.old.room + len) }
         ensures refused { OnErr result (self.new ≡ self.old) }
     {
@@ -162,7 +162,7 @@ impl Str {
     pub fn replace(&mut self, at: usize, len: usize, other: &Str) -> Result<(), StrFault>
         requires { length other.now.units ≤ self.old.room }
         ensures fault { result ≡ done_unless (split_fault self.old.units at len) }
-        ensures units { OnOk result (self.new.units ≡ replaced self.old.units at len other.now.units) }
+        ensures units { OnOk result (self.new.units ≡ replacement self.old.units at len other.now.units) }
         ensures room { OnOk result (self.new.room + length other.now.units ≡ self.old.room + len) }
         ensures refused { OnErr result (self.new ≡ self.old) }
     {

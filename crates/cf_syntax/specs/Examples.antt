@@ -7,6 +7,7 @@ use Rattle.cf_syntax.specs.declared.statement.Statement.TheVariants.{MakeString,
 abbrev pub small_text : List ℕ
 small_text = codes "cf 1\nsetup\nmake a string \"hi\"\nrelease a\nend\n"
 
+-- the script of that text
 abbrev pub small_script : Script
 small_script = record {
   classes = [];
@@ -27,6 +28,7 @@ members_text =
     codes "cf 1\nsetup\nmake a array plain\nmake d dict\narr.set a 7 d\narr.take x a 7\n"
     ++ codes "dict.set d a x\ndict.take y d a\nfield.take z d 0\nend\n"
 
+-- the script of that text
 abbrev pub members_script : Script
 members_script = record {
   classes = [];

@@ -1,4 +1,4 @@
--- An owned script: each variable is bound once, used only where it is bound, and released no more
+-- An owned script: each variable is bound once, used only if it is bound, and released no more
 -- often than it owns references, and each class that is named exists. After the ownership rule of the Memory
 -- Management guide: who makes or retains an object owns a reference, and releases it. A count is a sum over the
 -- earlier statements.

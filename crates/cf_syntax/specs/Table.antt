@@ -47,26 +47,29 @@ unread = record { line = 0; reason = Unread }
 abbrev pub require : Bool → Result (Unit {0}) Refusal
 require test = if test then Ok tt else Err unread
 
--- the word at a place, where there is one, and the last word
+-- the word at a place, or an empty one
 abbrev pub word_at : List (List ℕ) → ℕ → List ℕ
 word_at ws i = slice_index_or ws i []
 
+-- the last word, or an empty one
 abbrev pub last_word : List (List ℕ) → List ℕ
 last_word ws = word_at ws (length ws - 1)
 
--- the words of a form, in order
+-- the words of a form that ends with a TEXT, in order
 abbrev pub text_operands : TextForm → List Operand
 text_operands texts.MakeString = Fixed ∷ Variable ∷ Fixed ∷ Text ∷ []
 text_operands texts.MakeMstring = Fixed ∷ Variable ∷ Fixed ∷ Text ∷ []
 text_operands texts.StrInsert = Fixed ∷ Variable ∷ Index ∷ Text ∷ []
 text_operands texts.StrReplace = Fixed ∷ Variable ∷ Index ∷ Index ∷ Text ∷ []
 
+-- the words of a form that ends with a HEX, in order
 abbrev pub data_operands : DataForm → List Operand
 data_operands datas.MakeData = Fixed ∷ Variable ∷ Fixed ∷ Hex ∷ []
 data_operands datas.MakeMdata = Fixed ∷ Variable ∷ Fixed ∷ Hex ∷ []
 data_operands datas.DataAppend = Fixed ∷ Variable ∷ Hex ∷ []
 data_operands datas.DataReplace = Fixed ∷ Variable ∷ Index ∷ Index ∷ Hex ∷ []
 
+-- the words of a form with neither a TEXT nor a HEX, in order
 abbrev pub plain_operands : PlainForm → List Operand
 plain_operands plains.MakeNumber = Fixed ∷ Variable ∷ Fixed ∷ Kind ∷ Int ∷ []
 plain_operands plains.New = Fixed ∷ Variable ∷ Name ∷ Int ∷ []
@@ -79,6 +82,7 @@ plain_operands plains.StrSub = Fixed ∷ Variable ∷ Variable ∷ Index ∷ Ind
 plain_operands plains.DataDelete = Fixed ∷ Variable ∷ Index ∷ Index ∷ []
 plain_operands plains.NumAs = Fixed ∷ Variable ∷ Kind ∷ []
 
+-- the words of a form on an array, in order
 abbrev pub array_operands : ArrayForm → List Operand
 array_operands arrays.Append = Fixed ∷ Variable ∷ Variable ∷ []
 array_operands arrays.Insert = Fixed ∷ Variable ∷ Index ∷ Variable ∷ []
@@ -86,6 +90,7 @@ array_operands arrays.Set = Fixed ∷ Variable ∷ Index ∷ Variable ∷ []
 array_operands arrays.Remove = Fixed ∷ Variable ∷ Index ∷ []
 array_operands arrays.Take = Fixed ∷ Variable ∷ Variable ∷ Index ∷ []
 
+-- the words of a form on a dictionary, in order
 abbrev pub dict_operands : DictForm → List Operand
 dict_operands dicts.Add = Fixed ∷ Variable ∷ Variable ∷ Variable ∷ []
 dict_operands dicts.Set = Fixed ∷ Variable ∷ Variable ∷ Variable ∷ []
@@ -93,11 +98,13 @@ dict_operands dicts.Replace = Fixed ∷ Variable ∷ Variable ∷ Variable ∷ [
 dict_operands dicts.Remove = Fixed ∷ Variable ∷ Variable ∷ []
 dict_operands dicts.Take = Fixed ∷ Variable ∷ Variable ∷ Variable ∷ []
 
+-- the words of a form on a field, in order
 abbrev pub field_operands : FieldForm → List Operand
 field_operands fields.Set = Fixed ∷ Variable ∷ Index ∷ Variable ∷ []
 field_operands fields.Clear = Fixed ∷ Variable ∷ Index ∷ []
 field_operands fields.Take = Fixed ∷ Variable ∷ Variable ∷ Index ∷ []
 
+-- the words of a form, whatever it is, in order
 abbrev pub operands_of : StatementForm → List Operand
 operands_of (forms.Text form) = text_operands form
 operands_of (forms.Data form) = data_operands form
@@ -113,10 +120,11 @@ pub record FormWord : Type 0 where
   pub word : List ℕ
   pub form : StatementForm
 
+-- a word with the form that it finds
 abbrev pub form_word : List ℕ → StatementForm → FormWord
 form_word word form = record { word = word; form = form }
 
--- the forms by their first words, and those that make an object by its kind
+-- the forms, by their first words
 abbrev pub first_words : List FormWord
 first_words =
     form_word (codes "retain") (forms.Plain plains.Retain)
@@ -147,6 +155,7 @@ first_words =
     ∷ form_word (codes "field.take") (forms.Field fields.Take)
     ∷ []
 
+-- the forms that make an object, by its kind
 abbrev pub kinds : List FormWord
 kinds =
     form_word (codes "string") (forms.Text texts.MakeString)
@@ -225,12 +234,12 @@ with_variable so_far word = let n = position_or_len (bytes_eq word) so_far.names
     if nat_lt n VARIABLES then Ok (record { names = with_name so_far.names word; value = so_far.value ++ n ∷ [] })
     else Err unread
 
--- the same with a word of a class, which may be a variable
+-- the numbers of a line's variables, with a word of a class, which may be one more
 abbrev pub with_word : With (List ℕ) → Operand → List ℕ → Result (With (List ℕ)) Refusal
 with_word so_far Variable word = with_variable so_far word
 with_word so_far _ word = Ok so_far
 
--- the same with the words of a form, from left to right
+-- the numbers of a line's variables, with the words of a form, from left to right
 abbrev pub with_words : With (List ℕ) → List Operand → List (List ℕ) → Result (With (List ℕ)) Refusal
 with_words so_far [] ws = Ok so_far
 with_words so_far (c ∷ cs) [] = Ok so_far
@@ -247,13 +256,15 @@ abbrev pub class_named : List ClassLine → List ℕ → Option ℕ
 class_named classes name = let n = position_or_len (λ (c : ClassLine). bytes_eq name c.name) classes in
     if nat_lt n (length classes) then Some (14 + n) else None
 
--- what the words of a form say, where each is of its class
+-- the INDEX at a place, or 0
 abbrev pub index_at : List (List ℕ) → ℕ → ℕ
 index_at ws i = unwrap_or (index_of (word_at ws i)) 0
 
+-- the INT at a place, or 0
 abbrev pub integer_at : List (List ℕ) → ℕ → ℤ
 integer_at ws i = unwrap_or (integer_of (word_at ws i)) (pos 0)
 
+-- the KIND at a place, or s8
 abbrev pub kind_at : List (List ℕ) → ℕ → NumKind
 kind_at ws i = unwrap_or (kind_of (word_at ws i)) S8
 
@@ -261,33 +272,37 @@ kind_at ws i = unwrap_or (kind_of (word_at ws i)) S8
 abbrev pub literal_of : List ℕ → Result (List ℕ) Refusal
 literal_of text = if is_utf8 text then Ok (units_of (chars text)) else Err unread
 
--- a statement of the text, or of the bytes, of the last word
+-- a statement of the text of the last word
 abbrev pub of_text : List (List ℕ) → (List ℕ → Statement) → Result Statement Refusal
 of_text ws statement = do
   text ← literal_of (text_of (last_word ws))
   Ok (statement text)
 
+-- a statement of the bytes of the last word
 abbrev pub of_data : List (List ℕ) → (List ℕ → Statement) → Result Statement Refusal
 of_data ws statement = Ok (statement (unwrap_or (bytes_of (last_word ws)) []))
 
--- the statement of a form, by the numbers of its variables, v, w and x, and its words
+-- the statement of a form that ends with a TEXT
 abbrev pub text_statement : TextForm → ℕ → List (List ℕ) → Result Statement Refusal
 text_statement texts.MakeString v ws = of_text ws (λ t. MakeString v t)
 text_statement texts.MakeMstring v ws = of_text ws (λ t. MakeMstring v t)
 text_statement texts.StrInsert v ws = of_text ws (λ t. StrInsert v (index_at ws 2) t)
 text_statement texts.StrReplace v ws = of_text ws (λ t. StrReplace v (index_at ws 2) (index_at ws 3) t)
 
+-- the statement of a form that ends with a HEX
 abbrev pub data_statement : DataForm → ℕ → List (List ℕ) → Result Statement Refusal
 data_statement datas.MakeData v ws = of_data ws (λ b. MakeData v b)
 data_statement datas.MakeMdata v ws = of_data ws (λ b. MakeMdata v b)
 data_statement datas.DataAppend v ws = of_data ws (λ b. DataAppend v b)
 data_statement datas.DataReplace v ws = of_data ws (λ b. DataReplace v (index_at ws 2) (index_at ws 3) b)
 
+-- the statement that makes a number
 abbrev pub number_statement : ℕ → NumKind → ℤ → Result Statement Refusal
 number_statement v kind value = do
   _ ← require (fits_kind kind value)
   Ok (MakeNumber v (record { kind = kind; value = value }))
 
+-- the statement of a form with neither a TEXT nor a HEX
 abbrev pub plain_statement : List ClassLine → PlainForm → ℕ → ℕ → List (List ℕ) → Result Statement Refusal
 plain_statement classes plains.MakeNumber v w ws = number_statement v (kind_at ws 3) (integer_at ws 4)
 plain_statement classes plains.New v w ws = Ok (New v (class_named classes (word_at ws 2)) (integer_at ws 3))
@@ -300,10 +315,12 @@ plain_statement classes plains.StrSub v w ws = Ok (StrSub v w (index_at ws 3) (i
 plain_statement classes plains.DataDelete v w ws = Ok (DataDelete v (index_at ws 2) (index_at ws 3))
 plain_statement classes plains.NumAs v w ws = Ok (NumAs v (kind_at ws 2))
 
+-- the statement that makes a collection
 abbrev pub make_statement : Collection → Bool → ℕ → Statement
 make_statement collections.Array plain v = MakeArray v plain
 make_statement collections.Dict plain v = MakeDict v plain
 
+-- the statement of a form on an array
 abbrev pub array_statement : ArrayForm → ℕ → ℕ → List (List ℕ) → Statement
 array_statement arrays.Append v w ws = ArrAppend v w
 array_statement arrays.Insert v w ws = ArrInsert v (index_at ws 2) w
@@ -311,6 +328,7 @@ array_statement arrays.Set v w ws = ArrSet v (index_at ws 2) w
 array_statement arrays.Remove v w ws = ArrRemove v (index_at ws 2)
 array_statement arrays.Take v w ws = ArrTake v w (index_at ws 3)
 
+-- the statement of a form on a dictionary
 abbrev pub dict_statement : DictForm → ℕ → ℕ → ℕ → Statement
 dict_statement dicts.Add v w x = DictAdd v w x
 dict_statement dicts.Set v w x = DictSet v w x
@@ -318,11 +336,13 @@ dict_statement dicts.Replace v w x = DictReplace v w x
 dict_statement dicts.Remove v w x = DictRemove v w
 dict_statement dicts.Take v w x = DictTake v w x
 
+-- the statement of a form on a field
 abbrev pub field_statement : FieldForm → ℕ → ℕ → List (List ℕ) → Statement
 field_statement fields.Set v w ws = FieldSet v (index_at ws 2) w
 field_statement fields.Clear v w ws = FieldClear v (index_at ws 2)
 field_statement fields.Take v w ws = FieldTake v w (index_at ws 3)
 
+-- the statement of a form, whatever it is, by the numbers of its variables, v, w and x, and its words
 abbrev pub statement_by : List ClassLine → StatementForm → ℕ → ℕ → ℕ → List (List ℕ) → Result Statement Refusal
 statement_by classes (forms.Text form) v w x ws = text_statement form v ws
 statement_by classes (forms.Data form) v w x ws = data_statement form v ws
@@ -343,16 +363,19 @@ statement_of classes names ws = do
   s ← statement_by classes form (slice_index vs.value 0) (slice_index vs.value 1) (slice_index vs.value 2) ws
   Ok (record { names = vs.names; value = s })
 
--- the words of a class line, and the class that they say. There are at most 1,011, and no two of one name
+-- the words of a class line, in order
 abbrev pub class_words : List Operand
 class_words = Fixed ∷ Name ∷ Fields ∷ Count ∷ Equal ∷ Equality ∷ []
 
+-- the class that the words of a class line say
 abbrev pub class_by : List (List ℕ) → ClassLine
 class_by ws = record { name = word_at ws 1; fields = index_at ws 3; keyed = bytes_eq (word_at ws 5) (codes "key") }
 
+-- no class has this name
 abbrev pub not_named : List ClassLine → List ℕ → Bool
 not_named classes name = not (list_any (λ (c : ClassLine). bytes_eq name c.name) classes)
 
+-- the class of a class line: there are at most 1,011, and no two of one name
 unfoldable pub class_of : List ClassLine → List (List ℕ) → Result ClassLine Refusal
 class_of classes ws = do
   _ ← require (length ws == length class_words)

@@ -92,6 +92,7 @@ reserved = codes "nil" ∷ codes "any" ∷ codes "self" ∷ codes "common" ∷ c
     ∷ codes "dict" ∷ codes "set"
     ∷ codes "bag" ∷ codes "heap" ∷ codes "source" ∷ codes "timer" ∷ codes "observer" ∷ []
 
+-- a word is one of those that are no names
 abbrev pub is_reserved : List ℕ → Bool
 is_reserved word = list_any (λ r. bytes_eq r word) reserved
 

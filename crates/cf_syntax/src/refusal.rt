@@ -10,7 +10,7 @@ pub enum Reason {
     Unread,
 }
 
-/// A refusal: the line that has the fault, counted from 1, or 0 where no line is told, and the
+/// A refusal: the line that has the fault, counted from 1, or 0 if no line is told, and the
 /// reason.
 #[derive(Clone, Copy, Debug, PartialEq, Eq)]
 pub struct Refusal {

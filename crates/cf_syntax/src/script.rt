@@ -9,7 +9,7 @@ pub struct ClassLine {
     pub name: Seq<u8>,
     /// How many fields an instance has.
     pub fields: u8,
-    /// Whether instances are equal where their keys are; else each is equal to itself alone.
+    /// Whether instances are equal if their keys are; else each is equal to itself alone.
     pub keyed: bool,
 }
 

@@ -11,7 +11,7 @@ abbrev pub register_fault : List Class → List ℕ → Option RegisterFault
 register_fault classes name =
     if nat_le TYPES (length classes) then Some Full else (if has_name classes name then Some Taken else None)
 
--- the call is refused for exactly this fault, and want of memory comes only where there is none
+-- the call is refused for exactly this fault, and want of memory comes only if there is none
 abbrev pub IsRefusedFor : {T : Type 0} → Result T RegisterFault → Option RegisterFault → Type 0
 IsRefusedFor (Ok x) fault = fault ≡ None
 IsRefusedFor (Err Full) fault = fault ≡ Some Full

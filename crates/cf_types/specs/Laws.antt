@@ -16,10 +16,10 @@ use Rattle.cf_types.specs.declared.callbacks.CellCallbacks.{CellCallbacks}
 use Rattle.cf_types.specs.declared.callbacks.CellCallbacks.TheVariants.{Typed, Plain}
 use Rattle.cf_types.specs.Cells.{cells_equal, cell_hash, cell_order}
 use Rattle.cf_types.specs.Hash.{hash_of, leaf_bytes}
-use Rattle.cf_types.specs.Leaves.{forms_equal, leaves_equal, kind_rank, listed_of, number_of, form_order, leaf_order}
+use Rattle.cf_types.specs.Leaves.{forms_equal, leaves_equal, kind_rank, units_or_bytes, number_of, form_order, leaf_order}
 use Rattle.cf_types.specs.Views.{FormView, text_form, data_form, whole_form, same_form, LeafView}
 
--- forms are equal exactly where they are the same
+-- forms are equal exactly if they are the same
 pub forms_equal-Decides : (a b : FormView) → Decides (forms_equal a b) (a ≡ b)
 forms_equal-Decides (text_form a) (text_form b) = let d = bytes_eq-Decides a b in
     (λ yes. ap text_form (d.0 yes), λ same. d.1 cc)
@@ -45,7 +45,7 @@ forms_equal-Decides (same_form a) (same_form b) = let d = Decides-eqb a b in
 same_record : (a b : LeafView) → a.class ≡ b.class → a.form ≡ b.form → a ≡ b
 same_record a b classes forms = λ i. record { class = classes i; form = forms i }
 
--- leaves are equal exactly where they are the same
+-- leaves are equal exactly if they are the same
 pub leaves_equal-Decides : (a b : LeafView) → Decides (leaves_equal a b) (a ≡ b)
 leaves_equal-Decides a b =
     let class = Decides-eqb a.class b.class in
@@ -58,7 +58,7 @@ leaves_equal-Decides a b =
 -- the order of forms and of leaves is total
 pub form_order_total : IsTotalOrder form_order
 form_order_total = then_total (on_total kind_rank nat_cmp_total)
-    (then_total (on_texts listed_of) (on_total number_of int_cmp_total))
+    (then_total (on_texts units_or_bytes) (on_total number_of int_cmp_total))
 
 pub leaf_order_total : IsTotalOrder leaf_order
 leaf_order_total =
@@ -74,7 +74,7 @@ numbers_decide : (a b : ℕ) → Decides (int_eq (pos a) (pos b)) (a ≡ b)
 numbers_decide a b = let d = signed_Decides (pos a) (pos b) in
     (λ yes. let same : pos a ≡ pos b = d.0 yes in cc, λ same. d.1 (ap pos same))
 
--- the order answers `Equal` exactly where the forms are equal, and the leaves too
+-- the order answers `Equal` exactly if the forms are equal, and the leaves too
 form_ties : (a b : FormView) → forms_equal a b ≡ eq_by_cmp form_order a b
 form_ties (text_form a) (text_form b) = texts_ties a b ∙ then_Equal _
 form_ties (text_form a) (data_form b) = refl

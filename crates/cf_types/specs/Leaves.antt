@@ -26,11 +26,11 @@ kind_rank (whole_form value) = 2
 kind_rank (same_form id) = 3
 
 -- the units of a text and the bytes of data
-abbrev pub listed_of : FormView → List ℕ
-listed_of (text_form units) = units
-listed_of (data_form bytes) = bytes
-listed_of (whole_form value) = []
-listed_of (same_form id) = []
+abbrev pub units_or_bytes : FormView → List ℕ
+units_or_bytes (text_form units) = units
+units_or_bytes (data_form bytes) = bytes
+units_or_bytes (whole_form value) = []
+units_or_bytes (same_form id) = []
 
 -- the value of a whole number and the number of an object
 abbrev pub number_of : FormView → ℤ
@@ -42,7 +42,7 @@ number_of (same_form id) = pos id
 -- the order of forms: by kind, then by units or bytes, the first that differs deciding, then by value or
 -- object number
 abbrev pub form_order : FormView → FormView → Ordering
-form_order = then_cmp (on kind_rank nat_cmp) (then_cmp (on listed_of (slice_cmp nat_cmp)) (on number_of int_cmp))
+form_order = then_cmp (on kind_rank nat_cmp) (then_cmp (on units_or_bytes (slice_cmp nat_cmp)) (on number_of int_cmp))
 
 -- the order of leaves: by class, then by form
 abbrev pub leaf_order : LeafView → LeafView → Ordering

@@ -63,9 +63,9 @@ impl Registry {
         Ok(Registry { classes })
     }
 
-    /// Adds a class after the others, and answers its number. `Full` comes exactly where there are 1,024 types,
-    /// `Taken` exactly where there are fewer and one has the name, and `NoMemory` for want of memory alone. A refusal
-    /// changes nothing.
+    /// Adds a class after the others, and answers its number. `Full` comes exactly if there are 1,024 types, `Taken`
+    /// exactly if there are fewer and one has the name, and `NoMemory` for want of memory alone. A refusal changes
+    /// nothing.
     pub fn register(
         &mut self,
         alloc: Global,
@@ -90,7 +90,7 @@ impl Registry {
         Ok(TypeId(self.classes.len() as u16))
     }
 
-    /// The type with this number, and `None` where there is none.
+    /// The type with this number, and `None` if there is none.
     pub fn class(&self, id: TypeId) -> Option<&Class>
         ensures { option_copied result ≡ slice_get self.now (id - 1) }
     {

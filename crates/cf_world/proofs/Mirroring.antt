@@ -6,10 +6,10 @@ use Rattle.std.proofs.lemmas.Bool.{eq-eqb, cases_lt}
 use Rattle.std.proofs.lemmas.Bool.Decides.{nat_tests, eqb_tells}
 use Rattle.cf_graph.specs.Edges.{counted}
 use Rattle.cf_contents.specs.Contents.{Object, times, slots_in, slots_at}
-use Rattle.cf_contents.specs.Deeds.{Change, changed_by}
+use Rattle.cf_contents.specs.Deeds.{Change, objects_after}
 use Rattle.cf_contents.specs.Stores.{Held, live, with_body, body_changed, body_finalised, body_dropped, bodies_changed, is_live_body, is_live_in, given_up_by, given_up_in, left_to, left_in}
 use Rattle.cf_contents.proofs.BodyLaws.{get-map, get-own, get-other, length-objects, objects-changed, objects-kept, objects-append}
-use Rattle.cf_contents.proofs.ContentLaws.{length-changed_by}
+use Rattle.cf_contents.proofs.ContentLaws.{length-objects_after}
 use Rattle.cf_model.specs.State.{Work, release_of, slots_of, left_of, trimmed}
 use Rattle.cf_world.specs.Mirrors.{Mirrors, trimmed_by}
 
@@ -64,10 +64,10 @@ given-changed : (o : Option ℕ) (change : Change) (bodies : List Held) (p : ℕ
 given-changed None change bodies p = refl
 given-changed (Some o) change bodies p = given-body (body_changed change) (λ h. refl) o p bodies
 
-pub mirrors_changed : (objects : List Object) (finalised dropped : List ℕ) (bodies : List Held) (o : Option ℕ) (change : Change) → Mirrors objects finalised dropped bodies → Mirrors (changed_by o change objects) finalised dropped (bodies_changed o change bodies)
+pub mirrors_changed : (objects : List Object) (finalised dropped : List ℕ) (bodies : List Held) (o : Option ℕ) (change : Change) → Mirrors objects finalised dropped bodies → Mirrors (objects_after o change objects) finalised dropped (bodies_changed o change bodies)
 mirrors_changed objects finalised dropped bodies o change h = record {
-  objects_are = objects-changed o change bodies ∙ ap (changed_by o change) h.objects_are;
-  live = λ p. rw (length-changed_by o change objects) (live-changed o change bodies p ∙ h.live p);
+  objects_are = objects-changed o change bodies ∙ ap (objects_after o change) h.objects_are;
+  live = λ p. rw (length-objects_after o change objects) (live-changed o change bodies p ∙ h.live p);
   given_up = λ p. given-changed o change bodies p ∙ h.given_up p;
 }
 

@@ -27,7 +27,7 @@ abbrev pub IsReadyFor : Script → List Held → List (Option ℕ) → Option St
 IsReadyFor s bodies table None ready room = Unit {0}
 IsReadyFor s bodies table (Some x) ready room = (ready ≡ Some (ready_deed s.classes bodies x (used_in table x))) × (0 < room)
 
--- the next statement takes no reference away, and makes an object only where one may be made
+-- the next statement takes no reference away, and makes an object only if one may be made
 abbrev pub IsPlainNext : Script → List Entry → List (Option ℕ) → ℕ → Option Statement → Type 0
 IsPlainNext s journal table number None = Unit {0}
 IsPlainNext s journal table number (Some x) =

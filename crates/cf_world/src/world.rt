@@ -137,7 +137,7 @@ impl World {
         self.store.count()
     }
 
-    /// The type of an object, or `None` where it was not made.
+    /// The type of an object, or `None` if it was not made.
     pub fn class(&self, o: ObjId) -> Option<TypeId>
         ensures { result ≡ option_map (λ (ob : Object). ob.class) (slice_get (state_of self.now).objects o) }
     {

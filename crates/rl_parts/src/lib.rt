@@ -8,6 +8,8 @@ mod items;
 #[cfg(test)]
 mod modes;
 #[cfg(test)]
+mod notices;
+#[cfg(test)]
 mod observers;
 #[cfg(test)]
 mod sources;

@@ -1,3 +1,4 @@
+-- The loop invariants of `description::push_characters`.
 use Rattle.cf_body.proofs.Showing.{Written}
 use Rattle.cf_body.proofs.description.push_characters.Given as goal
 

@@ -1,3 +1,4 @@
+-- Answers to the goals of `edits::clear_field`.
 use Rattle.cf_body.proofs.Placing.{clear_done}
 use Rattle.cf_body.proofs.edits.clear_field.Goals as goal
 

@@ -1,3 +1,4 @@
+-- Answers to the goals of `edits::fill_field`.
 use Rattle.cf_body.proofs.Placing.{fill_done}
 use Rattle.cf_body.proofs.edits.fill_field.Goals as goal
 

@@ -1,3 +1,4 @@
+-- Answers to the goals of `edits::remove_element`.
 use Rattle.cf_body.proofs.Placing.{remove_done}
 use Rattle.cf_body.proofs.edits.remove_element.Goals as goal
 

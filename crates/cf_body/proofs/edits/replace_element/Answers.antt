@@ -1,3 +1,4 @@
+-- Answers to the goals of `edits::replace_element`.
 use Rattle.std.proofs.Common.{◌<◌, ℕ, length, ap}
 use Rattle.cf_array.specs.Arrays.{Elements}
 use Rattle.cf_body.proofs.Placing.{replace_done}

@@ -1,3 +1,4 @@
+-- Answers to the goals of `members::push_words`.
 use Rattle.std.proofs.Common.{◌<◌, length, arith, rules}
 use Rattle.cf_body.specs.Bodies.{content_of, words_of}
 use Rattle.cf_body.proofs.Showing.{join_first, join_next, length-words}

@@ -1,3 +1,4 @@
+-- The loop invariants of `members::push_words`.
 use Rattle.std.proofs.Common.{◌≡◌, ◌++◌, take}
 use Rattle.std.specs.List.{join_with_byte}
 use Rattle.cf_body.specs.Bodies.{content_of, words_of}

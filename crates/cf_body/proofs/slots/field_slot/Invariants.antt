@@ -1,3 +1,4 @@
+-- The loop invariants of `slots::field_slot`.
 use Rattle.std.proofs.Common.{◌≡◌, drop, slice_get}
 use Rattle.cf_contents.specs.Contents.{present}
 use Rattle.cf_body.proofs.slots.field_slot.Given as goal

@@ -1,3 +1,4 @@
+-- Answers to the goals of `slots::pair_slot`.
 use Rattle.std.proofs.Common.{arith, ◌/◌, sym, ◌∙◌}
 use Rattle.cf_body.proofs.Placing.{even_slot, odd_slot, no_slot}
 use Rattle.cf_body.proofs.slots.pair_slot.Goals as goal

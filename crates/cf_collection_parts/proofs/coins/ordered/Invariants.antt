@@ -1,3 +1,4 @@
+-- The loop invariants of `coins::ordered`.
 use Rattle.cf_collection_parts.proofs.coins.ordered.Given as goal
 
 abbrev pub ghosts-orders : goal.ghosts-orders

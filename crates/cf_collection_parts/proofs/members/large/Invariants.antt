@@ -1,3 +1,4 @@
+-- The loop invariants of `members::large`.
 use Rattle.cf_collection_parts.proofs.members.large.Given as goal
 
 abbrev pub ghosts-large_order : goal.ghosts-large_order

@@ -1,3 +1,4 @@
+-- The loop invariants of `members::small`.
 use Rattle.cf_collection_parts.proofs.members.small.Given as goal
 
 abbrev pub ghosts-small_order : goal.ghosts-small_order

@@ -1,3 +1,4 @@
+-- The loop invariants of `members::thousand`.
 use Rattle.std.proofs.Common.{◌≡◌, ◌+◌, ◌≤◌}
 use Rattle.cf_collection_parts.proofs.members.thousand.Given as goal
 

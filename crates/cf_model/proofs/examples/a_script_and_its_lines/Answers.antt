@@ -1,3 +1,4 @@
+-- Answers to the goals of `rows::a_script_and_its_lines`.
 use Rattle.std.proofs.Common.{zero, suc, refl, lit<}
 use Rattle.std.specs.Fmt.{digits}
 use Rattle.cf_syntax.proofs.OnLiterals.{script_on_literals}

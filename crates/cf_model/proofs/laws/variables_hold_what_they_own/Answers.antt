@@ -1,3 +1,4 @@
+-- Answers to the goals of `laws::variables_hold_what_they_own`.
 use Rattle.cf_model.proofs.Soundness.{sound}
 use Rattle.cf_model.proofs.laws.variables_hold_what_they_own.Goals as goal
 

@@ -1,3 +1,4 @@
+-- The loop invariants of `types::compared`.
 use Rattle.cf_parts.proofs.types.compared.Given as goal
 
 abbrev pub ghosts-orders : goal.ghosts-orders

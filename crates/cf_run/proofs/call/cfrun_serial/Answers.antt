@@ -1,3 +1,4 @@
+-- Answers to the goals of `call::cfrun_serial`.
 use Rattle.cf_run.proofs.Concluding.{tells_all}
 use Rattle.cf_run.proofs.call.cfrun_serial.Goals as goal
 

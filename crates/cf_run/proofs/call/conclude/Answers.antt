@@ -1,3 +1,4 @@
+-- Answers to the goals of `call::conclude`.
 use Rattle.cf_run.specs.Calls.{call_by, took_by}
 use Rattle.cf_run.proofs.Concluding.{concluded}
 use Rattle.cf_run.proofs.call.conclude.Goals as goal

@@ -1,3 +1,4 @@
+-- Answers to the goals of `call::run_command`.
 use Rattle.std.proofs.Common.{map}
 use Rattle.cf_run.specs.Calls.{told_by}
 use Rattle.cf_run.proofs.Concluding.{has_few}

@@ -1,3 +1,4 @@
+-- Answers to the goals of `call::write_settled`.
 use Rattle.std.proofs.Common.{refl, arith}
 use Rattle.std.proofs.lemmas.Result.{err_from_is_err_and}
 use Rattle.cf_run.specs.Outcomes.{refusal_text}

@@ -1,3 +1,4 @@
+-- Answers to the goals of `lines::join`.
 use Rattle.std.proofs.Common.{◌≤◌, ◌<◌, length, arith}
 use Rattle.std.proofs.lemmas.List.{length-map}
 use Rattle.cf_model.specs.Rendering.{joined}

@@ -1,3 +1,4 @@
+-- The loop invariants of `lines::join`.
 use Rattle.std.proofs.Common.{◌≡◌, ◌++◌, drop}
 use Rattle.cf_model.specs.Rendering.{joined}
 use Rattle.cf_script.specs.Views.{lent}

@@ -1,3 +1,4 @@
+-- Answers to the goals of `output::write_ends`.
 use Rattle.std.proofs.Common.{◌≡◌, ℕ, ◌++◌, ◌∷◌, [], length, ap, ◌∙◌}
 use Rattle.std.proofs.lemmas.Result.{err_from_is_err_and}
 use Rattle.cf_model.specs.Rendering.{joined, text_of_lines}

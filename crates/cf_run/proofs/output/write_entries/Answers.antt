@@ -1,3 +1,4 @@
+-- Answers to the goals of `output::write_entries`.
 use Rattle.std.proofs.Common.{◌<◌, ◌+◌, ◌∙◌, length, take, drop, arith}
 use Rattle.std.proofs.lemmas.Result.{err_from_is_err_and}
 use Rattle.cf_model.specs.Rendering.{entry_lines, lines_if, line_of, text_of_lines}

@@ -1,3 +1,4 @@
+-- The loop invariants of `output::write_entries`.
 use Rattle.std.proofs.Common.{◌≡◌, take}
 use Rattle.cf_io.specs.Bytes.{then_bytes}
 use Rattle.cf_model.specs.Rendering.{entry_lines, text_of_lines}

@@ -1,3 +1,4 @@
+-- Answers to the goals of `output::write_left`.
 use Rattle.std.proofs.Common.{◌<◌, ◌+◌, ◌∙◌, length, arith}
 use Rattle.std.proofs.lemmas.Result.{err_from_is_err_and}
 use Rattle.std.specs.Prelude.{slice_index_or}

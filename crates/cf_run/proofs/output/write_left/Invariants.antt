@@ -1,3 +1,4 @@
+-- The loop invariants of `output::write_left`.
 use Rattle.std.proofs.Common.{◌≡◌, ◌≤◌, length}
 use Rattle.cf_io.specs.Bytes.{then_bytes}
 use Rattle.cf_model.specs.Rendering.{text_of_lines}

@@ -1,3 +1,4 @@
+-- Answers to the goals of `output::write_run`.
 use Rattle.std.proofs.Common.{length, refl}
 use Rattle.std.proofs.lemmas.Result.{err_from_is_err_and}
 use Rattle.cf_model.specs.Rendering.{entry_lines, text_of_lines}

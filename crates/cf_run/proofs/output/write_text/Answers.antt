@@ -1,3 +1,4 @@
+-- Answers to the goals of `output::write_text`.
 use Rattle.cf_run.proofs.Writing.{cut_at}
 use Rattle.cf_run.proofs.output.write_text.Goals as goal
 

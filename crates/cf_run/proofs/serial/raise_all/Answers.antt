@@ -1,3 +1,4 @@
+-- Answers to the goals of `serial::raise_all`.
 use Rattle.std.proofs.Common.{take, sym, arith}
 use Rattle.cf_run.proofs.Raising.{raised_more, times_le-length}
 use Rattle.std.proofs.lemmas.List.{length-take}

@@ -1,3 +1,4 @@
+-- The loop invariants of `serial::raise_all`.
 use Rattle.cf_run.proofs.Raising.{IsRaised}
 use Rattle.cf_run.proofs.serial.raise_all.Given as goal
 

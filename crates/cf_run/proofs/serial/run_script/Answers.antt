@@ -1,3 +1,4 @@
+-- Answers to the goals of `serial::run_script`.
 use Rattle.std.proofs.Common.{sym, ap, ◌∙◌, arith}
 use Rattle.cf_run.specs.Tally.{goes_on, ending_at}
 use Rattle.cf_run.proofs.Closing.{over}

@@ -1,3 +1,4 @@
+-- The loop invariants of `serial::run_script`.
 use Rattle.std.proofs.Common.{◌≡◌, ◌-◌, length, Some}
 use Rattle.cf_world.specs.Worlds.{next_in}
 use Rattle.cf_run.specs.Tally.{default_limit, turn_of, IsRun}

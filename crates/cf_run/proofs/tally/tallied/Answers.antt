@@ -1,3 +1,4 @@
+-- Answers to the goals of `tally::tallied`.
 use Rattle.std.proofs.Common.{arith}
 use Rattle.cf_run.proofs.Tallying.{tallied_more, tally_fits}
 use Rattle.cf_run.proofs.tally.tallied.Goals as goal

@@ -1,3 +1,4 @@
+-- The loop invariants of `tally::tallied`.
 use Rattle.std.proofs.Common.{take}
 use Rattle.cf_run.proofs.Tallying.{IsTallied}
 use Rattle.cf_run.proofs.tally.tallied.Given as goal

@@ -1,3 +1,4 @@
+-- Answers to the goals of `classes::class_of`.
 use Rattle.std.proofs.Common.{◌≡◌, length, sym, ◌∙◌, arith}
 use Rattle.std.proofs.lemmas.List.{length-map}
 use Rattle.cf_script.specs.Views.{lent}

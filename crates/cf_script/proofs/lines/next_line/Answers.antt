@@ -1,3 +1,4 @@
+-- Answers to the goals of `lines::next_line`.
 use Rattle.std.proofs.Common.{sym, ◌∙◌}
 use Rattle.std.proofs.lemmas.List.{drop-drop}
 use Rattle.cf_syntax.proofs.LineLaws.{lines_at_feed, lines_without_feed}

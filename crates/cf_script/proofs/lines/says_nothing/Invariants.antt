@@ -1,3 +1,4 @@
+-- The loop invariants of `lines::says_nothing`.
 use Rattle.std.proofs.Common.{◌≡◌, drop}
 use Rattle.cf_syntax.specs.Words.{says_nothing}
 use Rattle.cf_script.proofs.lines.says_nothing.Given as goal

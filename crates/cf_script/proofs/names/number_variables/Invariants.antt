@@ -1,3 +1,4 @@
+-- The loop invariants of `names::number_variables`.
 use Rattle.std.proofs.Common.{◌≡◌, drop}
 use Rattle.cf_syntax.specs.Table.{with_words, variables_of}
 use Rattle.cf_script.specs.Views.{lent, texts}

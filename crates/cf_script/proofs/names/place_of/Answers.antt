@@ -1,3 +1,4 @@
+-- Answers to the goals of `names::place_of`.
 use Rattle.std.proofs.Common.{◌∙◌, ap, sym}
 use Rattle.std.specs.Prelude.{is_some}
 use Rattle.cf_script.proofs.NameLaws.{place_found, place_new, names_found, names_new}

@@ -1,3 +1,4 @@
+-- Answers to the goals of `names::with_variable`.
 use Rattle.std.proofs.Common.{arith}
 use Rattle.cf_script.specs.NamesViews.{numbering_of}
 use Rattle.cf_script.proofs.NameLaws.{number_refused, number_given}

@@ -1,3 +1,4 @@
+-- Answers to the goals of `numbers::is_hex`.
 use Rattle.std.proofs.Common.{sym, ◌∙◌}
 use Rattle.cf_script.proofs.HexLaws.{hex_even}
 use Rattle.cf_script.proofs.numbers.is_hex.Goals as goal

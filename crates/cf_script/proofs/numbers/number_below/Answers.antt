@@ -1,3 +1,4 @@
+-- Answers to the goals of `numbers::number_below`.
 use Rattle.std.proofs.Common.{◌+◌, ◌-◌, ◌*◌, ◌≤◌, get_or, sym, ◌∙◌, arith}
 use Rattle.cf_syntax.specs.Numbers.{is_digit}
 use Rattle.cf_script.proofs.NumberLaws.{below_large, below_over, digit_found}

@@ -1,3 +1,4 @@
+-- The loop invariants of `numbers::number_below`.
 use Rattle.std.proofs.Common.{◌≡◌, drop}
 use Rattle.cf_syntax.specs.Numbers.{number_below}
 use Rattle.cf_script.proofs.NumberLaws.{below}

@@ -1,3 +1,4 @@
+-- Answers to the goals of `owners::are_fit`.
 use Rattle.std.proofs.Common.{take, sym, refl, ◌∙◌, arith}
 use Rattle.std.proofs.lemmas.List.{length-take}
 use Rattle.cf_syntax.proofs.CountLaws.{can_count}

@@ -1,3 +1,4 @@
+-- The loop invariants of `owners::are_fit`.
 use Rattle.std.proofs.Common.{◌≡◌, [], take, drop}
 use Rattle.cf_syntax.specs.Owned.{are_fit}
 use Rattle.cf_syntax.specs.Counting.{Counted}

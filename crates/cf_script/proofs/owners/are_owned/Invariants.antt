@@ -1,3 +1,4 @@
+-- The loop invariants of `owners::are_owned`.
 use Rattle.std.proofs.Common.{◌≡◌, drop}
 use Rattle.cf_syntax.specs.Owned.{blocks_fit}
 use Rattle.cf_script.proofs.owners.are_owned.Given as goal

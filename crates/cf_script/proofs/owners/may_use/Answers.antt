@@ -1,3 +1,4 @@
+-- Answers to the goals of `owners::may_use`.
 use Rattle.std.proofs.Common.{◌∙◌, ap}
 use Rattle.cf_syntax.specs.Owned.{may_use}
 use Rattle.cf_script.proofs.FitLaws.{may_use_is}

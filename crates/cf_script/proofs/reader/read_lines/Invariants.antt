@@ -1,3 +1,4 @@
+-- The loop invariants of `reader::read_lines`.
 use Rattle.std.proofs.Common.{◌≡◌, ◌+◌, ◌≤◌, length}
 use Rattle.cf_syntax.specs.Lines.{lines}
 use Rattle.cf_syntax.specs.Text.{start, read_from}

@@ -1,3 +1,4 @@
+-- The loop invariants of `table::are_of`.
 use Rattle.std.proofs.Common.{◌≡◌, drop}
 use Rattle.cf_syntax.specs.Table.{are_of}
 use Rattle.cf_script.specs.Views.{lent}

@@ -1,3 +1,4 @@
+-- The loop invariants of `table::form_in`.
 use Rattle.std.proofs.Common.{◌≡◌, drop, map}
 use Rattle.cf_syntax.specs.Table.{form_in}
 use Rattle.cf_script.specs.TableViews.{form_word_of}

@@ -1,3 +1,4 @@
+-- Answers to the goals of `table::form_of`.
 use Rattle.std.proofs.Common.{sym}
 use Rattle.cf_script.specs.Views.{lent}
 use Rattle.cf_script.proofs.FormLaws.{by_first_word}

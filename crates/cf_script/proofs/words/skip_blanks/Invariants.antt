@@ -1,3 +1,4 @@
+-- The loop invariants of `words::skip_blanks`.
 use Rattle.std.proofs.Common.{◌≡◌, drop}
 use Rattle.cf_syntax.specs.Words.{words}
 use Rattle.cf_script.proofs.words.skip_blanks.Given as goal

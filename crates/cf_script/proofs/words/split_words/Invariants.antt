@@ -1,3 +1,4 @@
+-- The loop invariants of `words::split_words`.
 use Rattle.std.proofs.Common.{◌≡◌, ◌++◌, ◌<◌, false, get_or, length}
 use Rattle.std.specs.Option.{option_map}
 use Rattle.cf_syntax.specs.Words.{is_blank, words}

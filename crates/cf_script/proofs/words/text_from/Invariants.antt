@@ -1,3 +1,4 @@
+-- The loop invariants of `words::text_from`.
 use Rattle.std.proofs.Common.{◌≡◌, ◌++◌, drop, false}
 use Rattle.cf_syntax.specs.Words.{text_from}
 use Rattle.cf_script.proofs.words.text_from.Given as goal

@@ -1,3 +1,4 @@
+-- Answers to the goals of `words::word_len`.
 use Rattle.std.proofs.Common.{sym, ◌∙◌}
 use Rattle.cf_syntax.proofs.WordLaws.{within_from, word_goes_at, word_ends_at, word_closes_at}
 use Rattle.cf_script.proofs.words.word_len.Goals as goal

@@ -1,3 +1,4 @@
+-- The loop invariants of `words::word_len`.
 use Rattle.std.proofs.Common.{◌≡◌, take, drop}
 use Rattle.cf_syntax.specs.Words.{words_from}
 use Rattle.cf_syntax.proofs.WordLaws.{IsWithin, goes_on_from}

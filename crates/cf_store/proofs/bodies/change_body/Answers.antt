@@ -1,3 +1,4 @@
+-- Answers to the goals of `bodies::change_body`.
 use Rattle.cf_store.proofs.Setting.{done_at, took_at, gave_at, none_done, none_taken, none_given}
 use Rattle.cf_store.proofs.bodies.change_body.Goals as goal
 

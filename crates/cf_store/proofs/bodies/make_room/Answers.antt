@@ -1,3 +1,4 @@
+-- Answers to the goals of `bodies::make_room`.
 use Rattle.cf_store.proofs.Setting.{few_at, held_at, ready_at}
 use Rattle.cf_store.proofs.bodies.make_room.Goals as goal
 

@@ -1,3 +1,4 @@
+-- Answers to the goals of `bodies::plan_among`.
 use Rattle.cf_store.proofs.Doing.{can_first}
 use Rattle.cf_store.proofs.bodies.plan_among.Goals as goal
 

@@ -1,3 +1,4 @@
+-- Answers to the goals of `content_plans::append_text`.
 use Rattle.cf_store.proofs.Doing.{appended}
 use Rattle.cf_store.proofs.content_plans.append_text.Goals as goal
 

@@ -1,3 +1,4 @@
+-- Answers to the goals of `making::make_instance`.
 use Rattle.std.proofs.Common.{arith}
 use Rattle.cf_store.proofs.making.make_instance.Goals as goal
 

@@ -1,3 +1,4 @@
+-- Answers to the goals of `pair_plans::remove_pair`.
 use Rattle.cf_store.proofs.Doing.{remove_does}
 use Rattle.cf_store.proofs.pair_plans.remove_pair.Goals as goal
 

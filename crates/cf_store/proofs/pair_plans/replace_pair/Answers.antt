@@ -1,3 +1,4 @@
+-- Answers to the goals of `pair_plans::replace_pair`.
 use Rattle.cf_store.proofs.Doing.{put_does}
 use Rattle.cf_store.proofs.pair_plans.replace_pair.Goals as goal
 

@@ -1,3 +1,4 @@
+-- Answers to the goals of `seen::see`.
 use Rattle.cf_store.proofs.Setting.{seen_within}
 use Rattle.cf_store.proofs.seen.see.Goals as goal
 

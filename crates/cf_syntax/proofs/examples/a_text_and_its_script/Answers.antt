@@ -1,3 +1,4 @@
+-- Answers to the goals of `rows::a_text_and_its_script`.
 use Rattle.std.proofs.Common.{refl}
 use Rattle.cf_syntax.proofs.OnLiterals.{script_on_literals}
 use Rattle.cf_syntax.proofs.examples.a_text_and_its_script.Goals as goal

@@ -1,3 +1,4 @@
+-- Answers to the goals of `rows::members_and_their_script`.
 use Rattle.std.proofs.Common.{refl}
 use Rattle.cf_syntax.proofs.OnLiterals.{script_on_literals}
 use Rattle.cf_syntax.proofs.examples.members_and_their_script.Goals as goal

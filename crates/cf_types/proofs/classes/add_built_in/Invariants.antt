@@ -1,3 +1,4 @@
+-- The loop invariants of `classes::add_built_in`.
 use Rattle.std.proofs.Common.{◌≡◌, ◌++◌, map, take}
 use Rattle.cf_types.specs.Registry.{built_in}
 use Rattle.cf_types.proofs.classes.add_built_in.Given as goal

@@ -1,3 +1,4 @@
+-- Answers to the goals of `hashing::hash_of_empty`.
 use Rattle.std.proofs.Common.{refl}
 use Rattle.std.specs.Char.Utf16.{utf16_chars}
 use lib.Utf8.{encode}

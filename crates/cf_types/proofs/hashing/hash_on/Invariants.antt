@@ -1,3 +1,4 @@
+-- The loop invariants of `hashing::hash_on`.
 use Rattle.std.proofs.Common.{◌≡◌, fold, take}
 use Rattle.cf_types.specs.Hash.{hash_step}
 use Rattle.cf_types.proofs.hashing.hash_on.Given as goal

@@ -1,3 +1,4 @@
+-- Answers to the goals of `hashing::hash_text`.
 use Rattle.std.proofs.Common.{◌≤◌, length, arith}
 use Rattle.cf_types.proofs.Lossy.{all_taken}
 use Rattle.cf_types.proofs.hashing.hash_text.Goals as goal

@@ -1,3 +1,4 @@
+-- The loop invariants of `hashing::hash_text`.
 use Rattle.std.proofs.Common.{◌≡◌, ◌-◌, fold, drop, length}
 use Rattle.cf_types.specs.Hash.{hash_step, utf8_of}
 use Rattle.cf_types.proofs.hashing.hash_text.Given as goal

@@ -1,3 +1,4 @@
+-- Answers to the goals of `advance::enter_done`.
 use Rattle.cf_world.proofs.Going.{done_at, at_idle}
 use Rattle.cf_world.proofs.advance.enter_done.Goals as goal
 

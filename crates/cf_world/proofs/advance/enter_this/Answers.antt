@@ -1,3 +1,4 @@
+-- Answers to the goals of `advance::enter_this`.
 use Rattle.std.proofs.Common.{◌∷◌, [], ◌++◌, ◌∙◌, ap}
 use Rattle.cf_world.specs.Works.{works}
 use Rattle.cf_world.proofs.Going.{at_idle, fresh_few, stated_at, stated_entry, stated_gains}

@@ -1,3 +1,4 @@
+-- Answers to the goals of `advance::release_next`.
 use Rattle.std.proofs.Common.{sym, ◌∙◌}
 use Rattle.cf_world.specs.Works.{works}
 use Rattle.cf_world.proofs.Going.{released_by, release_entered, release_at}

@@ -1,3 +1,4 @@
+-- Answers to the goals of `edges::add_bodies`.
 use Rattle.std.proofs.Common.{sym, append-nil, refl}
 use Rattle.cf_world.specs.Referring.{slot_references}
 use Rattle.cf_world.proofs.Referring.{below-none, edges-more}

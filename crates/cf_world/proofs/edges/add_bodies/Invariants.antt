@@ -1,3 +1,4 @@
+-- The loop invariants of `edges::add_bodies`.
 use Rattle.std.proofs.Common.{◌≡◌, ◌++◌}
 use Rattle.cf_graph.specs.Edges.{edges_of}
 use Rattle.cf_world.specs.Referring.{below, slot_references}

@@ -1,3 +1,4 @@
+-- Answers to the goals of `edges::add_body`.
 use Rattle.std.proofs.Common.{◌≡◌, ℕ, ◌-◌, ◌<◌, ◌++◌, ◌∷◌, [], Some, None, take, map, length, sym, ap, ◌∙◌, append-nil, arith, length-append}
 use Rattle.std.specs.Prelude.{slice_get}
 use Rattle.cf_graph.specs.Edges.{edge_of, edges_of}

@@ -1,3 +1,4 @@
+-- The loop invariants of `edges::add_body`.
 use Rattle.std.proofs.Common.{◌≡◌, ◌++◌, ◌+◌, ◌-◌, ◌≤◌, take, map, length}
 use Rattle.cf_graph.specs.Edges.{edges_of}
 use Rattle.cf_contents.specs.Stores.{given_up_in, left_in}

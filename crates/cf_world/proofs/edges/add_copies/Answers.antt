@@ -1,3 +1,4 @@
+-- Answers to the goals of `edges::add_copies`.
 use Rattle.cf_graph.specs.Edges.{edge_of}
 use Rattle.cf_model.specs.Steps.{owed_reference}
 use Rattle.cf_world.proofs.Referring.{copies-more}

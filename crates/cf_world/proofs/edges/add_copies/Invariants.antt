@@ -1,3 +1,4 @@
+-- The loop invariants of `edges::add_copies`.
 use Rattle.std.proofs.Common.{◌≡◌, ◌++◌, replicate}
 use Rattle.cf_graph.specs.Edges.{edge_of}
 use Rattle.cf_model.specs.Steps.{owed_reference}

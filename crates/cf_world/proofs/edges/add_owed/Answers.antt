@@ -1,3 +1,4 @@
+-- Answers to the goals of `edges::add_owed`.
 use Rattle.std.proofs.Common.{◌≡◌, ◌+◌, ◌++◌, ◌∷◌, [], take, sym, ap, ◌∙◌}
 use Rattle.std.proofs.lemmas.List.{take_more}
 use Rattle.cf_world.specs.declared.work.Item.{Item}

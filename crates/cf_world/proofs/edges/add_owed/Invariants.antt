@@ -1,3 +1,4 @@
+-- The loop invariants of `edges::add_owed`.
 use Rattle.std.proofs.Common.{◌≡◌, ◌++◌, take}
 use Rattle.cf_graph.specs.Edges.{edges_of}
 use Rattle.cf_world.specs.Referring.{owed_references}

@@ -1,3 +1,4 @@
+-- Answers to the goals of `edges::add_variables`.
 use Rattle.std.proofs.Common.{refl, sym, append-nil, arith}
 use Rattle.cf_world.proofs.Referring.{below-none, variables-more}
 use Rattle.cf_world.proofs.edges.add_variables.Goals as goal

@@ -1,3 +1,4 @@
+-- The loop invariants of `edges::add_variables`.
 use Rattle.std.proofs.Common.{◌≡◌, ◌++◌}
 use Rattle.cf_graph.specs.Edges.{edges_of}
 use Rattle.cf_world.specs.Referring.{below, counted_references}

@@ -1,3 +1,4 @@
+-- Answers to the goals of `edges::count`.
 use Rattle.std.proofs.Common.{◌≡◌, ◌+◌, ◌++◌, ◌∷◌, [], take, sym, ap, ◌∙◌, arith}
 use Rattle.std.proofs.lemmas.List.{length-take, take_more}
 use Rattle.cf_syntax.specs.declared.statement.Statement.{Statement}

@@ -1,3 +1,4 @@
+-- The loop invariants of `edges::count`.
 use Rattle.std.proofs.Common.{take}
 use Rattle.cf_syntax.specs.Counting.{Counted}
 use Rattle.cf_world.proofs.edges.count.Given as goal

@@ -1,3 +1,4 @@
+-- Answers to the goals of `edges::edges_by`.
 use Rattle.std.proofs.Common.{length, take}
 use Rattle.cf_graph.specs.Edges.{edges_of}
 use Rattle.cf_model.specs.Journals.{setup}

@@ -1,3 +1,4 @@
+-- Answers to the goals of `enter::enter_statement`.
 use Rattle.std.proofs.Common.{◌∙◌, ap, ◌++◌, map}
 use Rattle.cf_contents.specs.Contents.{present}
 use Rattle.cf_model.specs.State.{release_of}

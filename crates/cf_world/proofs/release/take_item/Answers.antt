@@ -1,3 +1,4 @@
+-- Answers to the goals of `release::take_item`.
 use Rattle.std.proofs.Common.{Some, sym, ◌∙◌, ap, arith}
 use Rattle.cf_world.specs.Works.{work_item}
 use Rattle.cf_world.proofs.Working.{popped_release, some_items, taken_slot}

@@ -1,3 +1,4 @@
+-- Answers to the goals of `work::trim`.
 use Rattle.std.proofs.Common.{sym, ◌∙◌}
 use Rattle.cf_world.proofs.Working.{popped}
 use Rattle.cf_world.proofs.work.trim.Goals as goal

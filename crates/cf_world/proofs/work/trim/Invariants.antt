@@ -1,3 +1,4 @@
+-- The loop invariants of `work::trim`.
 use Rattle.std.proofs.Common.{◌≡◌, vec_len, vec_capacity}
 use Rattle.cf_world.specs.Mirrors.{trimmed_by}
 use Rattle.cf_world.specs.Works.{works}

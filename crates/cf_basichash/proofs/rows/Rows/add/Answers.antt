@@ -1,3 +1,4 @@
+-- Answers to the goals of `rows::Rows::add`.
 use Rattle.std.proofs.Common.{◌≡◌, None, sym, ◌∙◌}
 use Rattle.cf_basichash.proofs.TablesLemmas.{distinct_added, none_from_test}
 use Rattle.cf_basichash.specs.Tables.{place_of}

@@ -1,3 +1,4 @@
+-- Answers to the goals of `rows::Rows::new`.
 use Rattle.cf_basichash.proofs.TablesLemmas.{distinct_none}
 use Rattle.cf_basichash.proofs.rows.Rows.new.Goals as goal
 

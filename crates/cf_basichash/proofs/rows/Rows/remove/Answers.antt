@@ -1,3 +1,4 @@
+-- Answers to the goals of `rows::Rows::remove`.
 use Rattle.cf_basichash.proofs.TablesLemmas.{distinct_removed}
 use Rattle.cf_basichash.proofs.rows.Rows.remove.Goals as goal
 

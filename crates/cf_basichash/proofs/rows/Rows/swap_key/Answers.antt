@@ -1,3 +1,4 @@
+-- Answers to the goals of `rows::Rows::swap_key`.
 use Rattle.std.proofs.Common.{◌≡◌, refl, slice_get, Some, true}
 use Rattle.std.proofs.lemmas.Option.{slice_get_read}
 use Rattle.cf_basichash.proofs.TablesLemmas.{distinct_rekeyed}

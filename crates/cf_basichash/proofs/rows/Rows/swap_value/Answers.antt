@@ -1,3 +1,4 @@
+-- Answers to the goals of `rows::Rows::swap_value`.
 use Rattle.std.proofs.Common.{◌≡◌, refl, slice_get, Some}
 use Rattle.std.proofs.lemmas.Option.{slice_get_read}
 use Rattle.cf_basichash.proofs.TablesLemmas.{distinct_revalued}

@@ -1,3 +1,4 @@
+-- Answers to the goals of `body::Body::change`.
 use Rattle.cf_body.proofs.Growing.{few_after}
 use Rattle.cf_body.proofs.body.Body.change.Goals as goal
 

@@ -1,3 +1,4 @@
+-- Answers to the goals of `body::Body::slot`.
 use Rattle.cf_body.proofs.Placing.{few_slots}
 use Rattle.cf_body.proofs.body.Body.slot.Goals as goal
 

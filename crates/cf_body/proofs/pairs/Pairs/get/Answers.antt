@@ -1,3 +1,4 @@
+-- Answers to the goals of `pairs::Pairs::get`.
 use Rattle.std.proofs.Common.{Some, None}
 use Rattle.cf_body.proofs.Pairing.{got}
 use Rattle.cf_body.proofs.pairs.Pairs.get.Goals as goal

@@ -1,3 +1,4 @@
+-- Answers to the goals of `pairs::Pairs::put`.
 use Rattle.std.proofs.Common.{Some, None}
 use Rattle.cf_body.proofs.Pairing.{got, put_in, added_none, changed_some}
 use Rattle.cf_body.proofs.pairs.Pairs.put.Goals as goal

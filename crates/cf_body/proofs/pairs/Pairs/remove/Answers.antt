@@ -1,3 +1,4 @@
+-- Answers to the goals of `pairs::Pairs::remove`.
 use Rattle.std.proofs.Common.{Some, None}
 use Rattle.cf_body.proofs.Pairing.{taken_out, left_in}
 use Rattle.cf_body.proofs.pairs.Pairs.remove.Goals as goal

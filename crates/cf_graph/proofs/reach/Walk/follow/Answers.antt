@@ -1,3 +1,4 @@
+-- Answers to the goals of `reach::Walk::follow`.
 use Rattle.std.proofs.Common.{◌≡◌, ℕ, ◌-◌, ◌<◌, ◌≤◌, List, length, get_or, sym, ◌∙◌, subst, arith}
 use Rattle.std.proofs.lemmas.List.{get_or_read, length-map}
 use Rattle.cf_graph.specs.declared.edge.Edge.{Edge}

@@ -1,3 +1,4 @@
+-- The loop invariants of `reach::Walk::follow`.
 use Rattle.std.proofs.Common.{◌≡◌, ◌-◌, ◌<◌, ◌≤◌, length, get_or}
 use Rattle.cf_graph.specs.Walks.{sources, targets, Grows}
 use Rattle.cf_graph.proofs.reach.Walk.follow.Given as goal

@@ -1,3 +1,4 @@
+-- Answers to the goals of `centre::Centre::collect`.
 use Rattle.std.proofs.Common.{◌≢◌, ◌+◌, ◌∙◌, Some, sym}
 use Rattle.std.proofs.lemmas.Bool.{both_ways}
 use Rattle.cf_notify.proofs.Collecting.{collecting_from, collecting_named, collecting_any, collecting_room, collecting_less, collected_all, its_named, its_any, named_bound, any_bound}

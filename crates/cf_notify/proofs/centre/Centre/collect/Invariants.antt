@@ -1,3 +1,4 @@
+-- The loop invariants of `centre::Centre::collect`.
 use Rattle.std.proofs.Common.{length}
 use Rattle.cf_notify.specs.Registered.{least, left_from}
 use Rattle.cf_notify.proofs.Collecting.{IsCollecting}

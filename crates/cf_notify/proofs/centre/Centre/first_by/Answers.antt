@@ -1,3 +1,4 @@
+-- Answers to the goals of `centre::Centre::first_by`.
 use Rattle.cf_notify.specs.Links.{is_in}
 use Rattle.cf_notify.proofs.Nexts.{next_same}
 use Rattle.cf_notify.proofs.Numbers.{by_in}

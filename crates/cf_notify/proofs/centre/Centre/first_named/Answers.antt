@@ -1,3 +1,4 @@
+-- Answers to the goals of `centre::Centre::first_named`.
 use Rattle.cf_notify.specs.Links.{is_in}
 use Rattle.cf_notify.proofs.Nexts.{next_same}
 use Rattle.cf_notify.proofs.Numbers.{named_in}

@@ -1,3 +1,4 @@
+-- Answers to the goals of `centre::Centre::forget`.
 use Rattle.std.proofs.Common.{◌≡◌, ◌+◌, cond, arith}
 use Rattle.rl_base.specs.Receivers.{forgets}
 use Rattle.cf_notify.specs.Registered.{passes}

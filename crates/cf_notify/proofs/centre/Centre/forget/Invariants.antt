@@ -1,3 +1,4 @@
+-- The loop invariants of `centre::Centre::forget`.
 use Rattle.std.proofs.Common.{length}
 use Rattle.cf_notify.specs.Registered.{left_from}
 use Rattle.cf_notify.proofs.Forgetting.{IsForgetting}

@@ -1,3 +1,4 @@
+-- Answers to the goals of `centre::Centre::next_by`.
 use Rattle.std.proofs.Common.{sym, ◌∙◌, ◌+◌}
 use Rattle.cf_notify.specs.Links.{is_in}
 use Rattle.cf_notify.proofs.Nexts.{next_same}

@@ -1,3 +1,4 @@
+-- Answers to the goals of `centre::Centre::observe`.
 use Rattle.std.proofs.Common.{arith, is_some}
 use Rattle.cf_notify.proofs.Numbers.{length-filter-le}
 use Rattle.cf_notify.proofs.centre.Centre.observe.Goals as goal

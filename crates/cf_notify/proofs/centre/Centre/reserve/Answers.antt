@@ -1,5 +1,7 @@
+-- Answers to the goals of `centre::Centre::reserve`.
 use Rattle.std.proofs.Common.{◌∙◌, ℕ, List, Option, ap, length, arith}
 use Rattle.std.proofs.lemmas.List.{length-map}
+use Rattle.cf_ids.specs.declared.limits.TheConstants.{OBJECT_NUMBERS}
 use Rattle.cf_notify.specs.Registered.{name_mark, observer_mark}
 use Rattle.cf_notify.proofs.Numbers.{whole_after, made_after}
 use Rattle.cf_notify.proofs.centre.Centre.reserve.Goals as goal
@@ -29,7 +31,7 @@ invariant_of-self-in_err-hold-2 c =
       observer_lists = λ h. omega (arith, c.hold-2.ensures.lists_kept, c.self.invariant.observer_lists h);
       names_whole = whole_after c.self.inside.names.lists c.hold.new.self.lists 1025 c.in_ok-hold.ensures.whole
           c.self.invariant.names_whole;
-      observers_whole = whole_after c.self.inside.observers.lists c.hold-2.new.self.lists 66560 c.hold-2.ensures.whole
+      observers_whole = whole_after c.self.inside.observers.lists c.hold-2.new.self.lists OBJECT_NUMBERS c.hold-2.ensures.whole
           c.self.invariant.observers_whole;
     }
 
@@ -95,10 +97,10 @@ invariant_of-self-2 c =
       );
       name_lists = λ _. made_after c.self.inside.names.lists c.hold.new.self.lists 1025 (omega arith)
           c.in_ok-hold.ensures.lists;
-      observer_lists = λ _. made_after c.self.inside.observers.lists c.hold-2.new.self.lists 66560 (omega arith)
+      observer_lists = λ _. made_after c.self.inside.observers.lists c.hold-2.new.self.lists OBJECT_NUMBERS (omega arith)
           c.in_ok-hold-2.ensures.lists;
       names_whole = whole_after c.self.inside.names.lists c.hold.new.self.lists 1025 c.in_ok-hold.ensures.whole
           c.self.invariant.names_whole;
-      observers_whole = whole_after c.self.inside.observers.lists c.hold-2.new.self.lists 66560
+      observers_whole = whole_after c.self.inside.observers.lists c.hold-2.new.self.lists OBJECT_NUMBERS
           c.in_ok-hold-2.ensures.whole c.self.invariant.observers_whole;
     }

@@ -1,3 +1,4 @@
+-- Answers to the goals of `centre::Centre::take_out`.
 use Rattle.std.proofs.Common.{◌∙◌, None, ap, sym, refl, arith}
 use Rattle.std.proofs.lemmas.List.{length-set}
 use Rattle.cf_notify.specs.Links.{Marks}

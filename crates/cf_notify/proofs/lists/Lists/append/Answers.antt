@@ -1,3 +1,4 @@
+-- Answers to the goals of `lists::Lists::append`.
 use Rattle.std.proofs.Common.{◌≡◌, ◌+◌, ◌-◌, refl, vec_len, vec_capacity, arith}
 use Rattle.std.proofs.lemmas.List.{map-append}
 use Rattle.cf_notify.proofs.Steps.{marks_on}

@@ -1,3 +1,4 @@
+-- Answers to the goals of `lists::Lists::first`.
 use Rattle.std.proofs.Common.{ap}
 use Rattle.cf_notify.specs.Links.{is_mark, holds}
 use Rattle.cf_notify.proofs.Nexts.{next_same}

@@ -1,3 +1,4 @@
+-- Answers to the goals of `lists::Lists::make_lists`.
 use Rattle.cf_notify.proofs.Chains.{linked_none}
 use Rattle.cf_notify.proofs.lists.Lists.make_lists.Goals as goal
 

@@ -1,3 +1,4 @@
+-- Answers to the goals of `lists::Lists::next`.
 use Rattle.std.proofs.Common.{ap, sym, ◌∙◌, ◌+◌}
 use Rattle.cf_notify.specs.Links.{is_mark, holds}
 use Rattle.cf_notify.proofs.Nexts.{next_same}

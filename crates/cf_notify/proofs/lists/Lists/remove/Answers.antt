@@ -1,3 +1,4 @@
+-- Answers to the goals of `lists::Lists::remove`.
 use Rattle.std.proofs.Common.{◌≡◌, ◌∙◌, sym, Some, length, ap, refl, arith}
 use Rattle.cf_notify.specs.declared.lists.Link.{Link}
 use Rattle.cf_notify.specs.Links.{link_at}

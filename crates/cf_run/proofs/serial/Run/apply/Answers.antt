@@ -1,3 +1,4 @@
+-- Answers to the goals of `serial::Run::apply`.
 use Rattle.std.proofs.Common.{◌≡◌, None, refl}
 use Rattle.cf_model.specs.Finals.{cut_of}
 use Rattle.cf_world.specs.Worlds.{acting}

@@ -1,3 +1,4 @@
+-- Answers to the goals of `serial::Run::release`.
 use Rattle.std.proofs.Common.{◌≡◌, ◌+◌, Some, refl, ap, ◌∙◌}
 use Rattle.cf_model.specs.Finals.{cut_of}
 use Rattle.cf_world.specs.Worlds.{acting, entered}

@@ -1,3 +1,4 @@
+-- Answers to the goals of `classes::Classes::has`.
 use Rattle.std.proofs.Common.{ap, ◌∙◌}
 use Rattle.cf_script.specs.Views.{names_of}
 use Rattle.cf_script.proofs.ClassLaws.{same_any}

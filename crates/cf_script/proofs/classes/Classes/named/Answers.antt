@@ -1,3 +1,4 @@
+-- Answers to the goals of `classes::Classes::named`.
 use Rattle.std.proofs.Common.{ap, sym, ◌∙◌}
 use Rattle.cf_script.specs.Views.{names_of}
 use Rattle.cf_script.proofs.ClassLaws.{not_found, found}

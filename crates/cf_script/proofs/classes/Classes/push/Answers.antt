@@ -1,3 +1,4 @@
+-- Answers to the goals of `classes::Classes::push`.
 use Rattle.std.proofs.Common.{◌≡◌, List, [], ◌∷◌, ◌++◌, ap, ◌∙◌, arith, length-append}
 use Rattle.cf_syntax.specs.declared.script.ClassLine.{ClassLine}
 use Rattle.cf_script.specs.Views.{names_of}

@@ -1,3 +1,4 @@
+-- Answers to the goals of `store::Store::drop_slot`.
 use Rattle.std.proofs.Common.{◌<◌, length, arith}
 use Rattle.cf_store.proofs.Setting.{ready_stays, slot_at, dropped_at}
 use Rattle.cf_store.proofs.store.Store.drop_slot.Goals as goal

@@ -1,3 +1,4 @@
+-- Answers to the goals of `store::Store::retire`.
 use Rattle.std.proofs.Common.{ap}
 use Rattle.cf_contents.specs.Stores.{Held, body_finalised}
 use Rattle.cf_store.proofs.Setting.{set_at, ready_stays, live_within}

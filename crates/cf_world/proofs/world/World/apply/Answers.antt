@@ -1,3 +1,4 @@
+-- Answers to the goals of `world::World::apply`.
 use Rattle.std.proofs.Common.{refl, ◌∙◌, ap, length, length-append}
 use Rattle.cf_world.proofs.Applying.{apply_idle, apply_plain, apply_ready, apply_begun, apply_entered, journal_room}
 use Rattle.cf_world.proofs.world.World.apply.Goals as goal

@@ -1,3 +1,4 @@
+-- Answers to the goals of `world::World::edges`.
 use Rattle.std.proofs.lemmas.Result.{IfOk-weaker}
 use Rattle.cf_model.proofs.Soundness.{setup_owns}
 use Rattle.cf_world.specs.Works.{works}

@@ -1,3 +1,4 @@
+-- Answers to the goals of `world::World::empty`.
 use Rattle.std.proofs.Common.{ℕ, Option, None, refl, ap}
 use Rattle.std.proofs.lemmas.List.{length-replicate}
 use Rattle.cf_contents.specs.Stores.{StoreView}

@@ -1,3 +1,4 @@
+-- Answers to the goals of `world::World::next`.
 use Rattle.std.proofs.Common.{sym, ◌∙◌, eqb}
 use Rattle.std.proofs.lemmas.Bool.{eqb-true, not-false}
 use Rattle.cf_world.specs.Works.{works}

@@ -1,3 +1,4 @@
+-- Answers to the goals of `world::World::release`.
 use Rattle.std.proofs.Common.{arith, refl}
 use Rattle.cf_world.proofs.Applying.{release_cuts, release_grown, release_begun, release_entered}
 use Rattle.cf_world.proofs.world.World.release.Goals as goal

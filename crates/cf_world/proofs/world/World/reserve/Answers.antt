@@ -1,3 +1,4 @@
+-- Answers to the goals of `world::World::reserve`.
 use Rattle.std.proofs.Common.{arith}
 use Rattle.cf_world.specs.Works.{works}
 use Rattle.cf_world.proofs.Acting.{begun_is}

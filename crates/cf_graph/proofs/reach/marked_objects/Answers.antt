@@ -1,6 +1,7 @@
+-- Answers to the goals of `reach::marked_objects`.
 use Rattle.cf_graph.proofs.Chosen.{chosen-skip, chosen-push}
-use Rattle.cf_graph.proofs.reach.chosen.Goals as goal
-use Rattle.cf_graph.proofs.reach.chosen.Goals.{then-marks-o+in_ok-push, else-marks-o}
+use Rattle.cf_graph.proofs.reach.marked_objects.Goals as goal
+use Rattle.cf_graph.proofs.reach.marked_objects.Goals.{then-marks-o+in_ok-push, else-marks-o}
 
 pub loop-o-preserved : goal.loop-o-preserved
 loop-o-preserved c = elim c.if-marks-o.branch [

@@ -1,10 +1,11 @@
+-- Answers to the goals of `reach::link_edges`.
 use Rattle.std.proofs.Common.{◌≡◌, ℕ, ◌+◌, ◌<◌, length, List, get_or, set, ◌++◌, ◌∷◌, [], sym, ap, ◌∙◌, subst, arith}
 use Rattle.std.proofs.lemmas.List.{get_or_read}
 use Rattle.cf_graph.specs.declared.edge.Edge.{Edge}
 use Rattle.cf_graph.specs.Walks.{source, sources, IsLinked}
 use Rattle.cf_graph.proofs.Latest.{linked-more}
 use Rattle.cf_graph.proofs.Closure.{sources-at}
-use Rattle.cf_graph.proofs.reach.linked.Goals as goal
+use Rattle.cf_graph.proofs.reach.link_edges.Goals as goal
 
 pub loop-i-preserved : goal.loop-i-preserved
 loop-i-preserved c =

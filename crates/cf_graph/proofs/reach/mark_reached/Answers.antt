@@ -1,6 +1,7 @@
+-- Answers to the goals of `reach::mark_reached`.
 use Rattle.std.proofs.Common.{◌≡◌, ℕ, List, length, subst, rules}
 use Rattle.cf_graph.proofs.Closure.{IsWalk, walk-place, walk-more, walk-all}
-use Rattle.cf_graph.proofs.reach.marked.Goals as goal
+use Rattle.cf_graph.proofs.reach.mark_reached.Goals as goal
 
 pub follow-requires-clause-places : goal.follow-requires-clause-places
 follow-requires-clause-places c =

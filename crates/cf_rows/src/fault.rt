@@ -1,7 +1,6 @@
 //! Why a file of cases is not read.
 
 use std::alloc::AllocError;
-use std::num::ParseIntError;
 use thiserror::Error;
 
 /// What is wrong in a line of a file of cases.
@@ -10,18 +9,15 @@ pub enum Fault {
     /// A percent sign begins neither two hexadecimal digits nor a number in braces.
     #[error("no such escape")]
     Escape,
-    /// A number in braces is none, leaves the range, or has no column.
+    /// A number in braces is none, leaves its range, or has no column.
     #[error("no such number in braces")]
     Braces,
     /// The first word of a line is no directive.
     #[error("no such directive")]
     Directive,
-    /// A number is none, or leaves its range.
-    #[error("no such number: {0}")]
-    Number(#[from] ParseIntError),
-    /// The bytes that one call may give or take are none.
-    #[error("a call has at least one byte")]
-    NoBytes,
+    /// A number is none, leaves its range, or is below the least that may stand there.
+    #[error("no such number")]
+    Number,
     /// A line of a text stands outside a text.
     #[error("a line of no text")]
     Text,

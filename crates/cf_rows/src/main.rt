@@ -4,13 +4,13 @@
 
 mod answers;
 mod case;
-mod draft;
 mod fault;
+mod file;
 mod outcome;
 mod text;
 
 use crate::case::Case;
-use crate::draft::cases_of;
+use crate::file::cases_of;
 use crate::outcome::differences_of;
 use std::process::ExitCode;
 use std::{fs, io};
@@ -42,11 +42,10 @@ fn run_case(rt: &HostRuntime, file: &str, case: &Case, tally: &mut Tally) -> io:
     }
 }
 
-// Runs the cases of a file. A file that is not read as one of cases counts as one that differs.
-fn run_file(rt: &HostRuntime, file: &str, tally: &mut Tally) -> io::Result<()> {
-    let text = fs::read_to_string(rt, file)?;
+// Runs the cases of a text. One that is not read counts as one that differs.
+fn run_text(rt: &HostRuntime, file: &str, text: &str, tally: &mut Tally) -> io::Result<()> {
     let mut at = 0;
-    match cases_of(rt.alloc(), text.as_str(), &mut at) {
+    match cases_of(rt.alloc(), text, &mut at) {
         Ok(cases) => {
             for case in &cases {
                 run_case(rt, file, case, tally)?;
@@ -56,6 +55,17 @@ fn run_file(rt: &HostRuntime, file: &str, tally: &mut Tally) -> io::Result<()> {
         Err(fault) => {
             tally.count(true);
             println!(rt; "{file}, line {at}: {fault}")
+        }
+    }
+}
+
+// Runs the cases of a file. A file that cannot be read counts as a case that differs.
+fn run_file(rt: &HostRuntime, file: &str, tally: &mut Tally) -> io::Result<()> {
+    match fs::read_to_string(rt, file) {
+        Ok(text) => run_text(rt, file, text.as_str(), tally),
+        Err(error) => {
+            tally.count(true);
+            println!(rt; "{file}: {error}")
         }
     }
 }

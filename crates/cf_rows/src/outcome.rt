@@ -25,45 +25,42 @@ fn put_differences(
     alloc: Global,
     text: &mut String,
     case: &Case,
-    size: usize,
+    size: u64,
 ) -> Result<(), AllocError> {
     let mut sink = sink_of(alloc, case, size)?;
     let report = report_of(alloc, case, size, &mut sink)?;
-    put_counts(alloc, text, case, &report)?;
-    if let Some(wanted) = &case.answers {
-        let answers = answers_of(alloc, &report.journal, wanted.as_str())?;
-        put_both(
-            alloc,
-            text,
-            "answers",
-            wanted.as_bytes(),
-            answers.as_bytes(),
-        )?;
+    let entries = report.journal.len() as u64;
+    put_number(alloc, text, "status", case.status, u64::from(report.status))?;
+    put_number(alloc, text, "entries", case.entries, entries)?;
+    if !case.answers.is_empty() {
+        let wanted = str::from_utf8(&case.answers).unwrap_or("");
+        let answers = answers_of(alloc, &report.journal, wanted)?;
+        put_both(alloc, text, "answers", &case.answers, answers.as_bytes())?;
     }
-    if let Some(wanted) = &case.written {
-        put_both(alloc, text, "written", wanted, sink.taken())?;
+    if case.is_written_told {
+        put_both(alloc, text, "written", &case.written, sink.taken())?;
     }
     Ok(())
 }
 
 // The files of a case.
-fn source_of(alloc: Global, case: &Case, size: usize) -> Result<MemSource, AllocError> {
+fn source_of(alloc: Global, case: &Case, size: u64) -> Result<MemSource, AllocError> {
     let name = String::from_str(alloc, "f")?;
     let bytes = case.script.clone()?;
     let files = vec![in alloc; MemFile { name, bytes }]?;
-    Ok(MemSource::new(files, case.failing_reads.clone()?, size.max(1)))
+    Ok(MemSource::new(files, case.failing_reads.clone()?, (size as usize).max(1)))
 }
 
 // What a case writes to.
-fn sink_of(alloc: Global, case: &Case, size: usize) -> Result<MemSink, AllocError> {
-    Ok(MemSink::new(alloc, case.failing_writes.clone()?, size.max(1)))
+fn sink_of(alloc: Global, case: &Case, size: u64) -> Result<MemSink, AllocError> {
+    Ok(MemSink::new(alloc, case.failing_writes.clone()?, (size as usize).max(1)))
 }
 
 // Runs a case.
 fn report_of(
     alloc: Global,
     case: &Case,
-    size: usize,
+    size: u64,
     sink: &mut MemSink,
 ) -> Result<Report, AllocError> {
     let mut source = source_of(alloc, case, size)?;
@@ -74,24 +71,18 @@ fn report_of(
     Ok(cfrun_serial(alloc, &words, &mut source, sink))
 }
 
-// Tells a status and a number of entries that are not those wanted.
-fn put_counts(
+// Tells two numbers where one is wanted and another came.
+fn put_number(
     alloc: Global,
     text: &mut String,
-    case: &Case,
-    report: &Report,
+    what: &str,
+    wanted: Option<u64>,
+    came: u64,
 ) -> Result<(), AllocError> {
-    if report.status != case.status {
-        let line = format!(in alloc;
-            "    status {} is wanted, and {} came\n",
-            case.status, report.status
-        )?;
-        text.push_str(line.as_str())?;
-    }
-    let entries = report.journal.len();
-    let wanted = case.entries.unwrap_or(entries);
-    if entries != wanted {
-        let line = format!(in alloc; "    {wanted} entries are wanted, and {entries} came\n")?;
+    if let Some(wanted) = wanted
+        && wanted != came
+    {
+        let line = format!(in alloc; "    {what}: {wanted} wanted, and {came} came\n")?;
         text.push_str(line.as_str())?;
     }
     Ok(())

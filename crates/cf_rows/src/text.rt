@@ -7,8 +7,6 @@ use std::alloc::Global;
 /// A line of a text, as a file of cases has it.
 #[derive(Clone, Copy)]
 pub struct Line<'a> {
-    /// Its number in the file, from 1 on.
-    pub at: usize,
     /// How often it stands in the text.
     pub times: usize,
     /// What stands after the bar, with its escapes.
@@ -17,7 +15,7 @@ pub struct Line<'a> {
 
 /// The line of a text for which a line of a file stands: a number or none, a bar, a space that does not count, and
 /// what comes after it.
-pub fn text_line(at: usize, line: &str) -> Option<Line<'_>> {
+pub fn text_line(line: &str) -> Option<Line<'_>> {
     let (before, after) = line.split_once('|')?;
     let before = before.trim();
     let times = if before.is_empty() {
@@ -26,24 +24,20 @@ pub fn text_line(at: usize, line: &str) -> Option<Line<'_>> {
         before.parse::<usize>().ok()?
     };
     let raw = after.strip_prefix(' ').unwrap_or(after);
-    Some(Line { at, times, raw })
+    Some(Line { times, raw })
 }
 
-/// The bytes for which lines stand. `at` is the number of the line that was read last.
-pub fn bytes_of(
+/// Puts a line into a text, as often as it stands there.
+pub fn put_lines(
     alloc: Global,
-    lines: &[Line],
+    bytes: &mut Vec<u8>,
+    line: Line,
     columns: &[Vec<u8>],
-    at: &mut usize,
-) -> Result<Vec<u8>, Fault> {
-    let mut bytes = Vec::new(alloc);
-    for line in lines {
-        *at = line.at;
-        for turn in 0..line.times {
-            put_line(alloc, &mut bytes, line.raw, columns, turn)?;
-        }
+) -> Result<(), Fault> {
+    for turn in 0..line.times {
+        put_line(alloc, bytes, line.raw, columns, turn)?;
     }
-    Ok(bytes)
+    Ok(())
 }
 
 /// The bytes for which a word stands. A percent sign at its end stands for nothing.
@@ -142,16 +136,33 @@ fn put_number(
     columns: &[Vec<u8>],
     turn: usize,
 ) -> Result<(), Fault> {
-    let number = if let Some(first) = name.strip_prefix('+') {
-        first.parse::<usize>()?.checked_add(turn)
-    } else if let Some(first) = name.strip_prefix('-') {
-        first.parse::<usize>()?.checked_sub(turn)
-    } else {
-        let column = columns.get(name.parse::<usize>()?.saturating_sub(1));
-        bytes.extend_from_slice(column.ok_or(Fault::Braces)?.as_slice())?;
+    if let Some(column) = column_at(columns, name) {
+        bytes.extend_from_slice(column)?;
         return Ok(());
+    }
+    let Some(number) = number_at(name, turn) else {
+        return Err(Fault::Braces);
     };
-    let digits = number.ok_or(Fault::Braces)?.to_string(alloc)?;
+    let digits = number.to_string(alloc)?;
     bytes.extend_from_slice(digits.as_bytes())?;
     Ok(())
+}
+
+// The column that a number names, counted from 1.
+fn column_at<'a>(columns: &'a [Vec<u8>], name: &str) -> Option<&'a [u8]> {
+    let number = name.parse::<usize>().ok()?;
+    let column = columns.get(number.checked_sub(1)?)?;
+    Some(column.as_slice())
+}
+
+// The number at a turn, where one counts up or down.
+fn number_at(name: &str, turn: usize) -> Option<usize> {
+    if let Some(first) = name.strip_prefix('-') {
+        first.parse::<usize>().ok()?.checked_sub(turn)
+    } else {
+        name.strip_prefix('+')?
+            .parse::<usize>()
+            .ok()?
+            .checked_add(turn)
+    }
 }

@@ -1,3 +1,4 @@
 -- The files of definitions of cf_basichash.
 pub mod Members
+pub mod Places
 pub mod Tables

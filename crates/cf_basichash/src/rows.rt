@@ -3,35 +3,37 @@ ghost use Rattle.std.specs.Prelude.{◌≡◌, ◌+◌, ◌≤◌, ◌<◌, ◌�
 ghost use Rattle.std.specs.List.{IsDistinct};
 ghost use Rattle.std.specs.Map.{keys_of};
 ghost use Rattle.std.specs.Option.{ForSome, option_map};
-ghost use Rattle.cf_basichash.specs.Tables.{place_of};
+ghost use Rattle.cf_basichash.specs.Tables.{place_of, IsOfKeys};
 
+use crate::index::Index;
 use cf_callbacks::Callbacks;
 use std::alloc::{AllocError as NoMemory, Global};
 use std::marker::Model;
 use std::mem;
 
-/// A list of rows, each a key and a value, no two of which have equal keys.
+/// A list of rows, each a key and a value, no two of which have equal keys. An index beside it leads from a key's hash
+/// to its row.
 #[derive(Drop)]
 pub struct Rows<K, V, C: Callbacks<K>> {
     rows: Vec<(K, V)>,
+    index: Index,
     callbacks: C,
 }
 
 impl<K, V, C: Callbacks<K>> Model for Rows<K, V, C> {
-    ghost use Rattle.std.specs.Prelude.{◌-◌, vec_len, vec_capacity};
-    ghost use Rattle.std.specs.List.{IsDistinct};
-    ghost use Rattle.std.specs.Map.{keys_of};
-    ghost use Rattle.cf_basichash.specs.Tables.{Table};
+    ghost use Rattle.std.specs.Prelude.{vec_capacity};
+    ghost use Rattle.cf_basichash.specs.Tables.{Table, IsTable};
 
     ghost Value = { Table K V C };
 
     ghost view = { λ t. record {
       rows = t.rows.items;
-      room = vec_capacity t.rows - vec_len t.rows;
+      room = t.index.room;
       callbacks = t.callbacks;
     } };
 
-    ghost invariant = { λ t. IsDistinct (C.same t.callbacks) (keys_of t.rows.items) };
+    ghost invariant = { λ t.
+        IsTable (C.same t.callbacks) (C.hash_of t.callbacks) t.rows.items t.index (vec_capacity t.rows) };
 }
 
 impl<K, V, C: Callbacks<K>> Rows<K, V, C> {
@@ -41,11 +43,13 @@ impl<K, V, C: Callbacks<K>> Rows<K, V, C> {
     {
         Rows {
             rows: Vec::new(alloc),
+            index: Index::new(alloc),
             callbacks: c,
         }
     }
 
-    /// Makes room for at least `more` further rows. `NoMemory` comes only if the room was less, and changes nothing.
+    /// Makes room for at least `more` further rows. `NoMemory` comes only if the room was less, and changes
+    /// nothing.
     pub fn reserve(&mut self, more: usize) -> Result<(), NoMemory>
         ensures rows { self.new.rows ≡ self.old.rows }
         ensures callbacks { self.new.callbacks ≡ self.old.callbacks }
@@ -56,7 +60,11 @@ impl<K, V, C: Callbacks<K>> Rows<K, V, C> {
         ensures enough { more ≤ self.old.room → IsOk result }
         ensures err { OnErr result (self.new ≡ self.old) }
     {
-        self.rows.reserve(more)
+        if more <= self.index.room() {
+            return Ok(());
+        }
+        self.rows.reserve(more)?;
+        self.index.reserve(more)
     }
 
     /// How many rows there are.
@@ -71,9 +79,8 @@ impl<K, V, C: Callbacks<K>> Rows<K, V, C> {
     pub fn find(&self, k: &K) -> Option<usize>
         ensures { result ≡ place_of (C.same self.now.callbacks k.now) self.now.rows }
     {
-        self.rows
-            .iter()
-            .position(|row| self.callbacks.equal(k, &row.0))
+        let hash = self.callbacks.hash(k);
+        seek(&self.rows, &self.index, &self.callbacks, k, hash)
     }
 
     /// The row at a place, or `None` if the place is not below the count.
@@ -97,9 +104,11 @@ impl<K, V, C: Callbacks<K>> Rows<K, V, C> {
         ensures err { OnErr result (self.new ≡ self.old) }
         ensures returned { IfErr result (λ back. back ≡ (k, v)) }
     {
-        if self.find(&k).is_some() {
+        let hash = self.callbacks.hash(&k);
+        if seek(&self.rows, &self.index, &self.callbacks, &k, hash).is_some() {
             return Err((k, v));
         }
+        self.index.push(hash);
         self.rows.push_reserved((k, v));
         Ok(())
     }
@@ -137,9 +146,58 @@ impl<K, V, C: Callbacks<K>> Rows<K, V, C> {
         ensures none { IfNone result (self.new ≡ self.old) }
     {
         if i < self.rows.len() {
+            self.index.remove(i);
             Some(self.rows.remove(i))
         } else {
             None
         }
     }
+}
+
+/// Whether the row has a key that is equal to `k`, whose hash this is. Where the hashes differ, the keys are not
+/// compared.
+fn has_key<K, V, C: Callbacks<K>>(
+    rows: &[(K, V)],
+    index: &Index,
+    callbacks: &C,
+    k: &K,
+    hash: u64,
+    row: usize,
+) -> bool
+    requires row { row < length rows.now }
+    requires hashes { IsOfKeys (C.hash_of callbacks.now) rows.now index.now.hashes }
+    requires hash { hash ≡ C.hash_of callbacks.now k.now }
+    ensures { IfSome (slice_get rows.now row) (λ other. result ≡ C.same callbacks.now k.now other.0) }
+{
+    if index.hash_of(row) != hash {
+        return false;
+    }
+    callbacks.equal(k, &rows[row].0)
+}
+
+/// The place of the row whose key is equal to `k`, whose hash this is: the places are looked at from the hash's home
+/// on, up to the first that is empty.
+fn seek<K, V, C: Callbacks<K>>(
+    rows: &[(K, V)],
+    index: &Index,
+    callbacks: &C,
+    k: &K,
+    hash: u64,
+) -> Option<usize>
+    requires hashes { IsOfKeys (C.hash_of callbacks.now) rows.now index.now.hashes }
+    requires hash { hash ≡ C.hash_of callbacks.now k.now }
+    requires distinct { IsDistinct (C.same callbacks.now) (keys_of rows.now) }
+    ensures { result ≡ place_of (C.same callbacks.now k.now) rows.now }
+{
+    if rows.is_empty() {
+        return None;
+    }
+    let mut place = index.home(hash);
+    while let Some(row) = index.row_at(place) {
+        if has_key(rows, index, callbacks, k, hash, row) {
+            return Some(row);
+        }
+        place = index.after(place);
+    }
+    None
 }

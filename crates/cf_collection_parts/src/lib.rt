@@ -7,3 +7,5 @@ mod coins;
 mod collections;
 #[cfg(test)]
 mod members;
+#[cfg(test)]
+mod tables;

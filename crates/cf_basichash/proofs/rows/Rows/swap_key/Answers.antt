@@ -1,7 +1,7 @@
 -- Answers to the goals of `rows::Rows::swap_key`.
 use Rattle.std.proofs.Common.{◌≡◌, refl, slice_get, Some, true}
 use Rattle.std.proofs.lemmas.Option.{slice_get_read}
-use Rattle.cf_basichash.proofs.TablesLemmas.{distinct_rekeyed}
+use Rattle.cf_basichash.proofs.SeekLemmas.{table_rekeyed}
 use Rattle.cf_basichash.proofs.rows.Rows.swap_key.Goals as goal
 
 pub invariant_of-self : goal.invariant_of-self
@@ -10,8 +10,9 @@ invariant_of-self g c =
     slice_get_read _ _ _ _ refl (rw (← c.self.view_is) at c.requires.below) c.index_mut-row.ensures.value in
     let equal : g.C.Callbacks.same c.self.inside.callbacks c.args.k c.index_mut-row.result.now.0 ≡ true =
     (rw (← c.self.view_is) at c.requires.equal) _ there in
-    distinct_rekeyed _ (g.met.C.Callbacks.equivalence c.self.inside.callbacks) _ _ _ _ there
-    (rw c.replace.ensures.after equal) c.self.invariant
+    table_rekeyed _ _ _ _ _ _ _ _ _ _ (g.met.C.Callbacks.equivalence c.self.inside.callbacks)
+    (g.met.C.Callbacks.equal_hashes c.self.inside.callbacks) c.self.invariant there
+    (rw c.replace.ensures.after equal) refl refl
 
 pub returns-clause-out : goal.returns-clause-out
 returns-clause-out g c =

@@ -4,7 +4,8 @@ use std::alloc::{AllocError, Global};
 use std::test::Fail;
 use std::{fs, process};
 
-// A file named `f` in memory, and what reading it gives.
+// A file named `f` in memory, what reading it gives, and what one more read gives then, which shows whether a call
+// that fails was made.
 struct ReadCase {
     about: &'static str,
     name: &'static str,
@@ -15,7 +16,7 @@ struct ReadCase {
     gives: &'static str,
 }
 
-const READ_CASES: [ReadCase; 8] = [
+const READ_CASES: [ReadCase; 10] = [
     ReadCase {
         about: "an empty file",
         name: "f",
@@ -23,7 +24,7 @@ const READ_CASES: [ReadCase; 8] = [
         most: 100,
         failing: &[],
         limit: 4,
-        gives: "Ok([])",
+        gives: "Ok([]), then Ok(0)",
     },
     ReadCase {
         about: "one byte a call",
@@ -32,7 +33,7 @@ const READ_CASES: [ReadCase; 8] = [
         most: 1,
         failing: &[],
         limit: 100,
-        gives: "Ok([104, 101, 121])",
+        gives: "Ok([104, 101, 121]), then Ok(0)",
     },
     ReadCase {
         about: "a second read that fails after 10 bytes",
@@ -41,7 +42,7 @@ const READ_CASES: [ReadCase; 8] = [
         most: 10,
         failing: &[2],
         limit: 100,
-        gives: "Err(ReadFault)",
+        gives: "Err(ReadFault), then Ok(2)",
     },
     ReadCase {
         about: "a file of as many bytes as the limit",
@@ -50,7 +51,7 @@ const READ_CASES: [ReadCase; 8] = [
         most: 3,
         failing: &[],
         limit: 4,
-        gives: "Ok([104, 101, 121, 33])",
+        gives: "Ok([104, 101, 121, 33]), then Ok(0)",
     },
     ReadCase {
         about: "a file of one byte more than the limit",
@@ -59,7 +60,25 @@ const READ_CASES: [ReadCase; 8] = [
         most: 3,
         failing: &[],
         limit: 3,
-        gives: "Err(TooLong)",
+        gives: "Err(TooLong), then Ok(0)",
+    },
+    ReadCase {
+        about: "a third read that would fail, past the limit before it",
+        name: "f",
+        bytes: b"heyhey",
+        most: 3,
+        failing: &[3],
+        limit: 4,
+        gives: "Err(TooLong), then Err(Failed)",
+    },
+    ReadCase {
+        about: "a second read that fails, within the limit",
+        name: "f",
+        bytes: b"heyhey",
+        most: 3,
+        failing: &[2],
+        limit: 4,
+        gives: "Err(ReadFault), then Ok(3)",
     },
     ReadCase {
         about: "a call that fails past the end",
@@ -68,7 +87,7 @@ const READ_CASES: [ReadCase; 8] = [
         most: 3,
         failing: &[3],
         limit: 3,
-        gives: "Ok([104, 101, 121])",
+        gives: "Ok([104, 101, 121]), then Err(Failed)",
     },
     ReadCase {
         about: "an open that fails",
@@ -99,7 +118,8 @@ fn outcome_of_read(alloc: Global, case: &ReadCase) -> Result<String, AllocError>
     match source.open(case.name) {
         Ok(()) => {
             let all = read_all(alloc, &mut source, case.limit);
-            format!(in alloc; "{all:?}")
+            let next = source.read(&mut [0; 4]);
+            format!(in alloc; "{all:?}, then {next:?}")
         }
         Err(_) => String::from_str(alloc, "not open"),
     }

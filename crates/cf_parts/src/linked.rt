@@ -1,8 +1,9 @@
 //! Nodes in linked lists: each call on its happy path.
-ghost use Rattle.std.specs.Prelude.{◌≡◌, ◌<◌, length, None, IsTrue, IsSome};
+ghost use Rattle.std.specs.Prelude.{◌≡◌, ◌<◌, [], length, None, IsTrue, IsSome};
 ghost use Rattle.cf_links.specs.Lists.{value_at, list_of};
 
 use cf_links::{Links, ListId, Node};
+use std::alloc::Global;
 use std::test::Fail;
 
 /// Whether a node is there and in no list.
@@ -71,10 +72,19 @@ fn values(links: &Links<u8>, l: ListId) -> [u8; 5] {
     found
 }
 
+// New lists after a call for no room, and whether it was accepted: neither room has grown.
+fn with_no_room(alloc: Global) -> (Links<u8>, bool)
+    ensures rooms { result.0 ≡ record { lists = []; values = []; list_room = 0; node_room = 0 } }
+    ensures accepted { IsTrue result.1 }
+{
+    let mut links = Links::new(alloc);
+    let accepted = links.reserve(0).is_ok();
+    (links, accepted)
+}
+
 #[test]
 fn linked_nodes(rt: HostRuntime) -> Result<(), Fail> {
-    let mut links: Links<u8> = Links::new(rt.alloc());
-    links.reserve(0).ok().ok_or("room for none")?;
+    let (mut links, accepted) = with_no_room(rt.alloc());
     links.reserve(4).ok().ok_or("room for four")?;
     let l = links.make_list();
     let a = links.make(1);
@@ -90,6 +100,7 @@ fn linked_nodes(rt: HostRuntime) -> Result<(), Fail> {
     let freed = links.free(c);
     done = insert_before(&mut links, a, d) && done;
     for (case, holds) in [
+        ("room for none", accepted),
         ("each node is ready for its step", done),
         ("three nodes", linked == ([2, 3, 1, 0, 0], None, Some(l))),
         (

@@ -3,3 +3,4 @@ pub mod Showing
 pub mod Pairing
 pub mod Placing
 pub mod Growing
+pub mod Collecting

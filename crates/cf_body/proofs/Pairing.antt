@@ -10,7 +10,8 @@ use Rattle.cf_types.specs.declared.callbacks.CellCallbacks.{CellCallbacks}
 use Rattle.cf_basichash.specs.Tables.{pairs_with}
 use Rattle.cf_dictionary.specs.Dictionaries.{set_answer}
 use Rattle.cf_dictionary.specs.declared.dictionary.DictSet.TheVariants.{Added, Changed}
-use Rattle.cf_contents.specs.Keys.{callbacks_of, equal_to}
+use Rattle.cf_contents.specs.Contents.{callbacks_of}
+use Rattle.cf_contents.specs.Keys.{equal_to}
 use Rattle.cf_body.specs.Pairs.{pair_in, numbers_in}
 
 abbrev pub id_of : Cell → ℕ

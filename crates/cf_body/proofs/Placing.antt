@@ -6,8 +6,10 @@ use Rattle.std.specs.List.{splice, remove}
 use Rattle.std.proofs.lemmas.Bool.{cases_lt}
 use Rattle.std.proofs.lemmas.Option.{slice_get_read, slice_get_within}
 use Rattle.cf_types.specs.declared.cells.Cell.{Cell}
-use Rattle.cf_contents.specs.Contents.{Content, text_content, data_content, number_content, instance_content, array_content, dictionary_content, present, flat, unless_plain, slots_in, member_limit}
-use Rattle.cf_body.specs.Bodies.{members_in}
+use Rattle.cf_contents.specs.Contents.{Content, text_content, data_content, number_content, instance_content, array_content, dictionary_content, set_content, bag_content, heap_content, present, flat, ids_of, row_ids, id_in_row, order_of, unless_plain, slots_in, member_limit}
+use Rattle.cf_callbacks.specs.Ranking.{by_rank}
+use Rattle.cf_callbacks.proofs.RankingLaws.{length-by_rank}
+use Rattle.cf_body.specs.Bodies.{most_in}
 use Rattle.cf_body.specs.Changes.{DoneTo}
 use Rattle.cf_body.specs.Pairs.{numbers_in}
 use Rattle.cf_body.specs.declared.change.BodyChange.TheVariants.{Replace, Remove, Fill, Clear}
@@ -43,7 +45,7 @@ one_present : (o : Option ℕ) → present (o ∷ None ∷ []) ≡ option_to_lis
 one_present None = refl
 one_present (Some x) = refl
 
-field_present : (o : Option ℕ) → present (o ∷ None ∷ []) ≡ present (o ∷ [])
+pub field_present : (o : Option ℕ) → present (o ∷ None ∷ []) ≡ present (o ∷ [])
 field_present None = refl
 field_present (Some x) = refl
 
@@ -161,7 +163,15 @@ length-present [] = omega arith
 length-present (None ∷ fs) = omega (arith, length-present fs)
 length-present (Some o ∷ fs) = omega (arith, length-present fs)
 
-slots_twice : (c : Content) → length (slots_in c) ≤ members_in c + members_in c
+length-ids : (ms : List Cell) → length (ids_of ms) ≡ length ms
+length-ids [] = refl
+length-ids (m ∷ ms) = omega (arith, length-ids ms)
+
+length-row_ids : (rows : List (Cell × ℕ)) → length (row_ids rows) ≡ length rows
+length-row_ids [] = refl
+length-row_ids (r ∷ rs) = omega (arith, length-row_ids rs)
+
+slots_twice : (c : Content) → length (slots_in c) ≤ most_in c + most_in c
 slots_twice (text_content mutable units) = omega arith
 slots_twice (data_content mutable bytes) = omega arith
 slots_twice (number_content n) = omega arith
@@ -170,11 +180,30 @@ slots_twice (array_content true os) = omega arith
 slots_twice (array_content false os) = omega arith
 slots_twice (dictionary_content true pairs) = omega arith
 slots_twice (dictionary_content false pairs) = omega (arith, length-flat pairs)
+slots_twice (set_content true members) = omega arith
+slots_twice (set_content false members) = omega (arith, length-ids members)
+slots_twice (bag_content true rows) = omega arith
+slots_twice (bag_content false rows) = omega (arith, length-row_ids rows)
+slots_twice (heap_content true adds rows) = omega arith
+slots_twice (heap_content false adds rows) =
+    omega (arith, length-row_ids (by_rank (order_of false) rows), length-by_rank (order_of false) rows)
 
-pub few_slots : (c : Content) (k : ℕ) (slot : Option ℕ) → members_in c < member_limit → slot ≡ slice_get (slots_in c) k
+pub few_slots : (c : Content) (k : ℕ) (slot : Option ℕ) → most_in c < member_limit → slot ≡ slice_get (slots_in c) k
     → OnSome slot (k + 1 < 4294967296)
 few_slots c k None few is = tt
 few_slots c k (Some o) few is = omega (arith, slots_twice c, slice_get_within (slots_in c) k o (sym is), few)
+
+-- the slots of members and of rows
+pub ids_at : (ms : List Cell) (k : ℕ) → slice_get (ids_of ms) k ≡ option_map (λ (m : Cell). m.id) (slice_get ms k)
+ids_at [] k = refl
+ids_at (m ∷ ms) zero = refl
+ids_at (m ∷ ms) (suc k) = ids_at ms k
+
+pub row_ids_at : (rows : List (Cell × ℕ)) (k : ℕ)
+    → slice_get (row_ids rows) k ≡ option_map id_in_row (slice_get rows k)
+row_ids_at [] k = refl
+row_ids_at (r ∷ rs) zero = refl
+row_ids_at (r ∷ rs) (suc k) = row_ids_at rs k
 
 -- the first of the slots that are left
 pub first_left : (slots : List ℕ) (k : ℕ) → slice_get (drop k slots) 0 ≡ slice_get slots k

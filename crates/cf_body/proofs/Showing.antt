@@ -8,8 +8,8 @@ use Rattle.std.proofs.str.Utf16.{utf16_chars-drop_all}
 use Rattle.std.specs.Char.Utf16.{is_high_surrogate, is_low_surrogate, lone_unit_char, surrogate_pair_char, utf16_chars, utf16_lossy_chars}
 use Rattle.std.specs.List.{flat_map, join_with_byte}
 use Rattle.hex.specs.Hex.{encode_lower}
-use Rattle.cf_contents.specs.Descriptions.{more_if, shown_char, shown_bytes, member_word, pair_word}
-use Rattle.cf_contents.specs.Contents.{Content, text_content, data_content, number_content, instance_content, array_content, dictionary_content}
+use Rattle.cf_contents.specs.Descriptions.{more_if, shown_char, shown_bytes, member_word, pair_word, cell_word, row_word}
+use Rattle.cf_contents.specs.Contents.{Content, text_content, data_content, number_content, instance_content, array_content, dictionary_content, set_content, bag_content, heap_content}
 use Rattle.cf_ids.specs.Words.{number_word}
 use Rattle.cf_body.specs.Bodies.{word_at, words_of, members_in}
 
@@ -144,3 +144,6 @@ length-words (number_content n) = refl
 length-words (instance_content key fields) = length-map fields member_word
 length-words (array_content plain elements) = length-map elements number_word
 length-words (dictionary_content plain pairs) = length-map pairs pair_word
+length-words (set_content plain members) = length-map members cell_word
+length-words (bag_content plain rows) = length-map rows row_word
+length-words (heap_content plain adds rows) = refl

@@ -3,14 +3,14 @@ use Rattle.std.specs.Prelude.{ℕ, Bool, List, [], ◌++◌, codes, map, length,
 use Rattle.std.specs.Fmt.{decimal}
 use Rattle.std.specs.List.{join_with_byte}
 use Rattle.cf_ids.specs.Words.{number_word}
-use Rattle.cf_contents.specs.Contents.{Content, Object, text_content, data_content, number_content, instance_content, array_content, dictionary_content}
-use Rattle.cf_contents.specs.Descriptions.{more_if, member_word, pair_word}
+use Rattle.cf_contents.specs.Contents.{Content, Object, text_content, data_content, number_content, instance_content, array_content, dictionary_content, set_content, bag_content, heap_content, size_of}
+use Rattle.cf_contents.specs.Descriptions.{more_if, member_word, pair_word, cell_word, row_word}
 use Rattle.cf_contents.specs.Stores.{Held}
 use Rattle.cf_body.specs.declared.body.Kind.{Kind}
-use Rattle.cf_body.specs.declared.body.Kind.TheVariants.{Text, Data, Number, Instance, Array, Dictionary}
+use Rattle.cf_body.specs.declared.body.Kind.TheVariants.{Text, Data, Number, Instance, Array, Dictionary, Set, Bag, Heap}
 
 -- what a body is to the store: its object, whether that is finalised, how many of its slots it has given up, and how
--- many more units, bytes, elements or pairs come in without memory
+-- many more units, bytes, elements, pairs or members come in without memory
 pub record BodyView : Type 0 where
   pub class : ℕ
   pub content : Content
@@ -34,6 +34,9 @@ content_of (Number n) = number_content n
 content_of (Instance i) = instance_content i.key i.fields.items
 content_of (Array plain elements) = array_content plain elements.items
 content_of (Dictionary pairs) = dictionary_content pairs.plain pairs.items
+content_of (Set set) = set_content set.plain set.members
+content_of (Bag bag) = bag_content bag.plain bag.rows
+content_of (Heap heap) = heap_content heap.plain heap.adds heap.rows
 
 -- how many more units, bytes, elements or pairs come in without memory
 abbrev pub room_of : Kind → ℕ
@@ -43,8 +46,11 @@ room_of (Number n) = 0
 room_of (Instance i) = 0
 room_of (Array plain elements) = elements.room
 room_of (Dictionary pairs) = pairs.room
+room_of (Set set) = set.room
+room_of (Bag bag) = bag.room
+room_of (Heap heap) = heap.room
 
--- how many members there are: fields, elements or pairs
+-- how many members there are that are listed: fields, elements, pairs or rows
 abbrev pub members_in : Content → ℕ
 members_in (text_content mutable units) = 0
 members_in (data_content mutable bytes) = 0
@@ -52,6 +58,21 @@ members_in (number_content n) = 0
 members_in (instance_content key fields) = length fields
 members_in (array_content plain elements) = length elements
 members_in (dictionary_content plain pairs) = length pairs
+members_in (set_content plain members) = length members
+members_in (bag_content plain rows) = length rows
+members_in (heap_content plain adds rows) = 0
+
+-- what stays below the limit: of an instance how many fields it has, of others their size
+abbrev pub most_in : Content → ℕ
+most_in (text_content mutable units) = 0
+most_in (data_content mutable bytes) = 0
+most_in (number_content n) = 0
+most_in (instance_content key fields) = length fields
+most_in (array_content plain elements) = size_of (array_content plain elements)
+most_in (dictionary_content plain pairs) = size_of (dictionary_content plain pairs)
+most_in (set_content plain members) = size_of (set_content plain members)
+most_in (bag_content plain rows) = size_of (bag_content plain rows)
+most_in (heap_content plain adds rows) = size_of (heap_content plain adds rows)
 
 -- the words of the members
 abbrev pub words_of : Content → List (List ℕ)
@@ -61,6 +82,9 @@ words_of (number_content n) = []
 words_of (instance_content key fields) = map member_word fields
 words_of (array_content plain elements) = map number_word elements
 words_of (dictionary_content plain pairs) = map pair_word pairs
+words_of (set_content plain members) = map cell_word members
+words_of (bag_content plain rows) = map row_word rows
+words_of (heap_content plain adds rows) = []
 
 -- the word at a place, and nothing where there is none
 abbrev pub word_at : List (List ℕ) → ℕ → List ℕ

@@ -1,13 +1,14 @@
 //! What an object is made of.
 ghost use Rattle.std.specs.Prelude.{◌≡◌, ◌<◌};
 ghost use Rattle.cf_contents.specs.Contents.{member_limit};
-ghost use Rattle.cf_body.specs.Bodies.{content_of, held_of, members_in};
+ghost use Rattle.cf_body.specs.Bodies.{content_of, held_of, most_in};
 ghost use Rattle.cf_contents.specs.Stores.{live};
 
 use crate::pairs::Pairs;
 use cf_array::Array;
 use cf_data::Bytes;
 use cf_ids::{ObjId, TypeId};
+use cf_members::{ElementHeap, MemberBag, MemberSet};
 use cf_number::Num;
 use cf_string::Str;
 use std::marker::Model;
@@ -36,10 +37,16 @@ pub enum Kind {
     Array { plain: bool, elements: Array<ObjId> },
     /// The pairs of a dictionary.
     Dictionary(Pairs),
+    /// The members of a set.
+    Set(MemberSet),
+    /// The rows of a bag.
+    Bag(MemberBag),
+    /// The elements of a heap.
+    Heap(ElementHeap),
 }
 
 /// The body of an object. Contracts see the object, whether it is finalised, how many of its slots it has
-/// given up, and how many more units, bytes, elements or pairs come in without memory.
+/// given up, and how many more units, bytes, elements, pairs or members come in without memory.
 #[derive(Drop)]
 pub struct Body {
     pub(crate) class: TypeId,
@@ -51,7 +58,7 @@ pub struct Body {
 impl Model for Body {
     ghost use Rattle.std.specs.Prelude.{◌<◌};
     ghost use Rattle.cf_contents.specs.Contents.{member_limit};
-    ghost use Rattle.cf_body.specs.Bodies.{BodyView, content_of, room_of, members_in};
+    ghost use Rattle.cf_body.specs.Bodies.{BodyView, content_of, room_of, most_in};
 
     ghost Value = { BodyView };
 
@@ -63,13 +70,13 @@ impl Model for Body {
       room = room_of b.kind;
     } };
 
-    ghost invariant = { λ b. members_in (content_of b.kind) < member_limit };
+    ghost invariant = { λ b. most_in (content_of b.kind) < member_limit };
 }
 
 impl Body {
     /// The body of a new object of a type.
     pub fn new(class: TypeId, kind: Kind) -> Body
-        requires { members_in (content_of kind) < member_limit }
+        requires { most_in (content_of kind) < member_limit }
         ensures { held_of result ≡ live (record { class = class; content = content_of kind }) }
     {
         Body {

@@ -31,18 +31,29 @@ pub enum BodyChange {
     PutPair { key: Cell, value: ObjId },
     /// A pair is removed by its key.
     RemovePair { key: Cell },
+    /// An element is added to a set, a bag or a heap.
+    AddMember { element: Cell },
+    /// An element is put in place of the member that is equal to it, or added.
+    PutMember { element: Cell },
+    /// One of the members that are equal to an element is removed.
+    RemoveMember { element: Cell },
+    /// The least element of a heap is removed.
+    RemoveLeast,
 }
 
 impl BodyChange {
-    /// For how many units, bytes, elements or pairs it needs room.
+    /// For how many units, bytes, elements, pairs or members it needs room.
     pub(crate) fn room(&self) -> usize
         ensures { result ≡ room_for self.now }
     {
         match self {
             BodyChange::Text { text, .. } => text.length(),
             BodyChange::Data { bytes, .. } => bytes.length(),
-            BodyChange::Insert { .. } | BodyChange::Replace { .. } | BodyChange::PutPair { .. } =>
-                1,
+            BodyChange::Insert { .. }
+            | BodyChange::Replace { .. }
+            | BodyChange::PutPair { .. }
+            | BodyChange::AddMember { .. }
+            | BodyChange::PutMember { .. } => 1,
             _ => 0,
         }
     }

@@ -1,13 +1,15 @@
 //! How objects are described.
 ghost use Rattle.std.specs.Prelude.{◌≡◌, ◌++◌, codes, take, length, nat_lt, IfOk, OnOk};
 ghost use Rattle.std.specs.List.{flat_map};
-ghost use Rattle.std.specs.Fmt.{signed_decimal};
-ghost use Rattle.cf_contents.specs.Descriptions.{more_if, shown_char, characters_of, shown_text, shown_bytes, kind_word, shown_content, description};
+ghost use Rattle.std.specs.Fmt.{decimal, signed_decimal};
+ghost use Rattle.cf_contents.specs.Contents.{least_of};
+ghost use Rattle.cf_contents.specs.Descriptions.{more_if, shown_char, characters_of, shown_text, shown_bytes, kind_word, shown_content, least_word, description};
 ghost use Rattle.cf_body.specs.Bodies.{content_of, object_in, counted_list};
 
 use crate::body::{Body, Kind};
 use crate::classes::class_name;
-use crate::members::{members, push_members};
+use crate::members::{members, push_members, push_number};
+use cf_members::ElementHeap;
 use cf_number::NumKind;
 use cf_string::Str;
 use cf_syntax::ClassLine;
@@ -44,7 +46,10 @@ fn push_content(alloc: Global, out: &mut Vec<u8>, kind: &Kind) -> Result<(), NoM
             out.push(b' ')?;
             push_members(alloc, out, kind)
         }
-        Kind::Array { .. } | Kind::Dictionary(_) => push_counted(alloc, out, kind),
+        Kind::Array { .. } | Kind::Dictionary(_) | Kind::Set(_) | Kind::Bag(_) => {
+            push_counted(alloc, out, kind)
+        }
+        Kind::Heap(heap) => push_heap(alloc, out, heap),
     }
 }
 
@@ -55,6 +60,21 @@ fn push_counted(alloc: Global, out: &mut Vec<u8>, kind: &Kind) -> Result<(), NoM
     out.extend_from_slice(members(kind).to_string(alloc)?.as_bytes())?;
     out.push(b' ')?;
     push_members(alloc, out, kind)
+}
+
+/// Writes how many elements a heap has, and the least.
+fn push_heap(alloc: Global, out: &mut Vec<u8>, heap: &ElementHeap) -> Result<(), NoMemory>
+    ensures { let first = least_of heap.now.plain heap.now.rows in
+        OnOk result (out.new.items ≡ out.old.items ++ (decimal (length heap.now.rows) ++ least_word first)) }
+{
+    out.extend_from_slice(heap.count().to_string(alloc)?.as_bytes())?;
+    match heap.least() {
+        Some(element) => {
+            out.extend_from_slice(b" min ")?;
+            push_number(alloc, out, element)
+        }
+        None => Ok(()),
+    }
 }
 
 /// Writes a text in quotes: 32 characters at most.

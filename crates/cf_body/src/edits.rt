@@ -1,20 +1,19 @@
 //! How bodies are changed, without memory where there is room.
 ghost use Rattle.std.specs.Prelude.{◌≡◌, ◌+◌, ◌≤◌, ◌<◌, length, IsOk, OnOk, OnErr};
-ghost use Rattle.cf_contents.specs.Contents.{text_content, data_content, instance_content, array_content, dictionary_content, present, size_of, member_limit};
+ghost use Rattle.cf_contents.specs.Contents.{text_content, data_content, instance_content, array_content, present, size_of, member_limit};
 ghost use Rattle.cf_contents.specs.Deeds.{coming_in, going_out};
-ghost use Rattle.cf_body.specs.Bodies.{content_of, room_of, held_of};
+ghost use Rattle.cf_body.specs.Bodies.{content_of, most_in, room_of, held_of};
 ghost use Rattle.cf_body.specs.Changes.{done_of, room_for, members_for, CanBe, HasRoom, DoneTo};
 ghost use Rattle.cf_contents.specs.Stores.{body_changed};
-ghost use Rattle.cf_body.specs.declared.change.BodyChange.TheVariants.{Insert, Replace, Remove, Fill, Clear, PutPair, RemovePair};
+ghost use Rattle.cf_body.specs.declared.change.BodyChange.TheVariants.{Insert, Replace, Remove, Fill, Clear};
 
 use crate::body::{Body, Instance, Kind};
 use crate::change::{BodyChange, Moved};
-use crate::pairs::Pairs;
+use crate::collection_edits::{change_bag, change_heap, change_pairs, change_set};
 use cf_array::Array;
 use cf_data::Bytes;
 use cf_ids::ObjId;
 use cf_string::Str;
-use cf_types::Cell;
 use std::alloc::AllocError as NoMemory;
 use std::mem;
 
@@ -61,6 +60,9 @@ fn reserve(kind: &mut Kind, change: &BodyChange) -> Result<(), NoMemory>
         Kind::Data { bytes, .. } => bytes.reserve(more),
         Kind::Array { elements, .. } => elements.reserve(more),
         Kind::Dictionary(pairs) => pairs.reserve(more),
+        Kind::Set(set) => set.reserve(more),
+        Kind::Bag(bag) => bag.reserve(more),
+        Kind::Heap(heap) => heap.reserve(more),
         Kind::Number(_) | Kind::Instance(_) => Ok(()),
     }
 }
@@ -69,15 +71,19 @@ fn reserve(kind: &mut Kind, change: &BodyChange) -> Result<(), NoMemory>
 fn change_kind(kind: &mut Kind, change: BodyChange) -> Moved
     requires can { CanBe change (content_of kind.old) }
     requires room { room_for change ≤ room_of kind.old }
+    requires few { most_in (content_of kind.old) + members_for change < member_limit }
     ensures { DoneTo change (content_of kind.old) (content_of kind.new) result }
 {
     match kind {
         Kind::Text { mutable, text } => change_text(*mutable, text, change),
         Kind::Data { mutable, bytes } => change_bytes(*mutable, bytes, change),
         Kind::Number(_) => Moved::nothing(),
-        Kind::Instance(instance) => change_fields(instance, change),
-        Kind::Array { plain, elements } => change_elements(*plain, elements, change),
+        Kind::Instance(instance) => change_fields(instance, &change),
+        Kind::Array { plain, elements } => change_elements(*plain, elements, &change),
         Kind::Dictionary(pairs) => change_pairs(pairs, change),
+        Kind::Set(set) => change_set(set, change),
+        Kind::Bag(bag) => change_bag(bag, change),
+        Kind::Heap(heap) => change_heap(heap, change),
     }
 }
 
@@ -120,14 +126,14 @@ fn change_bytes(mutable: bool, bytes: &mut Bytes, change: BodyChange) -> Moved
 }
 
 /// Changes the fields of an instance.
-fn change_fields(instance: &mut Instance, change: BodyChange) -> Moved
-    requires { CanBe change (instance_content instance.old.key instance.old.fields.items) }
-    ensures { DoneTo change (instance_content instance.old.key instance.old.fields.items)
+fn change_fields(instance: &mut Instance, change: &BodyChange) -> Moved
+    requires { CanBe change.now (instance_content instance.old.key instance.old.fields.items) }
+    ensures { DoneTo change.now (instance_content instance.old.key instance.old.fields.items)
         (instance_content instance.new.key instance.new.fields.items) result }
 {
     match change {
-        BodyChange::Fill { at, element } => fill_field(instance, at, element),
-        BodyChange::Clear { at } => clear_field(instance, at),
+        BodyChange::Fill { at, element } => fill_field(instance, *at, *element),
+        BodyChange::Clear { at } => clear_field(instance, *at),
         _ => Moved::nothing(),
     }
 }
@@ -159,15 +165,16 @@ fn clear_field(instance: &mut Instance, at: usize) -> Moved
 }
 
 /// Changes the elements of an array.
-fn change_elements(plain: bool, elements: &mut Array<ObjId>, change: BodyChange) -> Moved
-    requires can { CanBe change (array_content plain elements.old.items) }
-    requires room { room_for change ≤ elements.old.room }
-    ensures { DoneTo change (array_content plain elements.old.items) (array_content plain elements.new.items) result }
+fn change_elements(plain: bool, elements: &mut Array<ObjId>, change: &BodyChange) -> Moved
+    requires can { CanBe change.now (array_content plain elements.old.items) }
+    requires room { room_for change.now ≤ elements.old.room }
+    ensures { let before = array_content plain elements.old.items in
+        DoneTo change.now before (array_content plain elements.new.items) result }
 {
     match change {
-        BodyChange::Insert { at, element } => insert_element(plain, elements, at, element),
-        BodyChange::Replace { at, element } => replace_element(plain, elements, at, element),
-        BodyChange::Remove { at } => remove_element(plain, elements, at),
+        BodyChange::Insert { at, element } => insert_element(plain, elements, *at, *element),
+        BodyChange::Replace { at, element } => replace_element(plain, elements, *at, *element),
+        BodyChange::Remove { at } => remove_element(plain, elements, *at),
         _ => Moved::nothing(),
     }
 }
@@ -202,44 +209,4 @@ fn remove_element(plain: bool, elements: &mut Array<ObjId>, at: usize) -> Moved
 {
     let old = elements.remove(at).unwrap();
     Moved::unless_plain(plain, [None, None], [Some(old), None])
-}
-
-/// Changes the pairs of a dictionary.
-fn change_pairs(pairs: &mut Pairs, change: BodyChange) -> Moved
-    requires can { CanBe change (dictionary_content pairs.old.plain pairs.old.items) }
-    requires room { room_for change ≤ pairs.old.room }
-    ensures { DoneTo change (dictionary_content pairs.old.plain pairs.old.items)
-        (dictionary_content pairs.new.plain pairs.new.items) result }
-{
-    match change {
-        BodyChange::PutPair { key, value } => put_pair(pairs, key, value),
-        BodyChange::RemovePair { key } => remove_pair(pairs, &key),
-        _ => Moved::nothing(),
-    }
-}
-
-/// Puts a pair in.
-fn put_pair(pairs: &mut Pairs, key: Cell, value: ObjId) -> Moved
-    requires { 0 < pairs.old.room }
-    ensures { DoneTo (PutPair key value) (dictionary_content pairs.old.plain pairs.old.items)
-        (dictionary_content pairs.new.plain pairs.new.items) result }
-{
-    let id = key.id;
-    match pairs.put(key, value) {
-        Some(old) => Moved::unless_plain(pairs.plain(), [Some(value), None], [Some(old), None]),
-        None => Moved::unless_plain(pairs.plain(), [Some(id), Some(value)], [None, None]),
-    }
-}
-
-/// Removes a pair.
-fn remove_pair(pairs: &mut Pairs, key: &Cell) -> Moved
-    ensures { DoneTo (RemovePair key.now) (dictionary_content pairs.old.plain pairs.old.items)
-        (dictionary_content pairs.new.plain pairs.new.items) result }
-{
-    match pairs.remove(key) {
-        Some((key, value)) => {
-            Moved::unless_plain(pairs.plain(), [None, None], [Some(key), Some(value)])
-        }
-        None => Moved::nothing(),
-    }
 }

@@ -5,6 +5,7 @@
 mod body;
 mod change;
 mod classes;
+mod collection_edits;
 mod description;
 mod edits;
 mod keys;

@@ -1,5 +1,6 @@
 //! How the members of an object are described.
 ghost use Rattle.std.specs.Prelude.{◌≡◌, ◌++◌, ◌≤◌, codes, take, OnOk};
+ghost use Rattle.std.specs.Fmt.{decimal};
 ghost use Rattle.std.specs.List.{join_with_byte};
 ghost use Rattle.cf_contents.specs.Descriptions.{member_word};
 ghost use Rattle.cf_ids.specs.Words.{number_word};
@@ -13,7 +14,7 @@ use std::alloc::{AllocError as NoMemory, Global};
 /// The most members that are shown.
 const MEMBERS: usize = 8;
 
-/// How many members there are: fields, elements or pairs.
+/// How many members there are: fields, elements, pairs or rows.
 pub(crate) fn members(kind: &Kind) -> usize
     ensures { result ≡ members_in (content_of kind.now) }
 {
@@ -21,6 +22,8 @@ pub(crate) fn members(kind: &Kind) -> usize
         Kind::Instance(instance) => instance.fields.len(),
         Kind::Array { elements, .. } => elements.length(),
         Kind::Dictionary(pairs) => pairs.count(),
+        Kind::Set(set) => set.count(),
+        Kind::Bag(bag) => bag.count(),
         _ => 0,
     }
 }
@@ -69,6 +72,14 @@ fn push_member(alloc: Global, out: &mut Vec<u8>, kind: &Kind, at: usize) -> Resu
             Some((key, value)) => push_pair(alloc, out, key, value),
             None => Ok(()),
         },
+        Kind::Set(set) => match set.at(at) {
+            Some(member) => push_number(alloc, out, member),
+            None => Ok(()),
+        },
+        Kind::Bag(bag) => match bag.row(at) {
+            Some((member, number)) => push_row(alloc, out, member, number),
+            None => Ok(()),
+        },
         _ => Ok(()),
     }
 }
@@ -92,8 +103,17 @@ fn push_pair(alloc: Global, out: &mut Vec<u8>, key: ObjId, value: ObjId) -> Resu
     push_number(alloc, out, value)
 }
 
+/// Writes a member of a bag and how often it is there.
+fn push_row(alloc: Global, out: &mut Vec<u8>, member: ObjId, number: u32) -> Result<(), NoMemory>
+    ensures { OnOk result (out.new.items ≡ out.old.items ++ (number_word member ++ codes "x" ++ decimal number)) }
+{
+    push_number(alloc, out, member)?;
+    out.push(b'x')?;
+    out.extend_from_slice(number.to_string(alloc)?.as_bytes())
+}
+
 /// Writes the number of an object.
-fn push_number(alloc: Global, out: &mut Vec<u8>, object: ObjId) -> Result<(), NoMemory>
+pub(crate) fn push_number(alloc: Global, out: &mut Vec<u8>, object: ObjId) -> Result<(), NoMemory>
     ensures { OnOk result (out.new.items ≡ out.old.items ++ number_word object) }
 {
     out.extend_from_slice(object.to_string(alloc)?.as_bytes())

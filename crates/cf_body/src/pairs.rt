@@ -22,7 +22,7 @@ pub struct Pairs {
 
 impl Model for Pairs {
     ghost use Rattle.std.specs.Prelude.{◌≡◌, map};
-    ghost use Rattle.cf_contents.specs.Keys.{callbacks_of};
+    ghost use Rattle.cf_contents.specs.Contents.{callbacks_of};
     ghost use Rattle.cf_body.specs.Pairs.{PairsView, pair_in};
 
     ghost Value = { PairsView };

@@ -1,13 +1,15 @@
 //! The slots of bodies, by their places.
 ghost use Rattle.std.specs.Prelude.{◌≡◌, ◌+◌, ◌<◌, Some, slice_get, IfNone, OnSome};
 ghost use Rattle.std.specs.Option.{option_map};
-ghost use Rattle.cf_contents.specs.Contents.{present, flat, unless_plain, slots_in};
-ghost use Rattle.cf_body.specs.Bodies.{content_of, held_of};
+ghost use Rattle.cf_contents.specs.Contents.{present, flat, ids_of, row_ids, order_of, unless_plain, slots_in};
+ghost use Rattle.cf_callbacks.specs.Ranking.{by_rank};
+ghost use Rattle.cf_body.specs.Bodies.{content_of, room_of, held_of};
 ghost use Rattle.cf_contents.specs.Stores.{body_finalised, body_dropped, left_to};
 
 use crate::body::{Body, Kind};
 use crate::pairs::Pairs;
 use cf_ids::ObjId;
+use cf_members::{ElementHeap, MemberBag, MemberSet};
 
 impl Body {
     /// The object in the slot at a place.
@@ -18,11 +20,19 @@ impl Body {
         slot_in(&self.kind, k)
     }
 
-    /// Finalises the object.
+    /// Sorts the elements of a heap, so that each slot is found at once. It takes no memory.
+    pub fn sort(&mut self)
+        ensures { self.new ≡ self.old }
+    {
+        sort(&mut self.kind);
+    }
+
+    /// Finalises the object. A heap is sorted, so that it gives up each slot at once.
     pub fn retire(&mut self)
         ensures held { held_of self.new ≡ body_finalised (held_of self.old) }
         ensures room { self.new.room ≡ self.old.room }
     {
+        sort(&mut self.kind);
         self.is_finalised = true;
     }
 
@@ -57,8 +67,55 @@ fn slot_in(kind: &Kind, k: usize) -> Option<ObjId>
             elements,
         } => elements.get(k).copied(),
         Kind::Dictionary(pairs) => pair_slot(pairs, k),
+        Kind::Set(set) => set_slot(set, k),
+        Kind::Bag(bag) => bag_slot(bag, k),
+        Kind::Heap(heap) => heap_slot(heap, k),
         _ => None,
     }
+}
+
+/// Sorts the elements of a heap.
+fn sort(kind: &mut Kind)
+    ensures content { content_of kind.new ≡ content_of kind.old }
+    ensures room { room_of kind.new ≡ room_of kind.old }
+{
+    if let Kind::Heap(heap) = kind {
+        heap.sort();
+    }
+}
+
+/// The k-th member of a set, unless it is plain.
+fn set_slot(set: &MemberSet, k: usize) -> Option<ObjId>
+    ensures { result ≡ slice_get (unless_plain set.now.plain (ids_of set.now.members)) k }
+{
+    if set.plain() {
+        return None;
+    }
+    set.at(k)
+}
+
+/// The member of the k-th row of a bag, unless it is plain.
+fn bag_slot(bag: &MemberBag, k: usize) -> Option<ObjId>
+    ensures { result ≡ slice_get (unless_plain bag.now.plain (row_ids bag.now.rows)) k }
+{
+    if bag.plain() {
+        return None;
+    }
+    match bag.row(k) {
+        Some(row) => Some(row.0),
+        None => None,
+    }
+}
+
+/// The element of a heap that goes out after k others, unless the heap is plain.
+fn heap_slot(heap: &ElementHeap, k: usize) -> Option<ObjId>
+    ensures { let sorted = by_rank (order_of heap.now.plain) heap.now.rows in
+        result ≡ slice_get (unless_plain heap.now.plain (row_ids sorted)) k }
+{
+    if heap.plain() {
+        return None;
+    }
+    heap.at_turn(k)
 }
 
 /// The object in the k-th field that is filled.

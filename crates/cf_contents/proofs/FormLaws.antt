@@ -18,9 +18,9 @@ use Rattle.cf_syntax.specs.declared.statement.Statement.TheVariants as forms
 use Rattle.cf_syntax.specs.declared.statement.Ownership.{Ownership}
 use Rattle.cf_syntax.specs.declared.statement.Ownership.TheVariants.{Keeps, Binds, Retains, Releases}
 use Rattle.cf_syntax.specs.Forms.{ownership_of, makes_object}
-use Rattle.cf_contents.specs.Contents.{Content, text_content, data_content, number_content, instance_content, array_content, dictionary_content, times, present, slots_in, size_of, instance_of}
+use Rattle.cf_contents.specs.Contents.{Content, text_content, data_content, number_content, instance_content, array_content, dictionary_content, set_content, bag_content, heap_content, times, present, slots_in, size_of, instance_of}
 use Rattle.cf_contents.specs.Keys.{Numbered, number_of, class_line}
-use Rattle.cf_contents.specs.Deeds.{Origin, nowhere, fresh, there, Change, unchanged, Deed, answering, creating, changing, binding, with_object, with_key, text_in, mutable_text_in, mutable_data_in, number_in, fields_in, elements_in, pairs_in, with_text, with_mutable_text, with_mutable_data, with_number, with_fields, with_elements, with_pair, unless_split, within, text_edit, data_edit, places_edit, as_kind, fresh_if, putting, adding_pair, setting_pair, replacing_pair, removing_pair, deed_of}
+use Rattle.cf_contents.specs.Deeds.{Origin, nowhere, fresh, there, Change, unchanged, Deed, answering, creating, changing, binding, with_object, with_key, text_in, mutable_text_in, mutable_data_in, number_in, fields_in, elements_in, pairs_in, heap_in, members_in, with_text, with_mutable_text, with_mutable_data, with_number, with_fields, with_elements, with_pair, with_member, with_heap, unless_split, within, text_edit, data_edit, places_edit, as_kind, fresh_if, putting, adding_pair, setting_pair, replacing_pair, removing_pair, adding_member, setting_member, replacing_member, removing_member, counting_member, object_in_row, removing_least, add_member, put_member, remove_member, deed_of}
 use Rattle.cf_contents.proofs.SlotLaws.{present-empty, MakesEmpty, named_in}
 
 abbrev pub ChangesFor : Ownership → Change → Type 0
@@ -192,6 +192,31 @@ module _ (ownership : Ownership) (making : Bool) (b c : Option Numbered) where
   by_pair classes dictionary key f h =
       by_object dictionary _ (λ u e. in_pairs u.object.content _ (λ plain pairs. by_key classes key _ (λ k named. h k _ named)))
 
+  in_members : (t : Content) (f : Bool → (Cell → Option (ℕ × ℕ)) → Deed)
+      → ((counts : Bool) (row_of : Cell → Option (ℕ × ℕ)) → Fits ownership making b c (f counts row_of))
+      → Fits ownership making b c (members_in t f)
+  in_members (set_content plain members) f h = h _ _
+  in_members (bag_content plain rows) f h = h _ _
+  in_members _ f h = answers _ tt
+
+  in_heap : (t : Content) (f : Bool → List (Cell × ℕ) → Deed)
+      → ((plain : Bool) (rows : List (Cell × ℕ)) → Fits ownership making b c (f plain rows))
+      → Fits ownership making b c (heap_in t f)
+  in_heap (heap_content plain adds rows) f h = h plain rows
+  in_heap _ f h = answers _ tt
+
+  by_member : (classes : List ClassLine) (collection element : Option Numbered)
+      (f : Bool → Cell → Option (ℕ × ℕ) → Deed)
+      → ((counts : Bool) (x : Cell) (row : Option (ℕ × ℕ)) → number_of element ≡ Some x.id → Fits ownership making b c (f counts x row))
+      → Fits ownership making b c (with_member classes collection element f)
+  by_member classes collection element f h =
+      by_object collection _ (λ u e. in_members u.object.content _ (λ counts row_of. by_key classes element _ (λ x named. h counts x _ named)))
+
+  by_heap : (o : Option Numbered) (f : Bool → List (Cell × ℕ) → Deed)
+      → ((plain : Bool) (rows : List (Cell × ℕ)) → Fits ownership making b c (f plain rows))
+      → Fits ownership making b c (with_heap o f)
+  by_heap o f h = by_object o _ (λ u e. in_heap u.object.content f h)
+
   by_cut : (fault : Option StrFault) (d : Deed) → Fits ownership making b c d
       → Fits ownership making b c (unless_split fault d)
   by_cut None d h = h
@@ -262,6 +287,33 @@ module _ (b c : Option Numbered) where
   removes_pair key None = answers Keeps false b c _ tt
   removes_pair key (Some old) = changes _ _ tt (none b c)
 
+  -- by an element that is the second object
+  module _ (x : Cell) (named : number_of b ≡ Some x.id) where
+    adds_member : (counts : Bool) (row : Option (ℕ × ℕ)) → Fits Keeps false b c (adding_member counts x row)
+    adds_member counts None = changes _ (add_member x) tt (second_used b c x.id named)
+    adds_member counts (Some row) =
+        by_test Keeps false b c counts _ _ (changes _ (add_member x) tt (second_used b c x.id named)) (answers Keeps false b c _ tt)
+
+    sets_member : (row : Option (ℕ × ℕ)) → Fits Keeps false b c (setting_member x row)
+    sets_member None = changes _ (put_member x) tt (second_used b c x.id named)
+    sets_member (Some row) = changes _ (put_member x) tt (second_used b c x.id named)
+
+    replaces_member : (row : Option (ℕ × ℕ)) → Fits Keeps false b c (replacing_member x row)
+    replaces_member None = answers Keeps false b c _ tt
+    replaces_member (Some row) = changes _ (put_member x) tt (second_used b c x.id named)
+
+  removes_member : (x : Cell) (row : Option (ℕ × ℕ)) → Fits Keeps false b c (removing_member x row)
+  removes_member x None = answers Keeps false b c _ tt
+  removes_member x (Some row) = changes _ _ tt (none b c)
+
+  counts_member : (row : Option (ℕ × ℕ)) → Fits Keeps false b c (counting_member row)
+  counts_member None = answers Keeps false b c _ tt
+  counts_member (Some row) = answers Keeps false b c _ tt
+
+  removes_least : (row : Option ℕ) → Fits Keeps false b c (removing_least row)
+  removes_least None = answers Keeps false b c _ tt
+  removes_least (Some row) = changes _ _ tt (none b c)
+
 -- ---- by forms
 
 pub form_fits : (classes : List ClassLine) (s : Statement) (a b c : Option Numbered)
@@ -275,6 +327,12 @@ form_fits classes (forms.MakeArray v true) a b c = makes (Binds v) b c _ _ refl 
 form_fits classes (forms.MakeArray v false) a b c = makes (Binds v) b c _ _ refl refl
 form_fits classes (forms.MakeDict v true) a b c = makes (Binds v) b c _ _ refl refl
 form_fits classes (forms.MakeDict v false) a b c = makes (Binds v) b c _ _ refl refl
+form_fits classes (forms.MakeSet v true) a b c = makes (Binds v) b c _ _ refl refl
+form_fits classes (forms.MakeSet v false) a b c = makes (Binds v) b c _ _ refl refl
+form_fits classes (forms.MakeBag v true) a b c = makes (Binds v) b c _ _ refl refl
+form_fits classes (forms.MakeBag v false) a b c = makes (Binds v) b c _ _ refl refl
+form_fits classes (forms.MakeHeap v true) a b c = makes (Binds v) b c _ _ refl refl
+form_fits classes (forms.MakeHeap v false) a b c = makes (Binds v) b c _ _ refl refl
 form_fits classes (forms.New v None key) a b c = answers (Binds v) true b c _ tt
 form_fits classes (forms.New v (Some class) key) a b c = makes_instance (Binds v) b c class key (class_line classes class)
 form_fits classes (forms.Retain v) a b c = answers (Retains v) false b c _ tt
@@ -311,6 +369,23 @@ form_fits classes (forms.DictReplace v k x) a b c =
 form_fits classes (forms.DictRemove v k) a b c = by_pair Keeps false b c classes a b _ (λ key old named. removes_pair b c key old)
 form_fits classes (forms.DictTake v dictionary k) a b c =
     by_pair (Binds v) false b c classes a b _ (λ key old named. takes (Binds v) b c old)
+form_fits classes (forms.SetAdd v x) a b c =
+    by_member Keeps false b c classes a b _ (λ counts element row named. adds_member b c element named counts row)
+form_fits classes (forms.SetSet v x) a b c =
+    by_member Keeps false b c classes a b _ (λ counts element row named. sets_member b c element named row)
+form_fits classes (forms.SetReplace v x) a b c =
+    by_member Keeps false b c classes a b _ (λ counts element row named. replaces_member b c element named row)
+form_fits classes (forms.SetRemove v x) a b c =
+    by_member Keeps false b c classes a b _ (λ counts element row named. removes_member b c element row)
+form_fits classes (forms.SetCount v x) a b c =
+    by_member Keeps false b c classes a b _ (λ counts element row named. counts_member b c row)
+form_fits classes (forms.SetTake v set x) a b c =
+    by_member (Binds v) false b c classes a b _ (λ counts element row named. takes (Binds v) b c (object_in_row row))
+form_fits classes (forms.HeapAdd v x) a b c =
+    by_heap Keeps false b c a _
+    (λ plain rows. by_key Keeps false b c classes b _ (λ element named. changes b c _ _ tt (second_used b c element.id named)))
+form_fits classes (forms.HeapTake v heap) a b c = by_heap (Binds v) false b c a _ (λ plain rows. takes (Binds v) b c _)
+form_fits classes (forms.HeapRemove v) a b c = by_heap Keeps false b c a _ (λ plain rows. removes_least b c _)
 form_fits classes (forms.FieldSet v at x) a b c =
     by_fields Keeps false b c a _
     (λ fields. by_object Keeps false b c b _ (λ u e. changes_within b c (nat_lt at (length fields)) at 1 _ (second_used b c u.number e)))

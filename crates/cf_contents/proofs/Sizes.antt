@@ -1,15 +1,16 @@
--- By how many members a collection grows: by no more than a change names.
-use Rattle.std.proofs.Common.{arith, ◌≡◌, ℕ, zero, suc, ◌+◌, ◌≤◌, Bool, true, false, cond, List, [], ◌∷◌, ◌++◌, length, take, drop, Option, Some, None, length-append}
+-- By how much the size of a collection grows: by no more than a change names.
+use Rattle.std.proofs.Common.{arith, ◌≡◌, ℕ, zero, suc, ◌+◌, ◌≤◌, Bool, true, false, cond, List, [], ◌∷◌, ◌++◌, length, take, drop, Option, Some, None, refl, length-append}
 use Rattle.std.specs.Prelude.{is_some, slice_get}
-use Rattle.std.specs.List.{splice}
+use Rattle.std.specs.List.{list_any, splice}
 use Rattle.std.specs.Map.{lookup, set_value, remove_entry}
 use Rattle.std.proofs.lemmas.List.{length-take, length-drop}
 use Rattle.std.proofs.lemmas.Map.{length-set_value}
 use Rattle.cf_types.specs.declared.cells.Cell.{Cell}
-use Rattle.cf_contents.specs.Contents.{Content, text_content, data_content, number_content, instance_content, array_content, dictionary_content, Object, size_of, size_at}
+use Rattle.cf_contents.specs.Contents.{Content, text_content, data_content, number_content, instance_content, array_content, dictionary_content, set_content, bag_content, heap_content, Object, order_of, size_of, size_at}
 use Rattle.cf_contents.specs.Keys.{equal_to}
-use Rattle.cf_contents.specs.Deeds.{Splice, Change, unchanged, in_text, in_data, in_places, put_pair, remove_pair, elements, text_after, data_after, places_after, put_after, removed_after, content_after, with_change, objects_after}
+use Rattle.cf_contents.specs.Deeds.{Splice, Change, unchanged, in_text, in_data, in_places, put_pair, remove_pair, add_member, put_member, remove_member, remove_least, elements, text_after, data_after, places_after, put_after, removed_after, added_after, put_member_after, removed_member_after, least_after, content_after, with_change, objects_after}
 use Rattle.cf_contents.proofs.SlotLaws.{named_in}
+use Rattle.cf_contents.proofs.MemberLaws.{length-members_with, length-members_set, length-members_without, length-without_least, size-added_rows, size-put_rows, size-less_rows}
 
 pub length-splice : {A : Type 0} (xs : List A) (i out : ℕ) (ys : List A)
     → length (splice xs i (i + out) ys) ≤ length xs + length ys
@@ -53,6 +54,26 @@ removed_size : (key : Cell) (c : Content) → size_of (removed_after key c) ≤ 
 removed_size key (dictionary_content plain pairs) = length-removed (equal_to plain key) pairs
 removed_size key _ = omega arith
 
+pub added_size : (x : Cell) (c : Content) → size_of (added_after x c) ≤ size_of c + 1
+added_size x (set_content plain members) = length-members_with (equal_to plain x) x members (list_any (equal_to plain x) members)
+added_size x (bag_content plain rows) = size-added_rows (equal_to plain x) x rows (lookup (equal_to plain x) rows) refl
+added_size x (heap_content plain adds rows) = omega (arith, length-append rows ((x, adds) ∷ []))
+added_size x _ = omega arith
+
+pub member_size : (x : Cell) (c : Content) → size_of (put_member_after x c) ≤ size_of c + 1
+member_size x (set_content plain members) = length-members_set (equal_to plain x) x members (list_any (equal_to plain x) members)
+member_size x (bag_content plain rows) = size-put_rows (equal_to plain x) x rows (is_some (lookup (equal_to plain x) rows))
+member_size x _ = omega arith
+
+pub gone_size : (x : Cell) (c : Content) → size_of (removed_member_after x c) ≤ size_of c
+gone_size x (set_content plain members) = length-members_without (equal_to plain x) members
+gone_size x (bag_content plain rows) = size-less_rows (equal_to plain x) rows (lookup (equal_to plain x) rows) refl
+gone_size x _ = omega arith
+
+pub least_size : (c : Content) → size_of (least_after c) ≤ size_of c
+least_size (heap_content plain adds rows) = omega (arith, length-without_least (order_of plain) rows)
+least_size _ = omega arith
+
 content_size : (change : Change) (c : Content)
     → size_of (content_after change c) ≤ size_of c + length (named_in change)
 content_size unchanged c = omega arith
@@ -61,6 +82,10 @@ content_size (in_data e) c = omega (arith, data_size e c)
 content_size (in_places e) c = places_size e c
 content_size (put_pair key value) c = put_size key value c
 content_size (remove_pair key) c = omega (arith, removed_size key c)
+content_size (add_member x) c = added_size x c
+content_size (put_member x) c = member_size x c
+content_size (remove_member x) c = omega (arith, gone_size x c)
+content_size remove_least c = omega (arith, least_size c)
 
 change_size : (o : ℕ) (change : Change) (objects : List Object) (p : ℕ)
     → size_at (slice_get (with_change o change objects) p) ≤ size_at (slice_get objects p) + length (named_in change)

@@ -1,13 +1,16 @@
 -- What a change takes in and gives out is what it changes in the slots.
 use Rattle.std.proofs.Common.{◌≡◌, ℕ, zero, suc, ◌+◌, ◌≤◌, Bool, true, false, cond, List, [], ◌∷◌, ◌++◌, take, drop, replicate, Option, Some, None, refl, sym, ap, ◌∙◌, arith}
-use Rattle.std.specs.Prelude.{slice_get, is_some}
-use Rattle.std.specs.Map.{lookup, lookup_entry, remove_entry, set_value}
+use Rattle.std.specs.Prelude.{slice_get, find, is_some}
+use Rattle.std.specs.List.{list_any}
+use Rattle.std.specs.Map.{lookup, lookup_entry, lookup_key, remove_entry, set_value}
 use Rattle.std.specs.Option.{option_to_list}
 use Rattle.std.proofs.lemmas.List.{take-append-drop, drop-drop}
 use Rattle.cf_types.specs.declared.cells.Cell.{Cell}
-use Rattle.cf_contents.specs.Contents.{Content, text_content, data_content, number_content, instance_content, array_content, dictionary_content, Object, times, present, flat, unless_plain, slots_in, slots_at}
+use Rattle.cf_contents.specs.Contents.{Content, text_content, data_content, number_content, instance_content, array_content, dictionary_content, set_content, bag_content, heap_content, Object, times, present, flat, ids_of, row_ids, order_of, unless_plain, slots_in, slots_at}
 use Rattle.cf_contents.specs.Keys.{equal_to}
-use Rattle.cf_contents.specs.Deeds.{Origin, nowhere, fresh, there, Splice, Change, unchanged, in_text, in_data, in_places, put_pair, remove_pair, splice_of, splice_out, elements, coming_by, going_by, text_after, data_after, places_after, entering, leaving, put_after, put_entering, put_leaving, removed_after, removed_leaving, content_after, coming_in, going_out, taken_in, given_out, with_change}
+use Rattle.cf_contents.specs.Deeds.{Origin, nowhere, fresh, there, Splice, Change, unchanged, in_text, in_data, in_places, put_pair, remove_pair, add_member, put_member, remove_member, remove_least, splice_of, splice_out, elements, coming_by, going_by, text_after, data_after, places_after, entering, leaving, put_after, put_entering, put_leaving, removed_after, removed_leaving, unless_found, added_after, added_entering, put_member_after, put_member_entering, put_member_leaving, if_last, removed_member_after, removed_member_leaving, least_after, least_leaving, content_after, coming_in, going_out, taken_in, given_out, with_change}
+use Rattle.cf_callbacks.specs.Ranking.{by_rank, least, without_least}
+use Rattle.cf_contents.proofs.MemberLaws.{times-rows, key_most, put_members, put_rows, removed_members, removed_rows, added_members, added_rows, sorted_rows, least_rows}
 
 pub times-append : (n : ℕ) (xs ys : List ℕ) → times n (xs ++ ys) ≡ times n xs + times n ys
 times-append n [] ys = omega arith
@@ -121,6 +124,11 @@ unless_none : (n : ℕ) (plain : Bool) (a b c : List ℕ) → times n a + times 
 unless_none n true a b c h = refl
 unless_none n false a b c h = omega (arith, h)
 
+unless_more : (n : ℕ) (plain : Bool) (a c d : List ℕ) → times n a ≡ times n c + times n d
+    → times n (unless_plain plain a) + times n [] ≡ times n (unless_plain plain c) + times n (unless_plain plain d)
+unless_more n true a c d h = refl
+unless_more n false a c d h = omega (arith, h)
+
 text_law : (n : ℕ) (e : Splice ℕ) (c : Content) → slots_in (text_after e c) ≡ slots_in c
 text_law n e (text_content true units) = refl
 text_law n e _ = refl
@@ -137,6 +145,9 @@ places_law n e (text_content mutable units) = refl
 places_law n e (data_content mutable bytes) = refl
 places_law n e (number_content k) = refl
 places_law n e (dictionary_content plain pairs) = omega arith
+places_law n e (set_content plain members) = omega arith
+places_law n e (bag_content plain rows) = omega arith
+places_law n e (heap_content plain adds rows) = omega arith
 
 pair_law : (n : ℕ) (key : Cell) (value : ℕ) (c : Content)
     → times n (slots_in (put_after key value c)) + times n (put_leaving key c)
@@ -148,6 +159,9 @@ pair_law n key value (data_content mutable bytes) = refl
 pair_law n key value (number_content k) = refl
 pair_law n key value (instance_content k fields) = omega arith
 pair_law n key value (array_content plain os) = omega arith
+pair_law n key value (set_content plain members) = omega arith
+pair_law n key value (bag_content plain rows) = omega arith
+pair_law n key value (heap_content plain adds rows) = omega arith
 
 removed_law : (n : ℕ) (key : Cell) (c : Content)
     → times n (slots_in (removed_after key c)) + times n (removed_leaving key c) ≡ times n (slots_in c) + times n []
@@ -157,6 +171,69 @@ removed_law n key (data_content mutable bytes) = refl
 removed_law n key (number_content k) = refl
 removed_law n key (instance_content k fields) = omega arith
 removed_law n key (array_content plain os) = omega arith
+removed_law n key (set_content plain members) = omega arith
+removed_law n key (bag_content plain rows) = omega arith
+removed_law n key (heap_content plain adds rows) = omega arith
+
+added_law : (n : ℕ) (x : Cell) (c : Content)
+    → times n (slots_in (added_after x c)) + times n [] ≡ times n (slots_in c) + times n (added_entering x c)
+added_law n x (set_content plain members) =
+    unless_more n plain _ _ _ (added_members n (equal_to plain x) x members (list_any (equal_to plain x) members))
+added_law n x (bag_content plain rows) =
+    unless_more n plain _ _ _ (added_rows n (equal_to plain x) x rows (lookup (equal_to plain x) rows))
+added_law n x (heap_content plain adds rows) =
+    let rank = order_of plain in
+    let more = rows ++ (x, adds) ∷ [] in
+    unless_more n plain (row_ids (by_rank rank more)) (row_ids (by_rank rank rows)) (x.id ∷ [])
+    (omega (arith, sorted_rows n rank more, sorted_rows n rank rows, times-rows n rows ((x, adds) ∷ [])))
+added_law n x (text_content mutable units) = refl
+added_law n x (data_content mutable bytes) = refl
+added_law n x (number_content k) = refl
+added_law n x (instance_content k fields) = omega arith
+added_law n x (array_content plain os) = omega arith
+added_law n x (dictionary_content plain pairs) = omega arith
+
+member_law : (n : ℕ) (x : Cell) (c : Content)
+    → times n (slots_in (put_member_after x c)) + times n (put_member_leaving x c)
+    ≡ times n (slots_in c) + times n (put_member_entering x c)
+member_law n x (set_content plain members) = unless_law n plain _ _ _ _ (put_members n (equal_to plain x) x members)
+member_law n x (bag_content plain rows) = unless_law n plain _ _ _ _ (put_rows n (equal_to plain x) x rows)
+member_law n x (heap_content plain adds rows) = omega arith
+member_law n x (text_content mutable units) = refl
+member_law n x (data_content mutable bytes) = refl
+member_law n x (number_content k) = refl
+member_law n x (instance_content k fields) = omega arith
+member_law n x (array_content plain os) = omega arith
+member_law n x (dictionary_content plain pairs) = omega arith
+
+gone_law : (n : ℕ) (x : Cell) (c : Content)
+    → times n (slots_in (removed_member_after x c)) + times n (removed_member_leaving x c)
+    ≡ times n (slots_in c) + times n []
+gone_law n x (set_content plain members) = unless_none n plain _ _ _ (removed_members n (equal_to plain x) members)
+gone_law n x (bag_content plain rows) = unless_none n plain _ _ _ (removed_rows n (equal_to plain x) rows)
+gone_law n x (heap_content plain adds rows) = omega arith
+gone_law n x (text_content mutable units) = refl
+gone_law n x (data_content mutable bytes) = refl
+gone_law n x (number_content k) = refl
+gone_law n x (instance_content k fields) = omega arith
+gone_law n x (array_content plain os) = omega arith
+gone_law n x (dictionary_content plain pairs) = omega arith
+
+least_law : (n : ℕ) (c : Content)
+    → times n (slots_in (least_after c)) + times n (least_leaving c) ≡ times n (slots_in c) + times n []
+least_law n (heap_content plain adds rows) =
+    let rank = order_of plain in
+    let left = without_least rank rows in
+    unless_none n plain (row_ids (by_rank rank left)) (row_ids (option_to_list (least rank rows))) (row_ids (by_rank rank rows))
+    (omega (arith, sorted_rows n rank left, sorted_rows n rank rows, least_rows n rank rows))
+least_law n (set_content plain members) = omega arith
+least_law n (bag_content plain rows) = omega arith
+least_law n (text_content mutable units) = refl
+least_law n (data_content mutable bytes) = refl
+least_law n (number_content k) = refl
+least_law n (instance_content k fields) = omega arith
+least_law n (array_content plain os) = omega arith
+least_law n (dictionary_content plain pairs) = omega arith
 
 -- the slots after a change, with what it gives out, are those before it with what it takes in
 content_law : (n : ℕ) (change : Change) (c : Content)
@@ -168,6 +245,10 @@ content_law n (in_data e) c = rw (data_law n e c) refl
 content_law n (in_places e) c = places_law n e c
 content_law n (put_pair key value) c = pair_law n key value c
 content_law n (remove_pair key) c = removed_law n key c
+content_law n (add_member x) c = added_law n x c
+content_law n (put_member x) c = member_law n x c
+content_law n (remove_member x) c = gone_law n x c
+content_law n remove_least c = least_law n c
 
 pub change_law : (n o : ℕ) (change : Change) (objects : List Object)
     → times n (slots_at (slice_get (with_change o change objects) o))
@@ -200,6 +281,11 @@ pair_most : (n : ℕ) (key : Cell) (c : Content) → times n (removed_leaving ke
 pair_most n key (dictionary_content plain pairs) = unless_most n plain _ _ (omega (arith, take_law n (equal_to plain key) pairs))
 pair_most n key _ = omega arith
 
+member_most : (n : ℕ) (x : Cell) (c : Content) → times n (put_member_leaving x c) ≤ times n (slots_in c)
+member_most n x (set_content plain members) = unless_most n plain _ _ (omega (arith, removed_members n (equal_to plain x) members))
+member_most n x (bag_content plain rows) = unless_most n plain _ _ (key_most n (equal_to plain x) rows)
+member_most n x _ = omega arith
+
 out_most : (n : ℕ) (change : Change) (c : Content) → times n (going_out change c) ≤ times n (slots_in c)
 out_most n unchanged c = omega arith
 out_most n (in_text e) c = omega arith
@@ -207,6 +293,10 @@ out_most n (in_data e) c = omega arith
 out_most n (in_places e) c = leaving_most n e c
 out_most n (put_pair key value) c = put_most n key c
 out_most n (remove_pair key) c = pair_most n key c
+out_most n (add_member x) c = omega arith
+out_most n (put_member x) c = member_most n x c
+out_most n (remove_member x) c = omega (arith, gone_law n x c)
+out_most n remove_least c = omega (arith, least_law n c)
 
 pub given_most : (n : ℕ) (change : Change) (ob : Option Object) → times n (given_out ob change) ≤ times n (slots_at ob)
 given_most n change None = omega arith
@@ -235,6 +325,10 @@ named_in (in_data e) = []
 named_in (in_places e) = present e.enter
 named_in (put_pair key value) = key.id ∷ value ∷ []
 named_in (remove_pair key) = []
+named_in (add_member element) = element.id ∷ []
+named_in (put_member element) = element.id ∷ []
+named_in (remove_member element) = []
+named_in remove_least = []
 
 unless_fewer : (n : ℕ) (plain : Bool) (os : List ℕ) → times n (unless_plain plain os) ≤ times n os
 unless_fewer n true os = omega arith
@@ -256,6 +350,25 @@ coming_most n key value (dictionary_content plain pairs) =
     omega (arith, some, unless_fewer n plain (coming_by plain pairs key value))
 coming_most n key value _ = omega arith
 
+found_fewer : (n : ℕ) (found : Bool) (x : Cell) → times n (unless_found found x) ≤ times n (x.id ∷ [])
+found_fewer n true x = omega arith
+found_fewer n false x = omega arith
+
+adding_most : (n : ℕ) (x : Cell) (c : Content) → times n (added_entering x c) ≤ times n (x.id ∷ [])
+adding_most n x (set_content plain members) =
+    let found = list_any (equal_to plain x) members in
+    omega (arith, found_fewer n found x, unless_fewer n plain (unless_found found x))
+adding_most n x (bag_content plain rows) =
+    let found = is_some (lookup (equal_to plain x) rows) in
+    omega (arith, found_fewer n found x, unless_fewer n plain (unless_found found x))
+adding_most n x (heap_content plain adds rows) = unless_fewer n plain (x.id ∷ [])
+adding_most n x _ = omega arith
+
+putting_most : (n : ℕ) (x : Cell) (c : Content) → times n (put_member_entering x c) ≤ times n (x.id ∷ [])
+putting_most n x (set_content plain members) = unless_fewer n plain (x.id ∷ [])
+putting_most n x (bag_content plain rows) = unless_fewer n plain (x.id ∷ [])
+putting_most n x _ = omega arith
+
 in_most : (n : ℕ) (change : Change) (c : Content) → times n (coming_in change c) ≤ times n (named_in change)
 in_most n unchanged c = omega arith
 in_most n (in_text e) c = omega arith
@@ -263,6 +376,10 @@ in_most n (in_data e) c = omega arith
 in_most n (in_places e) c = entering_most n e c
 in_most n (put_pair key value) c = coming_most n key value c
 in_most n (remove_pair key) c = omega arith
+in_most n (add_member x) c = adding_most n x c
+in_most n (put_member x) c = putting_most n x c
+in_most n (remove_member x) c = omega arith
+in_most n remove_least c = omega arith
 
 pub taken_most : (n : ℕ) (change : Change) (ob : Option Object)
     → times n (taken_in ob change) ≤ times n (named_in change)

@@ -1,9 +1,9 @@
 -- Each form as data: what it answers, what it binds, and what it does to contents, by the objects that it uses. All
 -- that a step does comes from this data, so a further form adds a line. This project's own, after the reference.
-use Rattle.std.specs.Prelude.{ℕ, zero, suc, ◌+◌, Bool, true, false, List, [], ◌∷◌, length, take, drop, Option, Some, None, is_some, slice_get, nat_lt, nat_le, if◌then◌else◌}
-use Rattle.std.specs.List.{splice}
-use Rattle.std.specs.Map.{lookup, lookup_entry, remove_entry}
-use Rattle.std.specs.Option.{option_to_list}
+use Rattle.std.specs.Prelude.{ℕ, zero, suc, ◌+◌, ◌-◌, ◌==◌, pos, Bool, true, false, List, [], ◌∷◌, ◌++◌, length, find, take, drop, Option, Some, None, is_some, slice_get, nat_lt, nat_le, if◌then◌else◌}
+use Rattle.std.specs.List.{list_any, splice}
+use Rattle.std.specs.Map.{lookup, lookup_entry, lookup_key, remove_entry, set_value}
+use Rattle.std.specs.Option.{option_map, option_to_list}
 use Rattle.cf_ids.specs.declared.answer.Answer.{Answer}
 use Rattle.cf_ids.specs.declared.answer.Answer.TheVariants as answers
 use Rattle.cf_number.specs.declared.kinds.NumKind.{NumKind}
@@ -13,11 +13,13 @@ use Rattle.cf_string.specs.declared.faults.StrFault.{StrFault}
 use Rattle.cf_string.specs.declared.faults.StrFault.TheVariants.{Range, SplitsPair}
 use Rattle.cf_string.specs.Faults.{split_fault}
 use Rattle.cf_types.specs.declared.cells.Cell.{Cell}
+use Rattle.cf_basichash.specs.Members.{members_with, members_set, members_without, rows_set, rows_without}
 use Rattle.cf_basichash.specs.Tables.{pairs_with}
+use Rattle.cf_callbacks.specs.Ranking.{least, without_least}
 use Rattle.cf_syntax.specs.declared.script.ClassLine.{ClassLine}
 use Rattle.cf_syntax.specs.declared.statement.Statement.{Statement}
 use Rattle.cf_syntax.specs.declared.statement.Statement.TheVariants as forms
-use Rattle.cf_contents.specs.Contents.{Content, text_content, data_content, number_content, instance_content, array_content, dictionary_content, Object, present, flat, unless_plain, string_class, data_class, number_class, array_class, dictionary_class, instance_of}
+use Rattle.cf_contents.specs.Contents.{Content, text_content, data_content, number_content, instance_content, array_content, dictionary_content, set_content, bag_content, heap_content, Object, present, flat, ids_of, row_ids, numbered_row, least_of, order_of, unless_plain, string_class, data_class, number_class, array_class, dictionary_class, set_class, bag_class, heap_class, instance_of}
 use Rattle.cf_contents.specs.Keys.{Numbered, numbered, class_line, cell_of, equal_to}
 use Rattle.cf_contents.specs.Descriptions.{description}
 
@@ -35,7 +37,9 @@ pub record Splice (A : Type 0) : Type 0 where
   pub enter : List A
 
 -- what becomes of the first object that a statement uses: nothing; an edit of its text, of its bytes, or of its fields
--- or elements; a pair that is put in, its value alone if its key is there; or a pair that is removed by its key
+-- or elements; a pair that is put in, its value alone if its key is there; a pair that is removed by its key; an
+-- element that is added to a set, a bag or a heap; a member that is put in place of its equal; one of the members
+-- equal to an element that is removed; or the least element of a heap that is removed
 pub data Change : Type 0 where
   unchanged : Change
   in_text : Splice ℕ → Change
@@ -43,6 +47,10 @@ pub data Change : Type 0 where
   in_places : Splice (Option ℕ) → Change
   put_pair : (key : Cell) (value : ℕ) → Change
   remove_pair : (key : Cell) → Change
+  add_member : (element : Cell) → Change
+  put_member : (element : Cell) → Change
+  remove_member : (element : Cell) → Change
+  remove_least : Change
 
 -- what a statement answers if nothing else decides its answer, what it binds, and what it changes
 pub record Deed : Type 0 where
@@ -118,6 +126,26 @@ abbrev pub pairs_in : Content → (Bool → List (Cell × ℕ) → Deed) → Dee
 pairs_in (dictionary_content plain pairs) deed = deed plain pairs
 pairs_in _ deed = skipping
 
+abbrev pub heap_in : Content → (Bool → List (Cell × ℕ) → Deed) → Deed
+heap_in (heap_content plain adds rows) deed = deed plain rows
+heap_in _ deed = skipping
+
+-- the member that is equal to an element, and how often it is there: once in a set
+abbrev pub once : Cell → ℕ × ℕ
+once member = (member.id, 1)
+
+abbrev pub row_in_set : Bool → List Cell → Cell → Option (ℕ × ℕ)
+row_in_set plain members element = option_map once (find (equal_to plain element) members)
+
+abbrev pub row_in_bag : Bool → List (Cell × ℕ) → Cell → Option (ℕ × ℕ)
+row_in_bag plain rows element = option_map numbered_row (lookup_entry (equal_to plain element) rows)
+
+-- by whether a collection counts its members, and the row that an element has in it
+abbrev pub members_in : Content → (Bool → (Cell → Option (ℕ × ℕ)) → Deed) → Deed
+members_in (set_content plain members) deed = deed false (row_in_set plain members)
+members_in (bag_content plain rows) deed = deed true (row_in_bag plain rows)
+members_in _ deed = skipping
+
 -- a deed by the text of an object
 abbrev pub with_text : Option Numbered → (List ℕ → Deed) → Deed
 with_text o deed = with_object o (λ u. text_in u.object.content deed)
@@ -147,6 +175,17 @@ abbrev pub with_pair : List ClassLine → (dictionary key : Option Numbered) →
 with_pair classes dictionary key deed =
     with_object dictionary
     (λ u. pairs_in u.object.content (λ plain pairs. with_key classes key (λ cell. deed cell (lookup (equal_to plain cell) pairs))))
+
+-- by the row that an element has in a set or a bag, where there is one, by the element, and by whether it is a bag
+abbrev pub with_member : List ClassLine → (collection element : Option Numbered)
+    → (Bool → Cell → Option (ℕ × ℕ) → Deed) → Deed
+with_member classes collection element deed =
+    with_object collection
+    (λ u. members_in u.object.content (λ counts row_of. with_key classes element (λ cell. deed counts cell (row_of cell))))
+
+-- by the rows of a heap
+abbrev pub with_heap : Option Numbered → (Bool → List (Cell × ℕ) → Deed) → Deed
+with_heap o deed = with_object o (λ u. heap_in u.object.content deed)
 
 -- a deed on a range of a text, unless the range passes its length or cuts a surrogate pair
 abbrev pub unless_split : Option StrFault → Deed → Deed
@@ -213,6 +252,37 @@ abbrev pub removing_pair : Cell → Option ℕ → Deed
 removing_pair key None = answering answers.Absent
 removing_pair key (Some old) = changing answers.Ok (remove_pair key)
 
+-- an element of a set or a bag, by its row there: it is added, set, replaced, removed, counted or bound
+abbrev pub adding_member : Bool → Cell → Option (ℕ × ℕ) → Deed
+adding_member counts element None = changing answers.Ok (add_member element)
+adding_member counts element (Some row) =
+    if counts then changing answers.Ok (add_member element) else answering answers.Present
+
+abbrev pub setting_member : Cell → Option (ℕ × ℕ) → Deed
+setting_member element None = changing answers.Added (put_member element)
+setting_member element (Some row) = changing answers.Changed (put_member element)
+
+abbrev pub replacing_member : Cell → Option (ℕ × ℕ) → Deed
+replacing_member element None = answering answers.Absent
+replacing_member element (Some row) = changing answers.Ok (put_member element)
+
+abbrev pub removing_member : Cell → Option (ℕ × ℕ) → Deed
+removing_member element None = answering answers.Absent
+removing_member element (Some row) = changing answers.Ok (remove_member element)
+
+abbrev pub counting_member : Option (ℕ × ℕ) → Deed
+counting_member None = answering (answers.Number (pos 0))
+counting_member (Some row) = answering (answers.Number (pos row.1))
+
+abbrev pub object_in_row : Option (ℕ × ℕ) → Option ℕ
+object_in_row None = None
+object_in_row (Some row) = Some row.0
+
+-- the removal of the least element of a heap
+abbrev pub removing_least : Option ℕ → Deed
+removing_least None = answering answers.Empty
+removing_least (Some o) = changing answers.Ok remove_least
+
 -- the object in a field, if there is one
 abbrev pub in_field : Option (Option ℕ) → Option ℕ
 in_field None = None
@@ -227,6 +297,9 @@ deed_of classes (forms.MakeMdata v bytes) a b c = creating data_class (data_cont
 deed_of classes (forms.MakeNumber v n) a b c = creating number_class (number_content n)
 deed_of classes (forms.MakeArray v plain) a b c = creating array_class (array_content plain [])
 deed_of classes (forms.MakeDict v plain) a b c = creating dictionary_class (dictionary_content plain [])
+deed_of classes (forms.MakeSet v plain) a b c = creating set_class (set_content plain [])
+deed_of classes (forms.MakeBag v plain) a b c = creating bag_class (bag_content plain [])
+deed_of classes (forms.MakeHeap v plain) a b c = creating heap_class (heap_content plain 0 [])
 deed_of classes (forms.New v None key) a b c = skipping
 deed_of classes (forms.New v (Some class) key) a b c = fresh_if (instance_of class key (class_line classes class))
 deed_of classes (forms.Retain v) a b c = answering answers.Ok
@@ -259,6 +332,19 @@ deed_of classes (forms.DictReplace v k x) a b c =
     with_pair classes a b (λ key old. with_object c (λ u. replacing_pair key u.number old))
 deed_of classes (forms.DictRemove v k) a b c = with_pair classes a b removing_pair
 deed_of classes (forms.DictTake v dictionary k) a b c = with_pair classes a b (λ key old. binding old)
+deed_of classes (forms.SetAdd v x) a b c = with_member classes a b adding_member
+deed_of classes (forms.SetSet v x) a b c = with_member classes a b (λ counts element row. setting_member element row)
+deed_of classes (forms.SetReplace v x) a b c =
+    with_member classes a b (λ counts element row. replacing_member element row)
+deed_of classes (forms.SetRemove v x) a b c =
+    with_member classes a b (λ counts element row. removing_member element row)
+deed_of classes (forms.SetCount v x) a b c = with_member classes a b (λ counts element row. counting_member row)
+deed_of classes (forms.SetTake v set x) a b c =
+    with_member classes a b (λ counts element row. binding (object_in_row row))
+deed_of classes (forms.HeapAdd v x) a b c =
+    with_heap a (λ plain rows. with_key classes b (λ element. changing answers.Ok (add_member element)))
+deed_of classes (forms.HeapTake v heap) a b c = with_heap a (λ plain rows. binding (least_of plain rows))
+deed_of classes (forms.HeapRemove v) a b c = with_heap a (λ plain rows. removing_least (least_of plain rows))
 deed_of classes (forms.FieldSet v at x) a b c =
     with_fields a
     (λ fields. with_object b (λ u. within (nat_lt at (length fields)) (places_edit at 1 (Some u.number ∷ []))))
@@ -363,6 +449,76 @@ removed_leaving key (dictionary_content plain pairs) =
     unless_plain plain (flat (option_to_list (lookup_entry (equal_to plain key) pairs)))
 removed_leaving key _ = []
 
+-- the rows of a bag with one more of an element: the member that is there stays
+abbrev pub rows_with_one_more : (Cell → Bool) → List (Cell × ℕ) → Cell → Option ℕ → List (Cell × ℕ)
+rows_with_one_more test rows element None = rows ++ (element, 1) ∷ []
+rows_with_one_more test rows element (Some n) = set_value test rows (n + 1)
+
+abbrev pub added_after : Cell → Content → Content
+added_after element (set_content plain members) =
+    set_content plain (members_with (equal_to plain element) members element)
+added_after element (bag_content plain rows) =
+    bag_content plain (rows_with_one_more (equal_to plain element) rows element (lookup (equal_to plain element) rows))
+added_after element (heap_content plain adds rows) = heap_content plain (adds + 1) (rows ++ (element, adds) ∷ [])
+added_after element c = c
+
+-- what comes in: the element, where none is equal to it
+abbrev pub unless_found : Bool → Cell → List ℕ
+unless_found found element = if found then [] else element.id ∷ []
+
+abbrev pub added_entering : Cell → Content → List ℕ
+added_entering element (set_content plain members) =
+    unless_plain plain (unless_found (list_any (equal_to plain element) members) element)
+added_entering element (bag_content plain rows) =
+    unless_plain plain (unless_found (is_some (lookup (equal_to plain element) rows)) element)
+added_entering element (heap_content plain adds rows) = unless_plain plain (element.id ∷ [])
+added_entering element _ = []
+
+abbrev pub put_member_after : Cell → Content → Content
+put_member_after element (set_content plain members) =
+    set_content plain (members_set (equal_to plain element) members element)
+put_member_after element (bag_content plain rows) = bag_content plain (rows_set (equal_to plain element) rows element)
+put_member_after element c = c
+
+abbrev pub put_member_entering : Cell → Content → List ℕ
+put_member_entering element (set_content plain members) = unless_plain plain (element.id ∷ [])
+put_member_entering element (bag_content plain rows) = unless_plain plain (element.id ∷ [])
+put_member_entering element _ = []
+
+abbrev pub put_member_leaving : Cell → Content → List ℕ
+put_member_leaving element (set_content plain members) =
+    unless_plain plain (ids_of (option_to_list (find (equal_to plain element) members)))
+put_member_leaving element (bag_content plain rows) =
+    unless_plain plain (ids_of (option_to_list (lookup_key (equal_to plain element) rows)))
+put_member_leaving element _ = []
+
+abbrev pub removed_member_after : Cell → Content → Content
+removed_member_after element (set_content plain members) =
+    set_content plain (members_without (equal_to plain element) members)
+removed_member_after element (bag_content plain rows) = bag_content plain (rows_without (equal_to plain element) rows)
+removed_member_after element c = c
+
+-- the member of a row goes out where none is left
+abbrev pub if_last : Option (Cell × ℕ) → List ℕ
+if_last None = []
+if_last (Some row) = if row.1 == 1 then row.0.id ∷ [] else []
+
+abbrev pub removed_member_leaving : Cell → Content → List ℕ
+removed_member_leaving element (set_content plain members) =
+    unless_plain plain (ids_of (option_to_list (find (equal_to plain element) members)))
+removed_member_leaving element (bag_content plain rows) =
+    unless_plain plain (if_last (lookup_entry (equal_to plain element) rows))
+removed_member_leaving element _ = []
+
+abbrev pub least_after : Content → Content
+least_after (heap_content plain adds rows) = heap_content plain adds (without_least (order_of plain) rows)
+least_after c = c
+
+abbrev pub least_leaving : Content → List ℕ
+least_leaving (heap_content plain adds rows) =
+    unless_plain plain (row_ids (option_to_list (least (order_of plain) rows)))
+least_leaving _ = []
+
 -- a content after a change
 abbrev pub content_after : Change → Content → Content
 content_after unchanged c = c
@@ -371,6 +527,10 @@ content_after (in_data e) c = data_after e c
 content_after (in_places e) c = places_after e c
 content_after (put_pair key value) c = put_after key value c
 content_after (remove_pair key) c = removed_after key c
+content_after (add_member element) c = added_after element c
+content_after (put_member element) c = put_member_after element c
+content_after (remove_member element) c = removed_member_after element c
+content_after remove_least c = least_after c
 
 -- the objects that a change of a content takes in, in order
 abbrev pub coming_in : Change → Content → List ℕ
@@ -380,6 +540,10 @@ coming_in (in_data e) c = []
 coming_in (in_places e) c = entering e c
 coming_in (put_pair key value) c = put_entering key value c
 coming_in (remove_pair key) c = []
+coming_in (add_member element) c = added_entering element c
+coming_in (put_member element) c = put_member_entering element c
+coming_in (remove_member element) c = []
+coming_in remove_least c = []
 
 -- the objects that a change of a content gives out, in order
 abbrev pub going_out : Change → Content → List ℕ
@@ -389,6 +553,10 @@ going_out (in_data e) c = []
 going_out (in_places e) c = leaving e c
 going_out (put_pair key value) c = put_leaving key c
 going_out (remove_pair key) c = removed_leaving key c
+going_out (add_member element) c = []
+going_out (put_member element) c = put_member_leaving element c
+going_out (remove_member element) c = removed_member_leaving element c
+going_out remove_least c = least_leaving c
 
 -- the objects that a change of an object takes in; none if there is no object
 abbrev pub taken_in : Option Object → Change → List ℕ

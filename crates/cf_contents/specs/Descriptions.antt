@@ -10,7 +10,7 @@ use Rattle.cf_number.specs.declared.kinds.NumKind.TheVariants.{S8, S16, S32, S64
 use Rattle.cf_types.specs.Registry.{built_in_names}
 use Rattle.cf_types.specs.declared.cells.Cell.{Cell}
 use Rattle.cf_syntax.specs.declared.script.ClassLine.{ClassLine}
-use Rattle.cf_contents.specs.Contents.{Content, text_content, data_content, number_content, instance_content, array_content, dictionary_content, Object, first_class}
+use Rattle.cf_contents.specs.Contents.{Content, text_content, data_content, number_content, instance_content, array_content, dictionary_content, set_content, bag_content, heap_content, Object, least_of, first_class}
 
 -- the name of a class of the script, by its type number, if it has one
 abbrev pub name_in : Option ClassLine → List ℕ
@@ -56,7 +56,7 @@ kind_word S16 = codes "s16"
 kind_word S32 = codes "s32"
 kind_word S64 = codes "s64"
 
--- the word of a member
+-- the word of a member, of a pair, of a bag's row, and of the least element of a heap, where it has one
 abbrev pub member_word : Option ℕ → List ℕ
 member_word None = codes "nil"
 member_word (Some o) = number_word o
@@ -64,6 +64,16 @@ member_word (Some o) = number_word o
 -- the word of a pair: its key and its value
 abbrev pub pair_word : Cell × ℕ → List ℕ
 pair_word p = number_word p.0.id ++ codes ":" ++ number_word p.1
+
+abbrev pub cell_word : Cell → List ℕ
+cell_word cell = number_word cell.id
+
+abbrev pub row_word : Cell × ℕ → List ℕ
+row_word row = number_word row.0.id ++ codes "x" ++ decimal row.1
+
+abbrev pub least_word : Option ℕ → List ℕ
+least_word None = []
+least_word (Some o) = codes " min " ++ number_word o
 
 -- members in brackets, by their words: eight of them at most
 abbrev pub in_brackets : {A : Type 0} → (A → List ℕ) → List A → List ℕ
@@ -82,6 +92,9 @@ shown_content (number_content n) = kind_word n.kind ++ codes " " ++ signed_decim
 shown_content (instance_content key fields) = signed_decimal key ++ codes " " ++ in_brackets member_word fields
 shown_content (array_content plain elements) = counted_members number_word elements
 shown_content (dictionary_content plain pairs) = counted_members pair_word pairs
+shown_content (set_content plain members) = counted_members cell_word members
+shown_content (bag_content plain rows) = counted_members row_word rows
+shown_content (heap_content plain adds rows) = decimal (length rows) ++ least_word (least_of plain rows)
 
 -- the description of an object: the name of its type, and what it contains
 abbrev pub description : List ClassLine → Object → List ℕ

@@ -1,12 +1,12 @@
 -- Objects and classes by which the definitions can be compared with what they are meant to say.
-use Rattle.std.specs.Prelude.{ℕ, pos, negsuc, true, false, List, [], ◌∷◌, codes, None, Some}
+use Rattle.std.specs.Prelude.{ℕ, ℤ, pos, negsuc, true, false, List, [], ◌∷◌, codes, None, Some}
 use Rattle.cf_ids.specs.declared.answer.Answer.{Answer}
 use Rattle.cf_number.specs.declared.kinds.NumKind.TheVariants.{S16}
 use Rattle.cf_syntax.specs.declared.script.ClassLine.{ClassLine}
 use Rattle.cf_syntax.specs.declared.statement.Statement.{Statement}
-use Rattle.cf_types.specs.Views.{text_form}
+use Rattle.cf_types.specs.Views.{text_form, whole_form}
 use Rattle.cf_types.specs.declared.cells.Cell.{Cell}
-use Rattle.cf_contents.specs.Contents.{Content, text_content, data_content, number_content, instance_content, array_content, dictionary_content, Object}
+use Rattle.cf_contents.specs.Contents.{Content, text_content, data_content, number_content, instance_content, array_content, dictionary_content, set_content, bag_content, heap_content, Object}
 use Rattle.cf_contents.specs.Deeds.{Deed, deed_at, content_after, coming_in, going_out}
 
 -- a class of points, which has the type number 14
@@ -52,6 +52,23 @@ a_dictionary = record { class = 7; content = dictionary_content false ((key_of 0
 -- a plain dictionary with the same pair
 abbrev pub a_plain_one : Object
 a_plain_one = record { class = 7; content = dictionary_content true ((key_of 0 (codes "k"), 3) ∷ []) }
+
+-- a set and a bag with a member of that key, which is there twice in the bag, and a heap of the values 2, 1 and 1, of
+-- which 1 is the least and came second and third
+abbrev pub a_set : Object
+a_set = record { class = 8; content = set_content false (key_of 0 (codes "k") ∷ []) }
+
+abbrev pub a_bag : Object
+a_bag = record { class = 9; content = bag_content false ((key_of 0 (codes "k"), 2) ∷ []) }
+
+abbrev pub value_of : ℕ → ℤ → Cell
+value_of o value = record { id = o; leaf = record { class = 5; form = whole_form value } }
+
+abbrev pub a_heap : Object
+a_heap = record {
+  class = 10;
+  content = heap_content false 3 ((value_of 0 (pos 2), 0) ∷ (value_of 1 (pos 1), 1) ∷ (value_of 2 (pos 1), 2) ∷ []);
+}
 
 -- a string that is equal to that key
 abbrev pub a_key : Object

@@ -5,10 +5,8 @@ use Rattle.std.specs.Prelude.{ℕ, ◌-◌, Bool, true, false, List, Option, Som
 use Rattle.cf_types.specs.Views.{FormView, text_form, data_form, whole_form, same_form}
 use Rattle.cf_types.specs.Cells.{cells_equal}
 use Rattle.cf_types.specs.declared.cells.Cell.{Cell}
-use Rattle.cf_types.specs.declared.callbacks.CellCallbacks.{CellCallbacks}
-use Rattle.cf_types.specs.declared.callbacks.CellCallbacks.TheVariants.{Typed, Plain}
 use Rattle.cf_syntax.specs.declared.script.ClassLine.{ClassLine}
-use Rattle.cf_contents.specs.Contents.{Content, text_content, data_content, number_content, instance_content, array_content, dictionary_content, Object, first_class}
+use Rattle.cf_contents.specs.Contents.{Content, text_content, data_content, number_content, instance_content, array_content, dictionary_content, set_content, bag_content, heap_content, Object, callbacks_of, first_class}
 
 -- an object with its number
 pub record Numbered : Type 0 where
@@ -49,6 +47,9 @@ compared_by keyed o (number_content n) = whole_form n.value
 compared_by keyed o (instance_content key fields) = if keyed then whole_form key else same_form o
 compared_by keyed o (array_content plain os) = same_form o
 compared_by keyed o (dictionary_content plain pairs) = same_form o
+compared_by keyed o (set_content plain members) = same_form o
+compared_by keyed o (bag_content plain rows) = same_form o
+compared_by keyed o (heap_content plain adds rows) = same_form o
 
 -- an object as an element of a collection
 abbrev pub cell_of : List ClassLine → Numbered → Cell
@@ -57,10 +58,6 @@ cell_of classes u = record {
   leaf = record { class = u.object.class; form = compared_by (is_keyed (class_line classes u.object.class)) u.number u.object.content };
 }
 
--- how a collection treats its elements: a plain one compares identities
-abbrev pub callbacks_of : Bool → CellCallbacks
-callbacks_of plain = if plain then Plain else Typed
-
--- an element is equal to a key, as the dictionary compares them
+-- whether elements are equal
 abbrev pub equal_to : Bool → Cell → Cell → Bool
 equal_to plain key other = cells_equal (callbacks_of plain) key other

@@ -3,9 +3,9 @@ ghost use Rattle.std.specs.Prelude.{◌≡◌, pos, negsuc, false, true, [], ◌
 ghost use Rattle.cf_ids.specs.declared.answer.Answer.TheVariants as answers;
 ghost use Rattle.cf_number.specs.declared.kinds.NumKind.TheVariants.{S8, S16};
 ghost use Rattle.cf_syntax.specs.declared.statement.Statement.TheVariants as forms;
-ghost use Rattle.cf_contents.specs.Contents.{array_content, dictionary_content, instance_content};
+ghost use Rattle.cf_contents.specs.Contents.{array_content, bag_content, dictionary_content, heap_content, instance_content, set_content, slots_in};
 ghost use Rattle.cf_contents.specs.Descriptions.{description};
-ghost use Rattle.cf_contents.specs.Examples.{point, a_point, a_number, a_text, a_string, some_data, no_data, an_array, a_dictionary, a_plain_one, a_key, key_of, answer_on, answer_on_nothing, after, coming, going};
+ghost use Rattle.cf_contents.specs.Examples.{point, a_point, a_number, a_text, a_string, some_data, no_data, an_array, a_dictionary, a_plain_one, a_set, a_bag, a_heap, a_key, key_of, value_of, answer_on, answer_on_nothing, after, coming, going};
 
 /// An object of each kind, as it is described.
 pub fn descriptions_of_objects()
@@ -16,6 +16,9 @@ pub fn descriptions_of_objects()
     ensures instance { description (point ∷ []) a_point ≡ codes "point -3 [nil nil]" }
     ensures array { description [] an_array ≡ codes "Array 2 [#0 #1]" }
     ensures dictionary { description [] a_dictionary ≡ codes "Dictionary 1 [#0:#3]" }
+    ensures set { description [] a_set ≡ codes "Set 1 [#0]" }
+    ensures bag { description [] a_bag ≡ codes "Bag 1 [#0x2]" }
+    ensures heap { description [] a_heap ≡ codes "BinaryHeap 3 min #1" }
 {}
 
 /// What statements answer that act on contents: a mutable text with a surrogate pair at the units 1 and 2,
@@ -51,4 +54,26 @@ pub fn edits_of_members()
     ensures plain_key { after (forms.DictSet 0 1 2) a_plain_one a_key
         ≡ dictionary_content true ((key_of 0 (codes "k"), 3) ∷ (key_of 1 (codes "k"), 2) ∷ []) }
     ensures plain_holds_nothing { coming (forms.DictSet 0 1 2) a_plain_one a_key ≡ [] }
+{}
+
+/// What statements do to members: a set and a bag with a member that is equal to the element that is used, twice in
+/// the bag, and a heap of 2, 1 and 1.
+pub fn edits_of_sets_bags_and_heaps()
+    ensures present { answer_on (forms.SetAdd 0 1) a_set a_key ≡ answers.Present }
+    ensures set_changes { after (forms.SetSet 0 1) a_set a_key ≡ set_content false (key_of 1 (codes "k") ∷ []) }
+    ensures set_takes_in { coming (forms.SetSet 0 1) a_set a_key ≡ 1 ∷ [] }
+    ensures set_gives_out { going (forms.SetSet 0 1) a_set a_key ≡ 0 ∷ [] }
+    ensures set_counts { answer_on (forms.SetCount 0 1) a_set a_key ≡ answers.Number (pos 1) }
+    ensures bag_counts { after (forms.SetAdd 0 1) a_bag a_key ≡ bag_content false ((key_of 0 (codes "k"), 3) ∷ []) }
+    ensures first_alone { coming (forms.SetAdd 0 1) a_bag a_key ≡ [] }
+    ensures number_stays { after (forms.SetReplace 0 1) a_bag a_key
+        ≡ bag_content false ((key_of 1 (codes "k"), 2) ∷ []) }
+    ensures bag_loses_one { after (forms.SetRemove 0 1) a_bag a_key
+        ≡ bag_content false ((key_of 0 (codes "k"), 1) ∷ []) }
+    ensures last_alone { going (forms.SetRemove 0 1) a_bag a_key ≡ [] }
+    ensures bag_number { answer_on (forms.SetCount 0 1) a_bag a_key ≡ answers.Number (pos 2) }
+    ensures heap_loses_least { after (forms.HeapRemove 0) a_heap a_key ≡
+        heap_content false 3 ((value_of 0 (pos 2), 0) ∷ (value_of 2 (pos 1), 2) ∷ []) }
+    ensures least_goes { going (forms.HeapRemove 0) a_heap a_key ≡ 1 ∷ [] }
+    ensures heap_slots { slots_in a_heap.content ≡ 1 ∷ 2 ∷ 0 ∷ [] }
 {}

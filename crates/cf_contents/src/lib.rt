@@ -5,5 +5,7 @@
 mod examples;
 mod laws;
 
-pub use examples::{answers_of_edits, descriptions_of_objects, edits_of_members};
+pub use examples::{
+    answers_of_edits, descriptions_of_objects, edits_of_members, edits_of_sets_bags_and_heaps,
+};
 pub use laws::changes_keep_keys;

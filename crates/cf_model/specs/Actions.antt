@@ -43,6 +43,18 @@ action_of (forms.DictSet v k x) s = actions.DictSet s.block s.number s.used
 action_of (forms.DictReplace v k x) s = actions.DictReplace s.block s.number s.used
 action_of (forms.DictRemove v k) s = actions.DictRemove s.block s.number s.used
 action_of (forms.DictTake v dictionary k) s = actions.DictTake s.block s.number s.used
+action_of (forms.MakeSet v plain) s = actions.MakeSet s.block s.number s.used
+action_of (forms.MakeBag v plain) s = actions.MakeBag s.block s.number s.used
+action_of (forms.MakeHeap v plain) s = actions.MakeHeap s.block s.number s.used
+action_of (forms.SetAdd v x) s = actions.SetAdd s.block s.number s.used
+action_of (forms.SetSet v x) s = actions.SetSet s.block s.number s.used
+action_of (forms.SetReplace v x) s = actions.SetReplace s.block s.number s.used
+action_of (forms.SetRemove v x) s = actions.SetRemove s.block s.number s.used
+action_of (forms.SetCount v x) s = actions.SetCount s.block s.number s.used
+action_of (forms.SetTake v set x) s = actions.SetTake s.block s.number s.used
+action_of (forms.HeapAdd v x) s = actions.HeapAdd s.block s.number s.used
+action_of (forms.HeapTake v heap) s = actions.HeapTake s.block s.number s.used
+action_of (forms.HeapRemove v) s = actions.HeapRemove s.block s.number s.used
 action_of (forms.FieldSet v at x) s = actions.FieldSet s.block s.number s.used
 action_of (forms.FieldClear v at) s = actions.FieldClear s.block s.number s.used
 action_of (forms.FieldTake v instance at) s = actions.FieldTake s.block s.number s.used
@@ -79,6 +91,18 @@ site_of (actions.DictSet b n u) = Some (record { block = b; number = n; used = u
 site_of (actions.DictReplace b n u) = Some (record { block = b; number = n; used = u })
 site_of (actions.DictRemove b n u) = Some (record { block = b; number = n; used = u })
 site_of (actions.DictTake b n u) = Some (record { block = b; number = n; used = u })
+site_of (actions.MakeSet b n u) = Some (record { block = b; number = n; used = u })
+site_of (actions.MakeBag b n u) = Some (record { block = b; number = n; used = u })
+site_of (actions.MakeHeap b n u) = Some (record { block = b; number = n; used = u })
+site_of (actions.SetAdd b n u) = Some (record { block = b; number = n; used = u })
+site_of (actions.SetSet b n u) = Some (record { block = b; number = n; used = u })
+site_of (actions.SetReplace b n u) = Some (record { block = b; number = n; used = u })
+site_of (actions.SetRemove b n u) = Some (record { block = b; number = n; used = u })
+site_of (actions.SetCount b n u) = Some (record { block = b; number = n; used = u })
+site_of (actions.SetTake b n u) = Some (record { block = b; number = n; used = u })
+site_of (actions.HeapAdd b n u) = Some (record { block = b; number = n; used = u })
+site_of (actions.HeapTake b n u) = Some (record { block = b; number = n; used = u })
+site_of (actions.HeapRemove b n u) = Some (record { block = b; number = n; used = u })
 site_of (actions.FieldSet b n u) = Some (record { block = b; number = n; used = u })
 site_of (actions.FieldClear b n u) = Some (record { block = b; number = n; used = u })
 site_of (actions.FieldTake b n u) = Some (record { block = b; number = n; used = u })

@@ -74,6 +74,7 @@ fn member_word(answer: &Answer) -> &'static str {
         Answer::Changed => "changed",
         Answer::Present => "present",
         Answer::Absent => "absent",
+        Answer::Empty => "empty",
         _ => "another",
     }
 }

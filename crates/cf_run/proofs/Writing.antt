@@ -35,6 +35,9 @@ cut_at due n old new lt e = record {
 }
 
 -- nothing was taken of a text
+pub part_none : (due : List ℕ) (old : Option (List ℕ)) → Part due old old
+part_none due old = record { out = []; rest = due; parts = refl; taken = sym (then_bytes-nil old) }
+
 pub cut_none : (due : List ℕ) (old new : Option (List ℕ)) → 0 < length due → new ≡ old → Cut due old new
 cut_none due old new lt e = record {
   part = record { out = []; rest = due; parts = refl; taken = e ∙ sym (then_bytes-nil old) };

@@ -225,6 +225,7 @@ pub fn run_script(alloc: Global, script: Checked) -> Result<Over, NoMemory>
         turn = run.turn();
     }
     let ending = turn.ending();
+    run.world.sort();
     let edges = run.world.edges(alloc)?;
     let tallies = tallied(alloc, run.world.made(), &edges)?;
     Ok(Over {

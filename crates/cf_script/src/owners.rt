@@ -1,8 +1,9 @@
 //! The owner check.
-ghost use Rattle.std.specs.Prelude.{◌≡◌, ◌<◌, List, [], slice_index, nat_lt, ◌&&◌};
+ghost use Rattle.std.specs.Prelude.{◌≡◌, ◌<◌, ℕ, List, [], slice_index, nat_lt, ◌&&◌};
 ghost use Rattle.cf_ids.specs.declared.limits.TheConstants.{VARIABLES};
 ghost use Rattle.cf_syntax.specs.Counting.{Counted};
-ghost use Rattle.cf_syntax.specs.Owned.{may_bind, may_use, is_fit, are_fit, blocks_fit};
+ghost use Rattle.cf_syntax.specs.Forms.{pad};
+ghost use Rattle.cf_syntax.specs.Owned.{may_bind, may_use, may_use_all, is_fit, are_fit, blocks_fit};
 ghost use Rattle.cf_syntax.specs.declared.statement.Statement.{Statement};
 ghost use Rattle.cf_script.specs.Using.{may_use_some};
 
@@ -35,6 +36,28 @@ fn may_use_some(counts: &Counts, used: Option<VarId>) -> bool
     }
 }
 
+/// The same of each of the places where a variable may stand.
+fn may_use_all(counts: &Counts, used: [Option<VarId>; 3]) -> bool
+    ensures { (earlier : List Statement) (vs : List ℕ) → Counted counts.now earlier → used ≡ pad vs
+        → result ≡ may_use_all earlier vs }
+{
+    let [first, second, third] = used;
+    may_use_three(counts, first, second, third)
+}
+
+/// The same of three places where a variable may stand.
+fn may_use_three(
+    counts: &Counts,
+    first: Option<VarId>,
+    second: Option<VarId>,
+    third: Option<VarId>,
+) -> bool
+    ensures { (earlier : List Statement) → Counted counts.now earlier
+        → result ≡ (may_use_some earlier first && (may_use_some earlier second && may_use_some earlier third)) }
+{
+    may_use_some(counts, first) && may_use_some(counts, second) && may_use_some(counts, third)
+}
+
 /// Whether a variable that is to be bound is not bound yet.
 fn may_bind(counts: &Counts, ownership: Ownership) -> bool
     ensures { (earlier : List Statement) → Counted counts.now earlier → result ≡ may_bind earlier ownership }
@@ -49,11 +72,8 @@ fn may_bind(counts: &Counts, ownership: Ownership) -> bool
 fn is_fit(counts: &Counts, statement: &Statement) -> bool
     ensures { (earlier : List Statement) → Counted counts.now earlier → result ≡ is_fit earlier statement.now }
 {
-    let [first, second, third] = statement.uses();
     may_bind(counts, statement.ownership())
-        && may_use_some(counts, first)
-        && may_use_some(counts, second)
-        && may_use_some(counts, third)
+        && may_use_all(counts, statement.uses())
         && statement.is_known()
 }
 

@@ -2,7 +2,7 @@
 ghost use Rattle.std.specs.Prelude.{◌≡◌, IfOk, unwrap_or, [], length, slice_index};
 ghost use Rattle.cf_syntax.specs.Numbers.{bytes_of};
 ghost use Rattle.cf_syntax.specs.Words.{text_of};
-ghost use Rattle.cf_syntax.specs.Table.{last_word, literal_of, operands_of, text_statement, data_statement, number_statement, plain_statement, make_statement, array_statement, dict_statement, field_statement, statement_by, statement_of};
+ghost use Rattle.cf_syntax.specs.Table.{last_word, literal_of, operands_of, text_statement, data_statement, number_statement, plain_statement, make_statement, array_statement, dict_statement, set_statement, heap_statement, field_statement, statement_by, statement_of};
 ghost use Rattle.cf_script.specs.Gives.{GivesAs};
 ghost use Rattle.cf_script.specs.Views.{lent, texts};
 ghost use Rattle.cf_script.specs.StatementViews.{statement_words_of, number_statement_names};
@@ -18,8 +18,8 @@ use cf_ids::VarId;
 use cf_number::{Num, NumKind};
 use cf_string::{Str, StrFault};
 use cf_syntax::{
-    ArrayForm, Collection, DataForm, DataLiteral, DictForm, FieldForm, PlainForm, Refusal,
-    Statement, StatementForm, TextForm, TextLiteral,
+    ArrayForm, Collection, DataForm, DataLiteral, DictForm, FieldForm, HeapForm, PlainForm,
+    Refusal, SetForm, Statement, StatementForm, TextForm, TextLiteral,
 };
 use indexmap::IndexSet;
 use std::alloc::{AllocError, Global};
@@ -181,6 +181,9 @@ fn make_statement(collection: Collection, plain: bool, variable: VarId) -> State
     match collection {
         Collection::Array => Statement::MakeArray { variable, plain },
         Collection::Dict => Statement::MakeDict { variable, plain },
+        Collection::Set => Statement::MakeSet { variable, plain },
+        Collection::Bag => Statement::MakeBag { variable, plain },
+        Collection::Heap => Statement::MakeHeap { variable, plain },
     }
 }
 
@@ -247,6 +250,42 @@ fn dict_statement(form: DictForm, variable: VarId, second: VarId, third: VarId) 
     }
 }
 
+/// The statement of a form that acts on a set or a bag.
+fn set_statement(form: SetForm, variable: VarId, second: VarId, third: VarId) -> Statement
+    ensures { result ≡ set_statement form variable second third }
+{
+    let element = second;
+    match form {
+        SetForm::Add => Statement::SetAdd { variable, element },
+        SetForm::Set => Statement::SetSet { variable, element },
+        SetForm::Replace => Statement::SetReplace { variable, element },
+        SetForm::Remove => Statement::SetRemove { variable, element },
+        SetForm::Count => Statement::SetCount { variable, element },
+        SetForm::Take => Statement::SetTake {
+            variable,
+            set: second,
+            element: third,
+        },
+    }
+}
+
+/// The statement of a form that acts on a heap.
+fn heap_statement(form: HeapForm, variable: VarId, second: VarId) -> Statement
+    ensures { result ≡ heap_statement form variable second }
+{
+    match form {
+        HeapForm::Add => Statement::HeapAdd {
+            variable,
+            element: second,
+        },
+        HeapForm::Take => Statement::HeapTake {
+            variable,
+            heap: second,
+        },
+        HeapForm::Remove => Statement::HeapRemove { variable },
+    }
+}
+
 /// The statement of a form that acts on a field of an instance.
 fn field_statement(form: FieldForm, variable: VarId, second: VarId, words: &[&[u8]]) -> Statement
     ensures { result ≡ field_statement form variable second (lent words.now) }
@@ -302,6 +341,8 @@ fn statement_by(
         StatementForm::MakePlain(collection) => Ok(make_statement(collection, true, first)),
         StatementForm::Array(form) => Ok(array_statement(form, first, second, words)),
         StatementForm::Dict(form) => Ok(dict_statement(form, first, second, third)),
+        StatementForm::Set(form) => Ok(set_statement(form, first, second, third)),
+        StatementForm::Heap(form) => Ok(heap_statement(form, first, second)),
         StatementForm::Field(form) => Ok(field_statement(form, first, second, words)),
     }
 }

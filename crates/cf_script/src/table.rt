@@ -8,15 +8,15 @@ use crate::fault::UNREAD;
 use crate::numbers::{index_of, integer_of, is_count, is_hex, kind_of};
 use crate::words::{is, is_name, is_text, word_at};
 use cf_syntax::{
-    ArrayForm, Collection, DataForm, DictForm, FieldForm, Operand, PlainForm, Refusal,
-    StatementForm, TextForm,
+    ArrayForm, Collection, DataForm, DictForm, FieldForm, HeapForm, Operand, PlainForm, Refusal,
+    SetForm, StatementForm, TextForm,
 };
 
 /// A word, and the form that it finds.
 struct FormWord(&'static [u8], StatementForm);
 
 /// The forms by their first words.
-const FIRST_WORDS: [FormWord; 26] = [
+const FIRST_WORDS: [FormWord; 35] = [
     FormWord(b"retain", StatementForm::Plain(PlainForm::Retain)),
     FormWord(b"release", StatementForm::Plain(PlainForm::Release)),
     FormWord(b"show", StatementForm::Plain(PlainForm::Show)),
@@ -40,13 +40,22 @@ const FIRST_WORDS: [FormWord; 26] = [
     FormWord(b"dict.replace", StatementForm::Dict(DictForm::Replace)),
     FormWord(b"dict.remove", StatementForm::Dict(DictForm::Remove)),
     FormWord(b"dict.take", StatementForm::Dict(DictForm::Take)),
+    FormWord(b"set.add", StatementForm::Set(SetForm::Add)),
+    FormWord(b"set.set", StatementForm::Set(SetForm::Set)),
+    FormWord(b"set.replace", StatementForm::Set(SetForm::Replace)),
+    FormWord(b"set.remove", StatementForm::Set(SetForm::Remove)),
+    FormWord(b"set.count", StatementForm::Set(SetForm::Count)),
+    FormWord(b"set.take", StatementForm::Set(SetForm::Take)),
+    FormWord(b"heap.add", StatementForm::Heap(HeapForm::Add)),
+    FormWord(b"heap.take", StatementForm::Heap(HeapForm::Take)),
+    FormWord(b"heap.remove", StatementForm::Heap(HeapForm::Remove)),
     FormWord(b"field.set", StatementForm::Field(FieldForm::Set)),
     FormWord(b"field.clear", StatementForm::Field(FieldForm::Clear)),
     FormWord(b"field.take", StatementForm::Field(FieldForm::Take)),
 ];
 
 /// The forms that make an object, by its kind.
-const KINDS: [FormWord; 7] = [
+const KINDS: [FormWord; 10] = [
     FormWord(b"string", StatementForm::Text(TextForm::MakeString)),
     FormWord(b"mstring", StatementForm::Text(TextForm::MakeMstring)),
     FormWord(b"data", StatementForm::Data(DataForm::MakeData)),
@@ -54,6 +63,9 @@ const KINDS: [FormWord; 7] = [
     FormWord(b"number", StatementForm::Plain(PlainForm::MakeNumber)),
     FormWord(b"array", StatementForm::Make(Collection::Array)),
     FormWord(b"dict", StatementForm::Make(Collection::Dict)),
+    FormWord(b"set", StatementForm::Make(Collection::Set)),
+    FormWord(b"bag", StatementForm::Make(Collection::Bag)),
+    FormWord(b"heap", StatementForm::Make(Collection::Heap)),
 ];
 
 /// The form that a word finds.

@@ -4,13 +4,13 @@ use Rattle.std.specs.Option.{option_map}
 use Rattle.cf_ids.specs.declared.answer.Answer.{Answer}
 use Rattle.cf_ids.specs.declared.answer.Answer.TheVariants as answers
 use Rattle.cf_types.specs.declared.cells.Cell.{Cell}
-use Rattle.cf_contents.specs.Contents.{Content, text_content, data_content, number_content, instance_content, array_content, dictionary_content}
+use Rattle.cf_contents.specs.Contents.{Content, text_content, data_content, number_content, instance_content, array_content, dictionary_content, set_content, bag_content, heap_content}
 use Rattle.cf_contents.specs.Keys.{Numbered, number_of, numbered, with_number_of}
 use Rattle.cf_contents.specs.Deeds as deeds
 use Rattle.cf_body.specs.Bodies.{BodyView, object_in, held_of}
 use Rattle.cf_store.specs.Seen.{read_in, units_in, mutable_units_in}
 use Rattle.cf_contents.specs.Stores.{objects_of}
-use Rattle.cf_body.specs.Changes.{CanBe}
+use Rattle.cf_body.specs.Changes.{CanBe, done_of}
 use Rattle.cf_store.specs.Applies.{CanBeAt, Does, body_at}
 use Rattle.cf_body.specs.declared.change.BodyChange.{BodyChange}
 use Rattle.cf_body.specs.declared.change.BodyChange.TheVariants.{PutPair, RemovePair}
@@ -28,6 +28,9 @@ more_in (number_content n) more deed is = absurd cc
 more_in (instance_content key fields) more deed is = absurd cc
 more_in (array_content plain os) more deed is = absurd cc
 more_in (dictionary_content plain pairs) more deed is = absurd cc
+more_in (set_content plain members) more deed is = absurd cc
+more_in (bag_content plain rows) more deed is = absurd cc
+more_in (heap_content plain adds rows) more deed is = absurd cc
 
 more_of : (b : Option Numbered) (more : List ℕ) (deed : List ℕ → deeds.Deed) → Some more ≡ read_in units_in b
     → deeds.with_text b deed ≡ deed more
@@ -44,6 +47,9 @@ units_of (number_content n) units deed other is same = absurd cc
 units_of (instance_content key fields) units deed other is same = absurd cc
 units_of (array_content plain os) units deed other is same = absurd cc
 units_of (dictionary_content plain pairs) units deed other is same = absurd cc
+units_of (set_content plain members) units deed other is same = absurd cc
+units_of (bag_content plain rows) units deed other is same = absurd cc
+units_of (heap_content plain adds rows) units deed other is same = absurd cc
 
 text_of : (a : Option Numbered) (units : List ℕ) (deed other : List ℕ → deeds.Deed)
     → Some units ≡ read_in mutable_units_in a → deed units ≡ other units
@@ -79,6 +85,13 @@ pub remove_does : (a : Option Numbered) (key : Cell) (d : Plan) → ((k : Cell) 
     → d ≡ record { answer = answers.Ok; origin = Nowhere; change = RemovePair key }
     → Does (deeds.changing answers.Ok (deeds.remove_pair key)) a d
 remove_does a key d removes same = rw same (record { is = refl; new = tt; can = removes key })
+
+-- ---- members
+
+pub changes_does : (a : Option Numbered) (d : Plan) (answer : Answer) (change : BodyChange) → CanBeAt change a
+    → d ≡ record { answer = answer; origin = Nowhere; change = change }
+    → Does (deeds.changing answer (done_of change)) a d
+changes_does a d answer change can same = rw same (record { is = refl; new = tt; can = can })
 
 -- ---- what can be done to an object can be done to its body
 

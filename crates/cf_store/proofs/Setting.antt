@@ -11,7 +11,7 @@ use Rattle.cf_body.specs.Changes.{CanBe, HasRoom, done_of, members_for}
 use Rattle.cf_store.specs.Applies.{IsReadyAt, body_at, IsReadyIn}
 use Rattle.cf_store.specs.declared.plan.ReadyPlan.{ReadyPlan}
 use Rattle.cf_body.specs.declared.change.BodyChange.{BodyChange}
-use Rattle.cf_body.specs.declared.change.BodyChange.TheVariants.{Nothing, Text, Data, Insert, Replace, Remove, Fill, Clear, PutPair, RemovePair}
+use Rattle.cf_body.specs.declared.change.BodyChange.TheVariants.{Nothing, Text, Data, Insert, Replace, Remove, Fill, Clear, PutPair, RemovePair, AddMember, PutMember, RemoveMember, RemoveLeast}
 
 -- the object of a body
 pub object_at : (bodies : List BodyView) (o : ℕ)
@@ -53,6 +53,14 @@ pub held_at : (bodies : List BodyView) (o : ℕ) (old new : BodyView) → o < le
     → held_of new ≡ held_of old
     → map held_of (slice_set bodies o new) ≡ map held_of bodies
 held_at bodies o old new within is held = set_at (λ h. h) bodies o old new within is held ∙ with_same o (map held_of bodies)
+
+-- a body in its own place
+pub same_set : (bodies : List BodyView) (o : ℕ) (old new : BodyView) → o < length bodies → old ≡ get_or bodies o old
+    → new ≡ old
+    → slice_set bodies o new ≡ bodies
+same_set [] o old new within is same = refl
+same_set (b ∷ bs) zero old new within is same = ap (λ (x : BodyView). x ∷ bs) (same ∙ is)
+same_set (b ∷ bs) (suc o) old new within is same = ap (λ (xs : List BodyView). b ∷ xs) (same_set bs o old new (omega arith) is same)
 
 got_set : (bodies : List BodyView) (o : ℕ) (new : BodyView) → o < length bodies
     → slice_get (slice_set bodies o new) o ≡ Some new
@@ -193,6 +201,10 @@ grows_one (Fill at element) = omega arith
 grows_one (Clear at) = omega arith
 grows_one (PutPair key value) = omega arith
 grows_one (RemovePair key) = omega arith
+grows_one (AddMember element) = omega arith
+grows_one (PutMember element) = omega arith
+grows_one (RemoveMember element) = omega arith
+grows_one RemoveLeast = omega arith
 
 pub few_at : (change : BodyChange) (bodies : List BodyView) (object : Option ℕ) (o : ℕ) (old : BodyView)
     → (object ≡ Some o) × (o < length bodies)

@@ -37,3 +37,20 @@ acts_on_pairs (forms.DictReplace v k x) = true
 acts_on_pairs (forms.DictRemove v k) = true
 acts_on_pairs (forms.DictTake v dictionary k) = true
 acts_on_pairs _ = false
+
+-- sets and bags
+abbrev pub acts_on_members : Statement → Bool
+acts_on_members (forms.SetAdd v x) = true
+acts_on_members (forms.SetSet v x) = true
+acts_on_members (forms.SetReplace v x) = true
+acts_on_members (forms.SetRemove v x) = true
+acts_on_members (forms.SetCount v x) = true
+acts_on_members (forms.SetTake v set x) = true
+acts_on_members _ = false
+
+-- heaps
+abbrev pub acts_on_heaps : Statement → Bool
+acts_on_heaps (forms.HeapAdd v x) = true
+acts_on_heaps (forms.HeapTake v heap) = true
+acts_on_heaps (forms.HeapRemove v) = true
+acts_on_heaps _ = false

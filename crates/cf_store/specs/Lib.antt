@@ -2,4 +2,5 @@
 pub mod Applies
 pub mod Finds
 pub mod Groups
+pub mod Members
 pub mod Seen

@@ -1,7 +1,8 @@
 -- What is seen of the objects that a statement uses.
-use Rattle.std.specs.Prelude.{ℕ, true, List, Option, Some, None}
+use Rattle.std.specs.Prelude.{ℕ, Bool, true, List, Option, Some, None}
 use Rattle.cf_number.specs.Numbers.{Number}
-use Rattle.cf_contents.specs.Contents.{Content, text_content, data_content, number_content, instance_content, array_content}
+use Rattle.cf_contents.specs.Contents.{Content, text_content, data_content, number_content, instance_content, array_content, heap_content}
+use Rattle.cf_types.specs.declared.cells.Cell.{Cell}
 use Rattle.cf_contents.specs.Keys.{Numbered}
 
 -- the units of a text
@@ -33,6 +34,16 @@ fields_in _ = None
 abbrev pub elements_in : Content → Option (List ℕ)
 elements_in (array_content plain os) = Some os
 elements_in _ = None
+
+-- a heap: whether it is plain, how many were added, and its elements in order of arrival
+pub record HeapSeen : Type 0 where
+  pub plain : Bool
+  pub adds : ℕ
+  pub rows : List (Cell × ℕ)
+
+abbrev pub heap_in : Content → Option HeapSeen
+heap_in (heap_content plain adds rows) = Some (record { plain = plain; adds = adds; rows = rows })
+heap_in _ = None
 
 -- what is read of an object, if there is one
 abbrev pub read_in : {A : Type 0} → (Content → Option A) → Option Numbered → Option A

@@ -94,3 +94,14 @@ pub(crate) fn change_body(
         None => Moved::nothing(),
     }
 }
+
+/// Sorts the elements of each heap.
+pub(crate) fn sort_bodies(bodies: &mut Vec<Body>)
+    ensures items { bodies.new.items ≡ bodies.old.items }
+    ensures len { vec_len bodies.new ≡ vec_len bodies.old }
+    ensures capacity { vec_capacity bodies.new ≡ vec_capacity bodies.old }
+{
+    for place in 0..bodies.len() {
+        bodies[place].sort();
+    }
+}

@@ -3,7 +3,9 @@
 
 mod bodies;
 mod content_plans;
+mod heap_plans;
 mod making;
+mod member_plans;
 mod pair_plans;
 mod place_plans;
 mod plan;

@@ -1,6 +1,6 @@
 //! What statements do that use no object, and those that only count references: most of them make an object.
 ghost use Rattle.std.specs.Prelude.{◌≡◌, ◌<◌, None, [], length, replicate, IfOk};
-ghost use Rattle.cf_contents.specs.Contents.{text_content, data_content, number_content, array_content, dictionary_content, string_class, data_class, number_class, array_class, dictionary_class, instance_of};
+ghost use Rattle.cf_contents.specs.Contents.{text_content, data_content, number_content, array_content, dictionary_content, set_content, bag_content, heap_content, string_class, data_class, number_class, array_class, dictionary_class, set_class, bag_class, heap_class, instance_of};
 ghost use Rattle.cf_contents.specs.Keys.{class_line};
 ghost use Rattle.cf_contents.specs.Deeds.{creating, fresh_if, deed_of};
 ghost use Rattle.cf_store.specs.Applies.{IsAlone};
@@ -10,6 +10,7 @@ use cf_array::Array;
 use cf_body::{Instance, Kind, Pairs, class_line};
 use cf_data::Bytes;
 use cf_ids::{Answer, ObjId, TypeId};
+use cf_members::{ElementHeap, MemberBag, MemberSet};
 use cf_number::Num;
 use cf_syntax::{ClassLine, DataLiteral, Statement, TextLiteral};
 use std::alloc::{AllocError as NoMemory, Global};
@@ -25,6 +26,15 @@ const ARRAY: TypeId = TypeId(6);
 
 /// The type of dictionaries.
 const DICTIONARY: TypeId = TypeId(7);
+
+/// The type of sets.
+const SET: TypeId = TypeId(8);
+
+/// The type of bags.
+const BAG: TypeId = TypeId(9);
+
+/// The type of heaps.
+const HEAP: TypeId = TypeId(10);
 
 /// What a statement does where no object is found that it uses.
 pub(crate) fn plan_alone(
@@ -42,6 +52,9 @@ pub(crate) fn plan_alone(
         Statement::MakeNumber { number, .. } => Ok(make_number(*number)),
         Statement::MakeArray { plain, .. } => Ok(make_array(alloc, *plain)),
         Statement::MakeDict { plain, .. } => Ok(make_dictionary(alloc, *plain)),
+        Statement::MakeSet { plain, .. } => Ok(make_set(alloc, *plain)),
+        Statement::MakeBag { plain, .. } => Ok(make_bag(alloc, *plain)),
+        Statement::MakeHeap { plain, .. } => Ok(make_heap(alloc, *plain)),
         Statement::New {
             class: Some(class),
             key,
@@ -100,6 +113,27 @@ fn make_dictionary(alloc: Global, plain: bool) -> Plan
     ensures { IsAlone (creating dictionary_class (dictionary_content plain [])) result }
 {
     Plan::creating(DICTIONARY, Kind::Dictionary(Pairs::new(alloc, plain)))
+}
+
+/// Makes a set without members.
+fn make_set(alloc: Global, plain: bool) -> Plan
+    ensures { IsAlone (creating set_class (set_content plain [])) result }
+{
+    Plan::creating(SET, Kind::Set(MemberSet::new(alloc, plain)))
+}
+
+/// Makes a bag without members.
+fn make_bag(alloc: Global, plain: bool) -> Plan
+    ensures { IsAlone (creating bag_class (bag_content plain [])) result }
+{
+    Plan::creating(BAG, Kind::Bag(MemberBag::new(alloc, plain)))
+}
+
+/// Makes a heap without elements.
+fn make_heap(alloc: Global, plain: bool) -> Plan
+    ensures { IsAlone (creating heap_class (heap_content plain 0 [])) result }
+{
+    Plan::creating(HEAP, Kind::Heap(ElementHeap::new(alloc, plain)))
 }
 
 /// Makes an instance of a class, with empty fields.

@@ -2,7 +2,7 @@
 ghost use Rattle.std.specs.Prelude.{◌≡◌, ◌<◌};
 ghost use Rattle.cf_contents.specs.Contents.{member_limit};
 ghost use Rattle.cf_contents.specs.Deeds.{binding, creating};
-ghost use Rattle.cf_body.specs.Bodies.{content_of, members_in};
+ghost use Rattle.cf_body.specs.Bodies.{content_of, most_in};
 ghost use Rattle.cf_store.specs.Applies.{deed_by, IsNew};
 ghost use Rattle.cf_store.specs.declared.plan.Origin.TheVariants.{Nowhere};
 ghost use Rattle.cf_body.specs.declared.change.BodyChange.TheVariants.{Nothing};
@@ -58,7 +58,7 @@ impl Plan {
 
     /// It makes an object.
     pub(crate) fn creating(class: TypeId, kind: Kind) -> Plan
-        requires { members_in (content_of kind) < member_limit }
+        requires { most_in (content_of kind) < member_limit }
         ensures is { deed_by result ≡ creating class (content_of kind) }
         ensures change { result.change ≡ Nothing }
         ensures new { IsNew result.origin }

@@ -4,7 +4,9 @@ ghost use Rattle.cf_contents.specs.Deeds.{deed_of};
 ghost use Rattle.cf_store.specs.Applies.{Does};
 
 use crate::content_plans::content_plan;
+use crate::heap_plans::heap_plan;
 use crate::making::plan_alone;
+use crate::member_plans::member_plan;
 use crate::pair_plans::pair_plan;
 use crate::place_plans::place_plan;
 use crate::plan::Plan;
@@ -46,6 +48,15 @@ pub(crate) fn plan_of(
         | Statement::DictReplace { .. }
         | Statement::DictRemove { .. }
         | Statement::DictTake { .. } => pair_plan(alloc, classes, statement, used),
+        Statement::SetAdd { .. }
+        | Statement::SetSet { .. }
+        | Statement::SetReplace { .. }
+        | Statement::SetRemove { .. }
+        | Statement::SetCount { .. }
+        | Statement::SetTake { .. } => member_plan(alloc, classes, statement, used),
+        Statement::HeapAdd { .. } | Statement::HeapTake { .. } | Statement::HeapRemove { .. } => {
+            heap_plan(alloc, classes, statement, used)
+        }
         Statement::MakeString { .. }
         | Statement::MakeMstring { .. }
         | Statement::MakeData { .. }
@@ -53,6 +64,9 @@ pub(crate) fn plan_of(
         | Statement::MakeNumber { .. }
         | Statement::MakeArray { .. }
         | Statement::MakeDict { .. }
+        | Statement::MakeSet { .. }
+        | Statement::MakeBag { .. }
+        | Statement::MakeHeap { .. }
         | Statement::New { .. }
         | Statement::Retain { .. }
         | Statement::Release { .. } => plan_alone(alloc, classes, statement),

@@ -3,13 +3,14 @@ ghost use Rattle.std.specs.Prelude.{◌≡◌, map, None};
 ghost use Rattle.std.specs.Option.{option_map};
 ghost use Rattle.cf_contents.specs.Keys.{numbered, number_of};
 ghost use Rattle.cf_body.specs.Bodies.{held_of};
-ghost use Rattle.cf_store.specs.Seen.{read_in, units_in, mutable_units_in, mutable_bytes_in, number_in, fields_in, elements_in};
+ghost use Rattle.cf_store.specs.Seen.{read_in, units_in, mutable_units_in, mutable_bytes_in, number_in, fields_in, elements_in, heap_in};
 ghost use Rattle.cf_contents.specs.Stores.{objects_of};
 
 use cf_array::Array;
 use cf_body::{Body, Kind};
 use cf_data::Bytes;
 use cf_ids::ObjId;
+use cf_members::ElementHeap;
 use cf_number::Num;
 use cf_string::Str;
 use std::marker::Model;
@@ -150,6 +151,21 @@ pub(crate) fn elements_in<'a>(seen: &Option<Seen<'a>>) -> Option<&'a Array<ObjId
     let body = seen.body;
     match body.kind() {
         Kind::Array { elements, .. } => Some(elements),
+        _ => None,
+    }
+}
+
+/// The elements of a heap.
+pub(crate) fn heap_in<'a>(seen: &Option<Seen<'a>>) -> Option<&'a ElementHeap>
+    ensures { option_map (λ heap. record { plain = heap.now.plain; adds = heap.now.adds; rows = heap.now.rows }) result
+        ≡ read_in heap_in seen.now }
+{
+    let Some(seen) = seen else {
+        return None;
+    };
+    let body = seen.body;
+    match body.kind() {
+        Kind::Heap(heap) => Some(heap),
         _ => None,
     }
 }

@@ -8,7 +8,7 @@ ghost use Rattle.cf_body.specs.Changes.{done_of};
 ghost use Rattle.cf_store.specs.Applies.{IsReadyAt, IsDeed, body_at, ready_by};
 ghost use Rattle.cf_contents.specs.Stores.{Held, MayGrow, objects_of, ready_deed, with_body, body_finalised, body_dropped, bodies_changed, is_live_in, given_up_in, left_in};
 
-use crate::bodies::{change_body, make_room, plan_among};
+use crate::bodies::{change_body, make_room, plan_among, sort_bodies};
 use crate::plan::{Origin, Plan, ReadyPlan, set_ready};
 use cf_body::{Body, Moved};
 use cf_ids::{Answer, ObjId, TypeId};
@@ -113,6 +113,13 @@ impl Store {
             return None;
         }
         body.slot(k)
+    }
+
+    /// Sorts the elements of each heap, so that each slot is found at once. It takes no memory.
+    pub fn sort(&mut self)
+        ensures { self.new ≡ self.old }
+    {
+        sort_bodies(&mut self.bodies);
     }
 
     /// Finalises an object: it gives up its slots from now on.

@@ -1,7 +1,7 @@
 -- What each form of statement does to variables. This project's own; a further form adds a line to each.
 use Rattle.std.specs.Prelude.{ℕ, ◌-◌, Bool, true, false, List, [], ◌∷◌, ◌++◌, length, map, replicate, Option, Some, None}
 use Rattle.cf_syntax.specs.declared.statement.Statement.{Statement}
-use Rattle.cf_syntax.specs.declared.statement.Statement.TheVariants.{MakeString, MakeMstring, MakeData, MakeMdata, MakeNumber, New, Retain, Release, Show, StrAppend, StrInsert, StrDelete, StrReplace, StrSub, DataAppend, DataReplace, DataDelete, NumAs, MakeArray, MakeDict, ArrAppend, ArrInsert, ArrSet, ArrRemove, ArrTake, DictAdd, DictSet, DictReplace, DictRemove, DictTake, FieldSet, FieldClear, FieldTake}
+use Rattle.cf_syntax.specs.declared.statement.Statement.TheVariants.{MakeString, MakeMstring, MakeData, MakeMdata, MakeNumber, New, Retain, Release, Show, StrAppend, StrInsert, StrDelete, StrReplace, StrSub, DataAppend, DataReplace, DataDelete, NumAs, MakeArray, MakeDict, ArrAppend, ArrInsert, ArrSet, ArrRemove, ArrTake, DictAdd, DictSet, DictReplace, DictRemove, DictTake, MakeSet, MakeBag, MakeHeap, SetAdd, SetSet, SetReplace, SetRemove, SetCount, SetTake, HeapAdd, HeapTake, HeapRemove, FieldSet, FieldClear, FieldTake}
 use Rattle.cf_syntax.specs.declared.statement.Ownership.{Ownership}
 use Rattle.cf_syntax.specs.declared.statement.Ownership.TheVariants.{Keeps, Binds, Retains, Releases}
 
@@ -37,6 +37,18 @@ ownership_of (DictSet v k x) = Keeps
 ownership_of (DictReplace v k x) = Keeps
 ownership_of (DictRemove v k) = Keeps
 ownership_of (DictTake v d k) = Binds v
+ownership_of (MakeSet v plain) = Binds v
+ownership_of (MakeBag v plain) = Binds v
+ownership_of (MakeHeap v plain) = Binds v
+ownership_of (SetAdd v x) = Keeps
+ownership_of (SetSet v x) = Keeps
+ownership_of (SetReplace v x) = Keeps
+ownership_of (SetRemove v x) = Keeps
+ownership_of (SetCount v x) = Keeps
+ownership_of (SetTake v s x) = Binds v
+ownership_of (HeapAdd v x) = Keeps
+ownership_of (HeapTake v h) = Binds v
+ownership_of (HeapRemove v) = Keeps
 ownership_of (FieldSet v at x) = Keeps
 ownership_of (FieldClear v at) = Keeps
 ownership_of (FieldTake v o at) = Binds v
@@ -80,6 +92,18 @@ read_by (DictSet v k x) = v ∷ k ∷ x ∷ []
 read_by (DictReplace v k x) = v ∷ k ∷ x ∷ []
 read_by (DictRemove v k) = v ∷ k ∷ []
 read_by (DictTake v d k) = d ∷ k ∷ []
+read_by (MakeSet v plain) = []
+read_by (MakeBag v plain) = []
+read_by (MakeHeap v plain) = []
+read_by (SetAdd v x) = v ∷ x ∷ []
+read_by (SetSet v x) = v ∷ x ∷ []
+read_by (SetReplace v x) = v ∷ x ∷ []
+read_by (SetRemove v x) = v ∷ x ∷ []
+read_by (SetCount v x) = v ∷ x ∷ []
+read_by (SetTake v s x) = s ∷ x ∷ []
+read_by (HeapAdd v x) = v ∷ x ∷ []
+read_by (HeapTake v h) = h ∷ []
+read_by (HeapRemove v) = v ∷ []
 read_by (FieldSet v at x) = v ∷ x ∷ []
 read_by (FieldClear v at) = v ∷ []
 read_by (FieldTake v o at) = o ∷ []
@@ -102,6 +126,9 @@ makes_object (MakeMdata v bytes) = true
 makes_object (MakeNumber v number) = true
 makes_object (MakeArray v plain) = true
 makes_object (MakeDict v plain) = true
+makes_object (MakeSet v plain) = true
+makes_object (MakeBag v plain) = true
+makes_object (MakeHeap v plain) = true
 makes_object (New v class key) = true
 makes_object (StrSub v text at len) = true
 makes_object _ = false

@@ -20,6 +20,10 @@ use Rattle.cf_syntax.specs.declared.form.ArrayForm.{ArrayForm}
 use Rattle.cf_syntax.specs.declared.form.ArrayForm.TheVariants as arrays
 use Rattle.cf_syntax.specs.declared.form.DictForm.{DictForm}
 use Rattle.cf_syntax.specs.declared.form.DictForm.TheVariants as dicts
+use Rattle.cf_syntax.specs.declared.form.SetForm.{SetForm}
+use Rattle.cf_syntax.specs.declared.form.SetForm.TheVariants as sets
+use Rattle.cf_syntax.specs.declared.form.HeapForm.{HeapForm}
+use Rattle.cf_syntax.specs.declared.form.HeapForm.TheVariants as heaps
 use Rattle.cf_syntax.specs.declared.form.FieldForm.{FieldForm}
 use Rattle.cf_syntax.specs.declared.form.FieldForm.TheVariants as fields
 use Rattle.cf_syntax.specs.declared.form.Operand.{Operand}
@@ -28,7 +32,7 @@ use Rattle.cf_syntax.specs.declared.refusal.Refusal.{Refusal}
 use Rattle.cf_syntax.specs.declared.refusal.Reason.TheVariants.{Unread}
 use Rattle.cf_syntax.specs.declared.script.ClassLine.{ClassLine}
 use Rattle.cf_syntax.specs.declared.statement.Statement.{Statement}
-use Rattle.cf_syntax.specs.declared.statement.Statement.TheVariants.{MakeString, MakeMstring, MakeData, MakeMdata, MakeNumber, New, Retain, Release, Show, StrAppend, StrInsert, StrDelete, StrReplace, StrSub, DataAppend, DataReplace, DataDelete, NumAs, MakeArray, MakeDict, ArrAppend, ArrInsert, ArrSet, ArrRemove, ArrTake, DictAdd, DictSet, DictReplace, DictRemove, DictTake, FieldSet, FieldClear, FieldTake}
+use Rattle.cf_syntax.specs.declared.statement.Statement.TheVariants.{MakeString, MakeMstring, MakeData, MakeMdata, MakeNumber, New, Retain, Release, Show, StrAppend, StrInsert, StrDelete, StrReplace, StrSub, DataAppend, DataReplace, DataDelete, NumAs, MakeArray, MakeDict, ArrAppend, ArrInsert, ArrSet, ArrRemove, ArrTake, DictAdd, DictSet, DictReplace, DictRemove, DictTake, MakeSet, MakeBag, MakeHeap, SetAdd, SetSet, SetReplace, SetRemove, SetCount, SetTake, HeapAdd, HeapTake, HeapRemove, FieldSet, FieldClear, FieldTake}
 use Rattle.cf_syntax.specs.Words.{is_name, is_text, text_of}
 use Rattle.cf_syntax.specs.Numbers.{index_of, integer_of, bytes_of, kind_of}
 use Rattle.cf_ids.specs.declared.limits.TheConstants.{FIELDS, VARIABLES}
@@ -98,6 +102,19 @@ dict_operands dicts.Replace = Fixed ∷ Variable ∷ Variable ∷ Variable ∷ [
 dict_operands dicts.Remove = Fixed ∷ Variable ∷ Variable ∷ []
 dict_operands dicts.Take = Fixed ∷ Variable ∷ Variable ∷ Variable ∷ []
 
+abbrev pub set_classes : SetForm → List Operand
+set_classes sets.Add = Fixed ∷ Variable ∷ Variable ∷ []
+set_classes sets.Set = Fixed ∷ Variable ∷ Variable ∷ []
+set_classes sets.Replace = Fixed ∷ Variable ∷ Variable ∷ []
+set_classes sets.Remove = Fixed ∷ Variable ∷ Variable ∷ []
+set_classes sets.Count = Fixed ∷ Variable ∷ Variable ∷ []
+set_classes sets.Take = Fixed ∷ Variable ∷ Variable ∷ Variable ∷ []
+
+abbrev pub heap_classes : HeapForm → List Operand
+heap_classes heaps.Add = Fixed ∷ Variable ∷ Variable ∷ []
+heap_classes heaps.Take = Fixed ∷ Variable ∷ Variable ∷ []
+heap_classes heaps.Remove = Fixed ∷ Variable ∷ []
+
 -- the words of a form on a field, in order
 abbrev pub field_operands : FieldForm → List Operand
 field_operands fields.Set = Fixed ∷ Variable ∷ Index ∷ Variable ∷ []
@@ -113,6 +130,8 @@ operands_of (forms.Make collection) = Fixed ∷ Variable ∷ Fixed ∷ []
 operands_of (forms.MakePlain collection) = Fixed ∷ Variable ∷ Fixed ∷ Plain ∷ []
 operands_of (forms.Array form) = array_operands form
 operands_of (forms.Dict form) = dict_operands form
+operands_of (forms.Set form) = set_classes form
+operands_of (forms.Heap form) = heap_classes form
 operands_of (forms.Field form) = field_operands form
 
 -- a word that finds a form
@@ -150,6 +169,15 @@ first_words =
     ∷ form_word (codes "dict.replace") (forms.Dict dicts.Replace)
     ∷ form_word (codes "dict.remove") (forms.Dict dicts.Remove)
     ∷ form_word (codes "dict.take") (forms.Dict dicts.Take)
+    ∷ form_word (codes "set.add") (forms.Set sets.Add)
+    ∷ form_word (codes "set.set") (forms.Set sets.Set)
+    ∷ form_word (codes "set.replace") (forms.Set sets.Replace)
+    ∷ form_word (codes "set.remove") (forms.Set sets.Remove)
+    ∷ form_word (codes "set.count") (forms.Set sets.Count)
+    ∷ form_word (codes "set.take") (forms.Set sets.Take)
+    ∷ form_word (codes "heap.add") (forms.Heap heaps.Add)
+    ∷ form_word (codes "heap.take") (forms.Heap heaps.Take)
+    ∷ form_word (codes "heap.remove") (forms.Heap heaps.Remove)
     ∷ form_word (codes "field.set") (forms.Field fields.Set)
     ∷ form_word (codes "field.clear") (forms.Field fields.Clear)
     ∷ form_word (codes "field.take") (forms.Field fields.Take)
@@ -165,6 +193,9 @@ kinds =
     ∷ form_word (codes "number") (forms.Plain plains.MakeNumber)
     ∷ form_word (codes "array") (forms.Make collections.Array)
     ∷ form_word (codes "dict") (forms.Make collections.Dict)
+    ∷ form_word (codes "set") (forms.Make collections.Set)
+    ∷ form_word (codes "bag") (forms.Make collections.Bag)
+    ∷ form_word (codes "heap") (forms.Make collections.Heap)
     ∷ []
 
 -- the form that a word finds
@@ -319,6 +350,9 @@ plain_statement classes plains.NumAs v w ws = Ok (NumAs v (kind_at ws 2))
 abbrev pub make_statement : Collection → Bool → ℕ → Statement
 make_statement collections.Array plain v = MakeArray v plain
 make_statement collections.Dict plain v = MakeDict v plain
+make_statement collections.Set plain v = MakeSet v plain
+make_statement collections.Bag plain v = MakeBag v plain
+make_statement collections.Heap plain v = MakeHeap v plain
 
 -- the statement of a form on an array
 abbrev pub array_statement : ArrayForm → ℕ → ℕ → List (List ℕ) → Statement
@@ -336,6 +370,19 @@ dict_statement dicts.Replace v w x = DictReplace v w x
 dict_statement dicts.Remove v w x = DictRemove v w
 dict_statement dicts.Take v w x = DictTake v w x
 
+abbrev pub set_statement : SetForm → ℕ → ℕ → ℕ → Statement
+set_statement sets.Add v w x = SetAdd v w
+set_statement sets.Set v w x = SetSet v w
+set_statement sets.Replace v w x = SetReplace v w
+set_statement sets.Remove v w x = SetRemove v w
+set_statement sets.Count v w x = SetCount v w
+set_statement sets.Take v w x = SetTake v w x
+
+abbrev pub heap_statement : HeapForm → ℕ → ℕ → Statement
+heap_statement heaps.Add v w = HeapAdd v w
+heap_statement heaps.Take v w = HeapTake v w
+heap_statement heaps.Remove v w = HeapRemove v
+
 -- the statement of a form on a field
 abbrev pub field_statement : FieldForm → ℕ → ℕ → List (List ℕ) → Statement
 field_statement fields.Set v w ws = FieldSet v (index_at ws 2) w
@@ -351,6 +398,8 @@ statement_by classes (forms.Make collection) v w x ws = Ok (make_statement colle
 statement_by classes (forms.MakePlain collection) v w x ws = Ok (make_statement collection true v)
 statement_by classes (forms.Array form) v w x ws = Ok (array_statement form v w ws)
 statement_by classes (forms.Dict form) v w x ws = Ok (dict_statement form v w x)
+statement_by classes (forms.Set form) v w x ws = Ok (set_statement form v w x)
+statement_by classes (forms.Heap form) v w x ws = Ok (heap_statement form v w)
 statement_by classes (forms.Field form) v w x ws = Ok (field_statement form v w ws)
 
 -- the statement that the words of a line are, with the variables' names after it; a form has at most three variables

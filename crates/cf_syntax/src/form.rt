@@ -1,6 +1,6 @@
 //! The forms of statements, and what the words of each have to be.
 ghost use Rattle.std.specs.Prelude.{◌≡◌};
-ghost use Rattle.cf_syntax.specs.Table.{operands_of, text_operands, data_operands, plain_operands, array_operands, dict_operands, field_operands, on_words};
+ghost use Rattle.cf_syntax.specs.Table.{operands_of, text_operands, data_operands, plain_operands, array_operands, dict_operands, set_classes, heap_classes, field_operands, on_words};
 
 /// A form of statement that ends with a TEXT.
 #[derive(Clone, Copy)]
@@ -61,6 +61,12 @@ pub enum Collection {
     Array,
     /// `dict`
     Dict,
+    /// `set`
+    Set,
+    /// `bag`
+    Bag,
+    /// `heap`
+    Heap,
 }
 
 /// A form of statement that acts on an array.
@@ -93,6 +99,34 @@ pub enum DictForm {
     Take,
 }
 
+/// A form of statement that acts on a set or a bag.
+#[derive(Clone, Copy)]
+pub enum SetForm {
+    /// `set.add S X`
+    Add,
+    /// `set.set S X`
+    Set,
+    /// `set.replace S X`
+    Replace,
+    /// `set.remove S X`
+    Remove,
+    /// `set.count S X`
+    Count,
+    /// `set.take V S X`
+    Take,
+}
+
+/// A form of statement that acts on a heap.
+#[derive(Clone, Copy)]
+pub enum HeapForm {
+    /// `heap.add H X`
+    Add,
+    /// `heap.take V H`
+    Take,
+    /// `heap.remove H`
+    Remove,
+}
+
 /// A form of statement that acts on a field of an instance.
 #[derive(Clone, Copy)]
 pub enum FieldForm {
@@ -121,6 +155,10 @@ pub enum StatementForm {
     Array(ArrayForm),
     /// A form on dictionaries.
     Dict(DictForm),
+    /// A form on sets and bags.
+    Set(SetForm),
+    /// A form on heaps.
+    Heap(HeapForm),
     /// A form on the fields of an instance.
     Field(FieldForm),
 }
@@ -294,6 +332,37 @@ impl DictForm {
     }
 }
 
+impl SetForm {
+    fn classes(&self) -> &'static [Operand]
+        ensures { result.now ≡ set_classes self.now }
+    {
+        match self {
+            SetForm::Take => &[
+                Operand::Fixed,
+                Operand::Variable,
+                Operand::Variable,
+                Operand::Variable,
+            ],
+            _ => &[Operand::Fixed, Operand::Variable, Operand::Variable],
+        }
+    }
+}
+
+impl HeapForm {
+    fn classes(&self) -> &'static [Operand]
+        ensures { result.now ≡ heap_classes self.now }
+    {
+        match self {
+            HeapForm::Add | HeapForm::Take => &[
+                Operand::Fixed,
+                Operand::Variable,
+                Operand::Variable,
+            ],
+            HeapForm::Remove => &[Operand::Fixed, Operand::Variable],
+        }
+    }
+}
+
 impl FieldForm {
     fn classes(&self) -> &'static [Operand]
         ensures { result.now ≡ field_operands self.now }
@@ -334,6 +403,8 @@ impl StatementForm {
             ],
             StatementForm::Array(form) => form.classes(),
             StatementForm::Dict(form) => form.classes(),
+            StatementForm::Set(form) => form.classes(),
+            StatementForm::Heap(form) => form.classes(),
             StatementForm::Field(form) => form.classes(),
         }
     }

@@ -12,10 +12,10 @@ mod script;
 mod statement;
 
 pub use counts::Counts;
-pub use examples::{a_text_and_its_script, members_and_their_script};
+pub use examples::{a_text_and_its_script, heaps_and_their_script, members_and_their_script};
 pub use form::{
-    ArrayForm, Collection, DataForm, DictForm, FieldForm, Operand, PlainForm, StatementForm,
-    TextForm,
+    ArrayForm, Collection, DataForm, DictForm, FieldForm, HeapForm, Operand, PlainForm, SetForm,
+    StatementForm, TextForm,
 };
 pub use literal::{DataLiteral, TextLiteral};
 pub use place::Place;

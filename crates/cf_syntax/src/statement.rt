@@ -174,6 +174,66 @@ pub enum Statement {
         dictionary: VarId,
         key: VarId,
     },
+    /// `make V set` and `make V set plain`: a new set without members.
+    MakeSet {
+        variable: VarId,
+        plain: bool,
+    },
+    /// `make V bag` and `make V bag plain`: a new bag without members.
+    MakeBag {
+        variable: VarId,
+        plain: bool,
+    },
+    /// `make V heap` and `make V heap plain`: a new binary heap without elements.
+    MakeHeap {
+        variable: VarId,
+        plain: bool,
+    },
+    /// `set.add S X`: puts X after the last member of the set or bag S if none is equal; a bag counts it.
+    SetAdd {
+        variable: VarId,
+        element: VarId,
+    },
+    /// `set.set S X`: puts X in place of the member equal to it, or after the last one.
+    SetSet {
+        variable: VarId,
+        element: VarId,
+    },
+    /// `set.replace S X`: puts X in place of the member equal to it, if there is one.
+    SetReplace {
+        variable: VarId,
+        element: VarId,
+    },
+    /// `set.remove S X`: takes out the member equal to X; a bag counts one less, and takes out the last.
+    SetRemove {
+        variable: VarId,
+        element: VarId,
+    },
+    /// `set.count S X`: how many members equal to X there are.
+    SetCount {
+        variable: VarId,
+        element: VarId,
+    },
+    /// `set.take V S X`: binds V to the member equal to X, if there is one.
+    SetTake {
+        variable: VarId,
+        set: VarId,
+        element: VarId,
+    },
+    /// `heap.add H X`: puts X into the heap H.
+    HeapAdd {
+        variable: VarId,
+        element: VarId,
+    },
+    /// `heap.take V H`: binds V to the least element of H, of equal ones the earliest, if there is one.
+    HeapTake {
+        variable: VarId,
+        heap: VarId,
+    },
+    /// `heap.remove H`: takes out the least element, of equal ones the earliest.
+    HeapRemove {
+        variable: VarId,
+    },
     /// `field.set O INDEX X`: lets a field of the instance O be X.
     FieldSet {
         variable: VarId,
@@ -220,9 +280,14 @@ impl Statement {
             | Statement::New { variable, .. }
             | Statement::MakeArray { variable, .. }
             | Statement::MakeDict { variable, .. }
+            | Statement::MakeSet { variable, .. }
+            | Statement::MakeBag { variable, .. }
+            | Statement::MakeHeap { variable, .. }
             | Statement::StrSub { variable, .. }
             | Statement::ArrTake { variable, .. }
             | Statement::DictTake { variable, .. }
+            | Statement::SetTake { variable, .. }
+            | Statement::HeapTake { variable, .. }
             | Statement::FieldTake { variable, .. } => Ownership::Binds(*variable),
             Statement::Retain { variable } => Ownership::Retains(*variable),
             Statement::Release { variable } => Ownership::Releases(*variable),
@@ -249,10 +314,15 @@ impl Statement {
             | Statement::MakeNumber { .. }
             | Statement::New { .. }
             | Statement::MakeArray { .. }
-            | Statement::MakeDict { .. } => None,
+            | Statement::MakeDict { .. }
+            | Statement::MakeSet { .. }
+            | Statement::MakeBag { .. }
+            | Statement::MakeHeap { .. } => None,
             Statement::StrSub { text, .. } => Some(*text),
             Statement::ArrTake { array, .. } => Some(*array),
             Statement::DictTake { dictionary, .. } => Some(*dictionary),
+            Statement::SetTake { set, .. } => Some(*set),
+            Statement::HeapTake { heap, .. } => Some(*heap),
             Statement::FieldTake { instance, .. } => Some(*instance),
             Statement::Retain { variable }
             | Statement::Release { variable }
@@ -273,6 +343,13 @@ impl Statement {
             | Statement::DictSet { variable, .. }
             | Statement::DictReplace { variable, .. }
             | Statement::DictRemove { variable, .. }
+            | Statement::SetAdd { variable, .. }
+            | Statement::SetSet { variable, .. }
+            | Statement::SetReplace { variable, .. }
+            | Statement::SetRemove { variable, .. }
+            | Statement::SetCount { variable, .. }
+            | Statement::HeapAdd { variable, .. }
+            | Statement::HeapRemove { variable }
             | Statement::FieldSet { variable, .. }
             | Statement::FieldClear { variable, .. } => Some(*variable),
         }
@@ -287,6 +364,13 @@ impl Statement {
             Statement::ArrAppend { element, .. }
             | Statement::ArrInsert { element, .. }
             | Statement::ArrSet { element, .. }
+            | Statement::SetAdd { element, .. }
+            | Statement::SetSet { element, .. }
+            | Statement::SetReplace { element, .. }
+            | Statement::SetRemove { element, .. }
+            | Statement::SetCount { element, .. }
+            | Statement::SetTake { element, .. }
+            | Statement::HeapAdd { element, .. }
             | Statement::FieldSet { element, .. } => Some(*element),
             Statement::DictAdd { key, .. }
             | Statement::DictSet { key, .. }
@@ -330,6 +414,9 @@ impl Statement {
                 | Statement::MakeNumber { .. }
                 | Statement::MakeArray { .. }
                 | Statement::MakeDict { .. }
+                | Statement::MakeSet { .. }
+                | Statement::MakeBag { .. }
+                | Statement::MakeHeap { .. }
                 | Statement::New { .. }
                 | Statement::StrSub { .. }
         )

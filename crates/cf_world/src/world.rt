@@ -144,8 +144,15 @@ impl World {
         self.store.class(o)
     }
 
-    /// The references, each as often as there are, in any order. It takes time linear in the statements so far, the
-    /// references and the objects. `NoMemory` comes for want of memory alone.
+    /// Sorts the elements of each heap, after which `edges` finds each slot at once. It takes no memory.
+    pub fn sort(&mut self)
+        ensures { self.new ≡ self.old }
+    {
+        self.store.sort();
+    }
+
+    /// The references, each as often as there are, in any order. After `sort` it takes time linear in the statements
+    /// so far, the references and the objects. `NoMemory` comes for want of memory alone.
     pub fn edges(&self, alloc: Global) -> Result<Vec<Edge>, NoMemory>
         ensures { IfOk result (λ es. (p : Edge → Bool) → count_by p es.items ≡ count_by p (edges_of (state_of self.now).edges)) }
     {

@@ -26,3 +26,15 @@ returns-clause-array c = refl
 pub returns-clause-dictionary : goal.returns-clause-dictionary
 unfolding description_on_literals
 returns-clause-dictionary c = refl
+
+pub returns-clause-set : goal.returns-clause-set
+unfolding description_on_literals
+returns-clause-set c = refl
+
+pub returns-clause-bag : goal.returns-clause-bag
+unfolding description_on_literals
+returns-clause-bag c = refl
+
+pub returns-clause-heap : goal.returns-clause-heap
+unfolding description_on_literals
+returns-clause-heap c = refl

@@ -15,12 +15,12 @@ use Rattle.cf_types.specs.declared.cells.Cell.{Cell}
 use Rattle.cf_syntax.specs.declared.script.ClassLine.{ClassLine}
 use Rattle.cf_syntax.specs.declared.statement.Statement.{Statement}
 use Rattle.cf_syntax.specs.declared.statement.Statement.TheVariants as forms
-use Rattle.cf_syntax.specs.declared.statement.Ownership.{Ownership}
-use Rattle.cf_syntax.specs.declared.statement.Ownership.TheVariants.{Keeps, Binds, Retains, Releases}
-use Rattle.cf_syntax.specs.Forms.{ownership_of, makes_object}
+use Rattle.cf_syntax.specs.declared.mention.Ownership.{Ownership}
+use Rattle.cf_syntax.specs.declared.mention.Ownership.TheVariants.{Keeps, Binds, Retains, Releases}
+use Rattle.cf_syntax.specs.Mentions.{ownership_of, makes_object}
 use Rattle.cf_contents.specs.Contents.{Content, text_content, data_content, number_content, instance_content, array_content, dictionary_content, set_content, bag_content, heap_content, times, present, slots_in, size_of, instance_of}
 use Rattle.cf_contents.specs.Keys.{Numbered, number_of, class_line}
-use Rattle.cf_contents.specs.Deeds.{Origin, nowhere, fresh, there, Change, unchanged, Deed, answering, creating, changing, binding, with_object, with_key, text_in, mutable_text_in, mutable_data_in, number_in, fields_in, elements_in, pairs_in, heap_in, members_in, with_text, with_mutable_text, with_mutable_data, with_number, with_fields, with_elements, with_pair, with_member, with_heap, unless_split, within, text_edit, data_edit, places_edit, as_kind, fresh_if, putting, adding_pair, setting_pair, replacing_pair, removing_pair, adding_member, setting_member, replacing_member, removing_member, counting_member, object_in_row, removing_least, add_member, put_member, remove_member, deed_of}
+use Rattle.cf_contents.specs.Deeds.{Origin, nowhere, fresh, there, Change, unchanged, Deed, answering, creating, changing, binding, with_object, with_key, text_in, mutable_text_in, mutable_data_in, number_in, fields_in, elements_in, pairs_in, heap_in, members_in, with_text, with_mutable_text, with_mutable_data, with_number, with_fields, with_elements, with_pair, with_member, with_heap, unless_split, within, text_edit, data_edit, places_edit, as_kind, fresh_if, putting, adding_pair, setting_pair, replacing_pair, removing_pair, adding_member, setting_member, replacing_member, removing_member, counting_member, object_in_row, removing_least, add_member, put_member, deed_of}
 use Rattle.cf_contents.proofs.SlotLaws.{present-empty, MakesEmpty, named_in}
 
 abbrev pub ChangesFor : Ownership → Change → Type 0
@@ -392,3 +392,4 @@ form_fits classes (forms.FieldSet v at x) a b c =
 form_fits classes (forms.FieldClear v at) a b c =
     by_fields Keeps false b c a _ (λ fields. changes_within b c (nat_lt at (length fields)) at 1 _ (none b c))
 form_fits classes (forms.FieldTake v instance at) a b c = by_fields (Binds v) false b c a _ (λ fields. takes (Binds v) b c _)
+form_fits classes _ a b c = answers _ _ b c _ tt

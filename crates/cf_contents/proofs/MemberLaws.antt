@@ -1,13 +1,13 @@
 -- Members, rows of a bag and rows of a heap, of which one is added, put in place of its equal or removed: what becomes
 -- of their objects, and by how much they grow.
-use Rattle.std.proofs.Common.{arith, ◌≡◌, ℕ, zero, suc, ◌+◌, ◌-◌, ◌≤◌, Bool, true, false, cond, eqb, List, [], ◌∷◌, ◌++◌, length, Option, Some, None, refl, sym, ap, ◌∙◌, length-append}
+use Rattle.std.proofs.Common.{arith, ◌≡◌, ℕ, suc, ◌+◌, ◌-◌, ◌≤◌, Bool, true, false, cond, eqb, List, [], ◌∷◌, ◌++◌, length, Option, Some, None, refl, ap, length-append}
 use Rattle.std.specs.Prelude.{max, ◌||◌, find, is_some}
 use Rattle.std.specs.List.{list_any}
 use Rattle.std.specs.Map.{lookup, lookup_entry, lookup_key, remove_entry, set_key, set_value}
 use Rattle.std.specs.Option.{option_map, option_to_list}
 use Rattle.std.specs.Ordering.{is_gt}
 use Rattle.std.specs.declared.cmp.Ordering.{Ordering}
-use Rattle.cf_basichash.specs.Members.{members_replaced, members_set, members_with, members_without, rows_set, rows_with_less, rows_without}
+use Rattle.cf_basichash.specs.Members.{members_replaced, members_set, members_without, rows_set, rows_with_less, rows_without}
 use Rattle.cf_callbacks.specs.Ranking.{by_rank, least, none_less, insert_by, without_least}
 use Rattle.cf_types.specs.declared.cells.Cell.{Cell}
 use Rattle.cf_contents.specs.Contents.{times, ids_of, row_ids, greatest}

@@ -6,7 +6,7 @@ use Rattle.std.specs.Map.{lookup, set_value, remove_entry}
 use Rattle.std.proofs.lemmas.List.{length-take, length-drop}
 use Rattle.std.proofs.lemmas.Map.{length-set_value}
 use Rattle.cf_types.specs.declared.cells.Cell.{Cell}
-use Rattle.cf_contents.specs.Contents.{Content, text_content, data_content, number_content, instance_content, array_content, dictionary_content, set_content, bag_content, heap_content, Object, order_of, size_of, size_at}
+use Rattle.cf_contents.specs.Contents.{Content, text_content, data_content, instance_content, array_content, dictionary_content, set_content, bag_content, heap_content, Object, order_of, size_of, size_at}
 use Rattle.cf_contents.specs.Keys.{equal_to}
 use Rattle.cf_contents.specs.Deeds.{Splice, Change, unchanged, in_text, in_data, in_places, put_pair, remove_pair, add_member, put_member, remove_member, remove_least, elements, text_after, data_after, places_after, put_after, removed_after, added_after, put_member_after, removed_member_after, least_after, content_after, with_change, objects_after}
 use Rattle.cf_contents.proofs.SlotLaws.{named_in}

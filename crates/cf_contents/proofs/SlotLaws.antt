@@ -1,14 +1,14 @@
 -- What a change takes in and gives out is what it changes in the slots.
 use Rattle.std.proofs.Common.{◌≡◌, ℕ, zero, suc, ◌+◌, ◌≤◌, Bool, true, false, cond, List, [], ◌∷◌, ◌++◌, take, drop, replicate, Option, Some, None, refl, sym, ap, ◌∙◌, arith}
-use Rattle.std.specs.Prelude.{slice_get, find, is_some}
+use Rattle.std.specs.Prelude.{slice_get, is_some}
 use Rattle.std.specs.List.{list_any}
-use Rattle.std.specs.Map.{lookup, lookup_entry, lookup_key, remove_entry, set_value}
+use Rattle.std.specs.Map.{lookup, lookup_entry, remove_entry, set_value}
 use Rattle.std.specs.Option.{option_to_list}
 use Rattle.std.proofs.lemmas.List.{take-append-drop, drop-drop}
 use Rattle.cf_types.specs.declared.cells.Cell.{Cell}
-use Rattle.cf_contents.specs.Contents.{Content, text_content, data_content, number_content, instance_content, array_content, dictionary_content, set_content, bag_content, heap_content, Object, times, present, flat, ids_of, row_ids, order_of, unless_plain, slots_in, slots_at}
+use Rattle.cf_contents.specs.Contents.{Content, text_content, data_content, number_content, instance_content, array_content, dictionary_content, set_content, bag_content, heap_content, Object, times, present, flat, row_ids, order_of, unless_plain, slots_in, slots_at}
 use Rattle.cf_contents.specs.Keys.{equal_to}
-use Rattle.cf_contents.specs.Deeds.{Origin, nowhere, fresh, there, Splice, Change, unchanged, in_text, in_data, in_places, put_pair, remove_pair, add_member, put_member, remove_member, remove_least, splice_of, splice_out, elements, coming_by, going_by, text_after, data_after, places_after, entering, leaving, put_after, put_entering, put_leaving, removed_after, removed_leaving, unless_found, added_after, added_entering, put_member_after, put_member_entering, put_member_leaving, if_last, removed_member_after, removed_member_leaving, least_after, least_leaving, content_after, coming_in, going_out, taken_in, given_out, with_change}
+use Rattle.cf_contents.specs.Deeds.{Origin, nowhere, fresh, there, Splice, Change, unchanged, in_text, in_data, in_places, put_pair, remove_pair, add_member, put_member, remove_member, remove_least, splice_of, splice_out, elements, coming_by, text_after, data_after, places_after, entering, leaving, put_after, put_entering, put_leaving, removed_after, removed_leaving, unless_found, added_after, added_entering, put_member_after, put_member_entering, put_member_leaving, removed_member_after, removed_member_leaving, least_after, least_leaving, content_after, coming_in, going_out, taken_in, given_out, with_change}
 use Rattle.cf_callbacks.specs.Ranking.{by_rank, least, without_least}
 use Rattle.cf_contents.proofs.MemberLaws.{times-rows, key_most, put_members, put_rows, removed_members, removed_rows, added_members, added_rows, sorted_rows, least_rows}
 

@@ -1,6 +1,6 @@
 -- Each form as data: what it answers, what it binds, and what it does to contents, by the objects that it uses. All
 -- that a step does comes from this data, so a further form adds a line. This project's own, after the reference.
-use Rattle.std.specs.Prelude.{ℕ, zero, suc, ◌+◌, ◌-◌, ◌==◌, pos, Bool, true, false, List, [], ◌∷◌, ◌++◌, length, find, take, drop, Option, Some, None, is_some, slice_get, nat_lt, nat_le, if◌then◌else◌}
+use Rattle.std.specs.Prelude.{ℕ, zero, suc, ◌+◌, ◌==◌, pos, Bool, true, false, List, [], ◌∷◌, ◌++◌, length, find, take, drop, Option, Some, None, is_some, slice_get, nat_lt, nat_le, if◌then◌else◌}
 use Rattle.std.specs.List.{list_any, splice}
 use Rattle.std.specs.Map.{lookup, lookup_entry, lookup_key, remove_entry, set_value}
 use Rattle.std.specs.Option.{option_map, option_to_list}
@@ -288,7 +288,8 @@ abbrev pub in_field : Option (Option ℕ) → Option ℕ
 in_field None = None
 in_field (Some field) = field
 
--- the deed of a statement, by the classes of the script and by the objects that it uses
+-- the deed of a statement, by the classes of the script and by the objects that it uses. The forms of run loops and of
+-- notices, of which no script that the reader takes has one yet, do nothing here
 abbrev pub deed_of : List ClassLine → Statement → (first second third : Option Numbered) → Deed
 deed_of classes (forms.MakeString v text) a b c = creating string_class (text_content false text)
 deed_of classes (forms.MakeMstring v text) a b c = creating string_class (text_content true text)
@@ -352,6 +353,7 @@ deed_of classes (forms.FieldClear v at) a b c =
     with_fields a (λ fields. within (nat_lt at (length fields)) (places_edit at 1 (None ∷ [])))
 deed_of classes (forms.FieldTake v instance at) a b c =
     with_fields a (λ fields. binding (in_field (slice_get fields at)))
+deed_of classes _ a b c = skipping
 
 -- one of the objects that are used, by its number among them
 abbrev pub used_at : List (Option ℕ) → ℕ → Option ℕ

@@ -8,9 +8,9 @@ use Rattle.cf_graph.specs.Operations.{Operation, add, move, remove, run, without
 use Rattle.cf_graph.proofs.Counts.{weigh-without}
 use Rattle.cf_syntax.specs.declared.script.Script.{Script}
 use Rattle.cf_syntax.specs.declared.statement.Statement.{Statement}
-use Rattle.cf_syntax.specs.declared.statement.Ownership.{Ownership}
-use Rattle.cf_syntax.specs.declared.statement.Ownership.TheVariants.{Keeps, Binds, Retains, Releases}
-use Rattle.cf_syntax.specs.Forms.{ownership_of, read_by}
+use Rattle.cf_syntax.specs.declared.mention.Ownership.{Ownership}
+use Rattle.cf_syntax.specs.declared.mention.Ownership.TheVariants.{Keeps, Binds, Retains, Releases}
+use Rattle.cf_syntax.specs.Mentions.{ownership_of}
 use Rattle.cf_syntax.specs.Owned.{Owned}
 use Rattle.cf_contents.specs.Contents.{times}
 use Rattle.cf_contents.specs.Deeds.{Origin, Change, first_of, object_of, deed_at, taken_in, given_out}
@@ -94,7 +94,7 @@ frame_counted s st (Some x) own h e uses =
     let may = subst (MayUseAll st 0 (named_of (next_of st.frame (Some x)))) (used_of-action_of x site) uses in
     let body = named_of (next_of st.frame (Some x)) in
     touch_counted (ownership_of x) deed.answer deed.origin (first_of used) deed.change st
-    (first_used (ownership_of x) (read_by x) st.frame.bindings) (touches_there s st x own h e)
+    (first_used x st.frame.bindings) (touches_there s st x own h e)
     (can_used (first_of used) deed.change st h.kept (live_if st 0 body used may) (λ o some. taken_live s.classes x st 0 body used may o (object_of st.objects (first_of used)) some))
 
 owed_counted : (o : ℕ) (rest : List Work) (s : Script) (st : State) → IsSound s st → st.frame.work ≡ release_of o ∷ rest → IsCounted st (owed_step 0 o st)

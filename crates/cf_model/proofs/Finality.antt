@@ -11,9 +11,9 @@ use Rattle.cf_ids.specs.declared.answer.Answer.TheVariants as answers
 use Rattle.cf_syntax.specs.declared.script.Script.{Script}
 use Rattle.cf_syntax.specs.declared.script.ClassLine.{ClassLine}
 use Rattle.cf_syntax.specs.declared.statement.Statement.{Statement}
-use Rattle.cf_syntax.specs.declared.statement.Ownership.{Ownership}
-use Rattle.cf_syntax.specs.declared.statement.Ownership.TheVariants.{Keeps, Binds, Retains, Releases}
-use Rattle.cf_syntax.specs.Forms.{ownership_of}
+use Rattle.cf_syntax.specs.declared.mention.Ownership.{Ownership}
+use Rattle.cf_syntax.specs.declared.mention.Ownership.TheVariants.{Keeps, Binds, Retains, Releases}
+use Rattle.cf_syntax.specs.Mentions.{ownership_of}
 use Rattle.cf_contents.specs.Contents.{Object}
 use Rattle.cf_contents.specs.Deeds.{Origin, nowhere, fresh, there, Change, first_of, deed_at}
 use Rattle.cf_contents.proofs.FormLaws.{NamesNone, form_fits}

@@ -9,11 +9,11 @@ use Rattle.cf_graph.specs.Operations.{run}
 use Rattle.cf_graph.proofs.Same.{same-equal, same-refl}
 use Rattle.cf_graph.proofs.Counts.{weigh-without}
 use Rattle.cf_syntax.specs.declared.statement.Statement.{Statement}
-use Rattle.cf_syntax.specs.declared.statement.Ownership.{Ownership}
-use Rattle.cf_syntax.specs.declared.statement.Ownership.TheVariants.{Keeps, Binds, Retains, Releases}
-use Rattle.cf_syntax.specs.Forms.{ownership_of, subject_of}
-use Rattle.cf_syntax.specs.Owned.{one_of, bound_by, given_by, released_by, total, bound, given, released, may_use, may_use_all, may_bind}
-use Rattle.cf_syntax.proofs.OwnedLaws.{total_push}
+use Rattle.cf_syntax.specs.declared.mention.Ownership.{Ownership}
+use Rattle.cf_syntax.specs.declared.mention.Ownership.TheVariants.{Keeps, Binds, Retains, Releases}
+use Rattle.cf_syntax.specs.Mentions.{ownership_of}
+use Rattle.cf_syntax.specs.Owned.{one_of, bound_by, given_by, released_by}
+use Rattle.cf_model.proofs.Fitting.{total, bound, given, released, may_use, may_use_all, may_bind, subject_of, total_push}
 use Rattle.cf_model.specs.State.{Binding, look}
 use Rattle.cf_model.specs.Steps.{reference, operations_of, bindings_by}
 

@@ -9,8 +9,8 @@ use Rattle.cf_graph.specs.Holders.{Holder, owed, slot, code_of}
 use Rattle.cf_graph.specs.Edges.{Reference, weigh, one, counted}
 use Rattle.cf_graph.specs.Operations.{add, without, run, CanRun}
 use Rattle.cf_graph.proofs.Counts.{weigh-without}
-use Rattle.cf_syntax.specs.declared.statement.Ownership.{Ownership}
-use Rattle.cf_syntax.specs.declared.statement.Ownership.TheVariants.{Keeps, Binds, Retains, Releases}
+use Rattle.cf_syntax.specs.declared.mention.Ownership.{Ownership}
+use Rattle.cf_syntax.specs.declared.mention.Ownership.TheVariants.{Keeps, Binds, Retains, Releases}
 use Rattle.cf_contents.specs.Contents.{Object, times, slots_at}
 use Rattle.cf_contents.specs.Deeds.{Origin, nowhere, fresh, there, Change, object_of, taken_in, given_out, with_change}
 use Rattle.cf_contents.proofs.ContentLaws.{length-with_change}

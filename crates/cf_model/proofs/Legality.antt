@@ -11,10 +11,11 @@ use Rattle.cf_graph.proofs.Counts.{weigh-le}
 use Rattle.cf_syntax.specs.declared.script.Script.{Script}
 use Rattle.cf_syntax.specs.declared.statement.Statement.{Statement}
 use Rattle.cf_syntax.specs.declared.statement.Statement.TheVariants as forms
-use Rattle.cf_syntax.specs.declared.statement.Ownership.{Ownership}
-use Rattle.cf_syntax.specs.declared.statement.Ownership.TheVariants.{Keeps, Binds, Retains, Releases}
-use Rattle.cf_syntax.specs.Forms.{ownership_of, subject_of, read_by, used_by}
-use Rattle.cf_syntax.specs.Owned.{bound, may_use, may_use_all, may_bind, is_fit, Owned}
+use Rattle.cf_syntax.specs.declared.mention.Ownership.{Ownership}
+use Rattle.cf_syntax.specs.declared.mention.Ownership.TheVariants.{Keeps, Binds, Retains, Releases}
+use Rattle.cf_syntax.specs.Mentions.{ownership_of, used_by}
+use Rattle.cf_syntax.specs.Owned.{Owned}
+use Rattle.cf_model.proofs.Fitting.{bound, may_use, may_use_all, may_bind, is_fit, subject_of, use_subject, owned_setup}
 use Rattle.cf_model.specs.State.{State, Binding, Work, release_of, slots_of, look, times, left_of, degree, is_live}
 use Rattle.cf_model.specs.Actions.{Site, action_of}
 use Rattle.cf_model.specs.Steps.{Step, reference, owed_reference, slot_reference, step_for, state_after, statement_step, done_step, step_answer, effect, answer_to, makes}
@@ -28,7 +29,7 @@ use Rattle.cf_model.proofs.FrameSteps.{frame_step, step_for-demanded, used_of-ac
 use Rattle.cf_model.proofs.Kept.{times_own}
 use Rattle.cf_model.proofs.Along.{live_parts}
 use Rattle.cf_model.proofs.Holding.{Holds, looked, may_use_parts}
-use Rattle.cf_model.proofs.Soundness.{fit_at, fit_parts, IsSound, none_leads, owned_blocks, one_leads, use_first, frame_statement}
+use Rattle.cf_model.proofs.Soundness.{fit_at, fit_parts, IsSound, none_leads, one_leads, frame_statement}
 use Rattle.cf_model.proofs.Working.{owed_in}
 
 live_from : (st : State) (o : ℕ) → IsBalanced st → 0 < degree o st.edges → is_live st o ≡ true
@@ -86,7 +87,7 @@ uses_by : (s : Script) (st : State) (o : Option Statement) → Owned s → IsSou
 uses_by s st None own h e = tt
 uses_by s st (Some x) own h e =
     let earlier = take st.frame.number (setup s) in
-    let fit : is_fit earlier x ≡ true = fit_at [] (setup s) st.frame.number x (owned_blocks s.blocks own) e in
+    let fit : is_fit earlier x ≡ true = fit_at [] (setup s) st.frame.number x (owned_setup s own) e in
     let parts = fit_parts earlier x fit in
     rw (used_of-action_of x (site_in st.frame x), named_of-action_of x (site_in st.frame x)) (use_objects s st (used_by x) (3 - length (used_by x)) h parts.1)
 
@@ -185,9 +186,9 @@ touches_by s st (Releases v) h used = (touched_if s st v (look v st.frame.bindin
 pub touches_there : (s : Script) (st : State) (x : Statement) → Owned s → IsSound s st → slice_get (setup s) st.frame.number ≡ Some x → TouchesThere st (ownership_of x) (looked (ownership_of x) st.frame.bindings)
 touches_there s st x own h e =
     let earlier = take st.frame.number (setup s) in
-    let fit : is_fit earlier x ≡ true = fit_at [] (setup s) st.frame.number x (owned_blocks s.blocks own) e in
+    let fit : is_fit earlier x ≡ true = fit_at [] (setup s) st.frame.number x (owned_setup s own) e in
     let parts = fit_parts earlier x fit in
-    touches_by s st (ownership_of x) h (use_first earlier (subject_of (ownership_of x)) (read_by x) parts.1)
+    touches_by s st (ownership_of x) h (use_subject earlier x parts.1)
 
 -- a variable that is to be bound is not bound
 abbrev pub BindsNew : Ownership → List Binding → Type 0
@@ -205,7 +206,7 @@ binds_by earlier (Releases v) bs es fit h = tt
 pub binds_new : (s : Script) (st : State) (x : Statement) → Owned s → IsSound s st → slice_get (setup s) st.frame.number ≡ Some x → BindsNew (ownership_of x) st.frame.bindings
 binds_new s st x own h e =
     let earlier = take st.frame.number (setup s) in
-    let fit : is_fit earlier x ≡ true = fit_at [] (setup s) st.frame.number x (owned_blocks s.blocks own) e in
+    let fit : is_fit earlier x ≡ true = fit_at [] (setup s) st.frame.number x (owned_setup s own) e in
     binds_by earlier (ownership_of x) st.frame.bindings st.edges (fit_parts earlier x fit).0 h.holds
 
 -- nothing leads to the object that is made next

@@ -3,6 +3,7 @@ pub mod Growth
 pub mod Balance
 pub mod Slots
 pub mod Demands
+pub mod Fitting
 pub mod FrameSteps
 pub mod Kept
 pub mod Keeping

@@ -3,9 +3,9 @@ use Rattle.std.proofs.Common.{◌≡◌, ℕ, ◌+◌, ◌⊎◌, Bool, true, fa
 use Rattle.cf_ids.specs.declared.answer.Answer.{Answer}
 use Rattle.cf_syntax.specs.declared.script.Script.{Script}
 use Rattle.cf_syntax.specs.declared.statement.Statement.{Statement}
-use Rattle.cf_syntax.specs.declared.statement.Ownership.{Ownership}
-use Rattle.cf_syntax.specs.declared.statement.Ownership.TheVariants.{Keeps, Binds, Retains, Releases}
-use Rattle.cf_syntax.specs.Forms.{ownership_of}
+use Rattle.cf_syntax.specs.declared.mention.Ownership.{Ownership}
+use Rattle.cf_syntax.specs.declared.mention.Ownership.TheVariants.{Keeps, Binds, Retains, Releases}
+use Rattle.cf_syntax.specs.Mentions.{ownership_of}
 use Rattle.cf_syntax.specs.Owned.{Owned}
 use Rattle.cf_contents.specs.Contents.{Object}
 use Rattle.cf_contents.specs.Deeds.{Origin, nowhere, fresh, there, Change, first_of, deed_at}

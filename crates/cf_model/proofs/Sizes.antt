@@ -4,9 +4,9 @@ use Rattle.std.proofs.lemmas.List.{append-nil}
 use Rattle.cf_ids.specs.declared.answer.Answer.{Answer}
 use Rattle.cf_syntax.specs.declared.script.Script.{Script}
 use Rattle.cf_syntax.specs.declared.statement.Statement.{Statement}
-use Rattle.cf_syntax.specs.declared.statement.Ownership.{Ownership}
-use Rattle.cf_syntax.specs.declared.statement.Ownership.TheVariants.{Keeps, Binds, Retains, Releases}
-use Rattle.cf_syntax.specs.Forms.{ownership_of, makes_object}
+use Rattle.cf_syntax.specs.declared.mention.Ownership.{Ownership}
+use Rattle.cf_syntax.specs.declared.mention.Ownership.TheVariants.{Keeps, Binds, Retains, Releases}
+use Rattle.cf_syntax.specs.Mentions.{ownership_of, makes_object}
 use Rattle.cf_contents.specs.Contents.{Object, size_at}
 use Rattle.cf_contents.specs.Deeds.{Origin, nowhere, fresh, there, Change, first_of, deed_at}
 use Rattle.cf_contents.proofs.ContentLaws.{length-objects_after}

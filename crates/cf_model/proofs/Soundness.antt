@@ -1,7 +1,7 @@
 -- Along the legal journals of an owned script all is kept, each variable holds what it owns, and work is in order.
 use Rattle.std.proofs.Common.{◌≡◌, ℕ, zero, suc, ◌+◌, ◌<◌, ◌≤◌, Bool, true, false, ◌&&◌, List, [], ◌∷◌, ◌++◌, take, map, Option, Some, None, eqb, ltb, refl, sym, ap, ◌∙◌, subst, arith, inl, inr, append_assoc, append-nil}
 use Rattle.std.specs.Prelude.{slice_get}
-use Rattle.std.proofs.lemmas.Bool.{and_parts, and_from, eq-eqb, ltb-true}
+use Rattle.std.proofs.lemmas.Bool.{and_parts, eq-eqb, ltb-true}
 use Rattle.std.proofs.lemmas.Bool.Decides.{eqb_tells, nat_tests}
 use Rattle.cf_ids.specs.declared.answer.Answer.{Answer}
 use Rattle.cf_ids.specs.declared.answer.Answer.TheVariants as answers
@@ -12,11 +12,12 @@ use Rattle.cf_graph.proofs.Same.{same-equal}
 use Rattle.cf_syntax.specs.declared.script.Script.{Script}
 use Rattle.cf_syntax.specs.declared.script.Block.{Block}
 use Rattle.cf_syntax.specs.declared.statement.Statement.{Statement}
-use Rattle.cf_syntax.specs.declared.statement.Ownership.{Ownership}
-use Rattle.cf_syntax.specs.declared.statement.Ownership.TheVariants.{Keeps, Binds, Retains, Releases}
-use Rattle.cf_syntax.specs.Forms.{ownership_of, subject_of, read_by, used_by, is_known, pad}
-use Rattle.cf_syntax.specs.Owned.{bound, given, released, given_by, released_by, may_use, may_use_all, may_bind, is_fit, are_fit, blocks_fit, Owned}
-use Rattle.cf_syntax.proofs.OwnedLaws.{total_push}
+use Rattle.cf_syntax.specs.declared.mention.Ownership.{Ownership}
+use Rattle.cf_syntax.specs.declared.mention.Ownership.TheVariants.{Keeps, Binds, Retains, Releases}
+use Rattle.cf_syntax.specs.declared.mention.Mention.{Mention}
+use Rattle.cf_syntax.specs.Mentions.{mentions_of, ownership_of, used_by, bound_in, pad}
+use Rattle.cf_syntax.specs.Owned.{given_by, released_by, Owned}
+use Rattle.cf_model.proofs.Fitting.{bound, given, released, may_use, may_use_all, may_bind, is_fit, are_fit, subject_of, total_push, Owns, retains, releases, by_words, owns, bound_takes, use_subject, owned_setup}
 use Rattle.cf_contents.specs.Contents.{times}
 use Rattle.cf_contents.specs.Deeds.{Origin, Change, first_of, object_of, deed_at, taken_in, given_out}
 use Rattle.cf_contents.proofs.SlotLaws.{MakesEmpty}
@@ -59,8 +60,7 @@ fit_at earlier (y ∷ xs) (suc n) x h e =
 -- what is fit touches and uses what it may
 pub fit_parts : (earlier : List Statement) (x : Statement) → is_fit earlier x ≡ true → (may_bind earlier (ownership_of x) ≡ true) × (may_use_all earlier (used_by x) ≡ true)
 fit_parts earlier x h =
-    let p = and_parts (may_bind earlier (ownership_of x) && may_use_all earlier (used_by x)) (is_known x) h in
-    and_parts (may_bind earlier (ownership_of x)) (may_use_all earlier (used_by x)) p.0
+    and_parts (may_bind earlier (ownership_of x)) (may_use_all earlier (used_by x)) h
 
 -- ---- references of variables
 
@@ -89,10 +89,6 @@ pub record IsSound (s : Script) (st : State) : Type 0 where
   pub worked : IsWorked st
   pub others : (r : Reference) → IsForeign r.holder → weigh (one r) st.edges ≡ 0
 
-pub owned_blocks : (bs : List Block) → blocks_fit bs ≡ true → are_fit [] (statements_in (slice_get bs 0)) ≡ true
-owned_blocks [] h = refl
-owned_blocks (b ∷ bs) h = (and_parts (are_fit [] b.statements) (blocks_fit bs) h).0
-
 pub setup_statement : (bs : List Block) (n : ℕ) → statement_at (slice_get bs 0) n ≡ slice_get (statements_in (slice_get bs 0)) n
 setup_statement [] n = refl
 setup_statement (b ∷ bs) n = refl
@@ -112,18 +108,17 @@ TakesFirst (Binds v) bs used = Unit {0}
 TakesFirst (Retains v) bs used = used ≡ look v bs
 TakesFirst (Releases v) bs used = used ≡ look v bs
 
--- the first variable that is used is that of an ownership that uses one
-pub first_used : (ownership : Ownership) (read : List ℕ) (bs : List Binding) → TakesFirst ownership bs (first_of (map (object_at bs) (pad (subject_of ownership ++ read))))
-first_used Keeps read bs = tt
-first_used (Binds v) read bs = tt
-first_used (Retains v) read bs = refl
-first_used (Releases v) read bs = refl
+takes_bound : (ms : List (Option Mention)) (bs : List Binding) (used : Option ℕ) → TakesFirst (bound_in ms) bs used
+takes_bound ms bs used = bound_takes ms (λ ownership. TakesFirst ownership bs used) tt (λ v. tt)
 
-pub use_first : (earlier : List Statement) (vs ws : List ℕ) → may_use_all earlier (vs ++ ws) ≡ true → may_use_all earlier vs ≡ true
-use_first earlier [] ws h = refl
-use_first earlier (v ∷ vs) ws h =
-    let p = and_parts (may_use earlier v) (may_use_all earlier (vs ++ ws)) h in
-    and_from (may_use earlier v) (may_use_all earlier vs) p.0 (use_first earlier vs ws p.1)
+takes_first : (x : Statement) (bs : List Binding) → Owns x → TakesFirst (ownership_of x) bs (first_of (map (object_at bs) (pad (used_by x))))
+takes_first x bs (retains v o u) = rw (o, u) refl
+takes_first x bs (releases v o u) = rw (o, u) refl
+takes_first x bs (by_words o) = rw o (takes_bound (mentions_of x) bs (first_of (used_objects bs x)))
+
+-- the first variable that is used is that of an ownership that uses one
+pub first_used : (x : Statement) (bs : List Binding) → TakesFirst (ownership_of x) bs (first_of (used_objects bs x))
+first_used x bs = takes_first x bs (owns x)
 
 pub frame_statement : (s : Script) (st : State) → IsSound s st → statement_in s st.frame.block st.frame.number ≡ slice_get (setup s) st.frame.number
 frame_statement s st h = ap (λ (b : ℕ). statement_in s b st.frame.number) h.block ∙ setup_statement s.blocks st.frame.number
@@ -174,13 +169,13 @@ owns_all earlier xs zero v fit h = rw (append-nil earlier) h
 owns_all earlier [] (suc n) v fit h = rw (append-nil earlier) h
 owns_all earlier (x ∷ xs) (suc n) v fit h =
     let p = and_parts (is_fit earlier x) (are_fit (earlier ++ x ∷ []) xs) fit in
-    let used = use_first earlier (subject_of (ownership_of x)) (read_by x) (fit_parts earlier x p.0).1 in
+    let used = use_subject earlier x (fit_parts earlier x p.0).1 in
     let more : released v (earlier ++ x ∷ []) ≤ given v (earlier ++ x ∷ []) =
     rw (total_push (released_by v) earlier x, total_push (given_by v) earlier x) (owns_touch earlier v (ownership_of x) used h) in
     rw (← append_assoc earlier (x ∷ []) (take n xs)) (owns_all (earlier ++ x ∷ []) xs n v p.1 more)
 
 pub setup_owns : (s : Script) → Owned s → (n v : ℕ) → released v (take n (setup s)) ≤ given v (take n (setup s))
-setup_owns s own n v = owns_all [] (setup s) n v (owned_blocks s.blocks own) (omega arith)
+setup_owns s own n v = owns_all [] (setup s) n v (owned_setup s own) (omega arith)
 
 -- the operations of a change can be done
 pub can_used : (used : Option ℕ) (change : Change) (st : State) → IsKept st → IsLiveIf st used → ((o : ℕ) → 0 < times o (taken_in (object_of st.objects used) change) → IsLive st o) → (b : ℕ) → used ≡ Some b → CanRun (operations_in 0 b (slice_get st.objects b) change) st.edges
@@ -219,11 +214,11 @@ statement_sound s st x body own h e uses =
     let live = live_if st 0 body used uses in
     let enters = λ (o : ℕ) (some : 0 < times o (taken_in (object_of st.objects (first_of used)) change)). taken_live s.classes x st 0 body used uses o (object_of st.objects (first_of used)) some in
     let earlier = take st.frame.number (setup s) in
-    let fit : is_fit earlier x ≡ true = fit_at [] (setup s) st.frame.number x (owned_blocks s.blocks own) e in
+    let fit : is_fit earlier x ≡ true = fit_at [] (setup s) st.frame.number x (owned_setup s own) e in
     let parts = fit_parts earlier x fit in
-    let holds = touch_holds x earlier st.frame.bindings st.edges h.holds (ownership_of x) (found st deed.origin) refl parts.0 (use_first earlier (subject_of (ownership_of x)) (read_by x) parts.1) in
+    let holds = touch_holds x earlier st.frame.bindings st.edges h.holds (ownership_of x) (found st deed.origin) refl parts.0 (use_subject earlier x parts.1) in
     let can = can_used (first_of used) change st h.kept live enters in
-    let both = touch_sound (ownership_of x) deed.answer deed.origin (first_of used) change st (earlier ++ x ∷ []) h.worked (form_fits s.classes x _ _ _).makes (first_used (ownership_of x) (read_by x) st.frame.bindings) (λ b q. live_used st (first_of used) b live q) can holds in
+    let both = touch_sound (ownership_of x) deed.answer deed.origin (first_of used) change st (earlier ++ x ∷ []) h.worked (form_fits s.classes x _ _ _).makes (first_used x st.frame.bindings) (λ b q. live_used st (first_of used) b live q) can holds in
     record {
       block = h.block;
       holds = rw (step_number (ownership_of x) deed.answer deed.origin (first_of used) change st, take_next (setup s) st.frame.number x e) both.0;

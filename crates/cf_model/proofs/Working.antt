@@ -8,8 +8,8 @@ use Rattle.cf_graph.specs.Holders.{owed, slot}
 use Rattle.cf_graph.specs.Edges.{Reference, weigh, one, counted}
 use Rattle.cf_graph.specs.Operations.{run, CanRun}
 use Rattle.cf_graph.proofs.Counts.{weigh-without}
-use Rattle.cf_syntax.specs.declared.statement.Ownership.{Ownership}
-use Rattle.cf_syntax.specs.declared.statement.Ownership.TheVariants.{Keeps, Binds, Retains, Releases}
+use Rattle.cf_syntax.specs.declared.mention.Ownership.{Ownership}
+use Rattle.cf_syntax.specs.declared.mention.Ownership.TheVariants.{Keeps, Binds, Retains, Releases}
 use Rattle.cf_contents.specs.Contents.{Object, times, slots_at}
 use Rattle.cf_contents.specs.Deeds.{Origin, nowhere, fresh, there, Change, taken_in, given_out}
 use Rattle.cf_contents.proofs.SlotLaws.{times-append, MakesEmpty, slots-more, others_keep}

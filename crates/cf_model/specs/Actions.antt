@@ -11,7 +11,8 @@ pub record Site : Type 0 where
   pub number : ℕ
   pub used : List (Option ℕ)
 
--- the action of a statement at its site
+-- the action of a statement at its site; the forms of run loops and of notices, of which no script that the reader
+-- takes has one yet, share one
 abbrev pub action_of : Statement → Site → Action
 action_of (forms.MakeString v text) s = actions.MakeString s.block s.number s.used
 action_of (forms.MakeMstring v text) s = actions.MakeMstring s.block s.number s.used
@@ -58,6 +59,7 @@ action_of (forms.HeapRemove v) s = actions.HeapRemove s.block s.number s.used
 action_of (forms.FieldSet v at x) s = actions.FieldSet s.block s.number s.used
 action_of (forms.FieldClear v at) s = actions.FieldClear s.block s.number s.used
 action_of (forms.FieldTake v instance at) s = actions.FieldTake s.block s.number s.used
+action_of _ s = actions.Later s.block s.number s.used
 
 -- the site of an action, where a statement writes it
 abbrev pub site_of : Action → Option Site
@@ -106,6 +108,7 @@ site_of (actions.HeapRemove b n u) = Some (record { block = b; number = n; used 
 site_of (actions.FieldSet b n u) = Some (record { block = b; number = n; used = u })
 site_of (actions.FieldClear b n u) = Some (record { block = b; number = n; used = u })
 site_of (actions.FieldTake b n u) = Some (record { block = b; number = n; used = u })
+site_of (actions.Later b n u) = Some (record { block = b; number = n; used = u })
 site_of actions.Done = None
 site_of (actions.Owed o) = None
 site_of (actions.DropSlot b k o) = None

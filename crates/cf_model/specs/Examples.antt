@@ -5,6 +5,31 @@ use Rattle.cf_ids.specs.declared.answer.Answer.TheVariants as answers
 use Rattle.cf_model.specs.declared.action.Action.TheVariants as actions
 use Rattle.cf_model.specs.declared.action.Entry.{Entry}
 use Rattle.cf_contents.specs.Contents.{string_class}
+use Rattle.cf_syntax.specs.declared.script.Script.{Script}
+use Rattle.cf_syntax.specs.declared.statement.Statement.TheVariants as forms
+
+-- a string is made and released
+abbrev pub small_text : List ℕ
+small_text = codes "cf 1\nsetup\nmake a string \"hi\"\nrelease a\nend\n"
+
+-- the script of that text
+abbrev pub small_script : Script
+small_script = record {
+  classes = [];
+  blocks = record {
+    name = codes "setup";
+    uses = [];
+    variables = codes "a" ∷ [];
+    statements = forms.MakeString 0 (codes "hi") ∷ forms.Release 0 ∷ [];
+    lines = 3 ∷ 4 ∷ [];
+    first = 2;
+    last = 5;
+  } ∷ [];
+  thread_count = 1;
+  handlers = [];
+  modes = codes "default" ∷ [];
+  notices = [];
+}
 
 abbrev nothing : List (Option ℕ)
 nothing = None ∷ None ∷ None ∷ []

@@ -2,9 +2,9 @@
 -- a reference, and has the answer that the state gives. This project's own.
 use Rattle.std.specs.Prelude.{◌≡◌, ℕ, ◌<◌, Bool, true, false, ◌&&◌, ◌||◌, IsTrue, List, [], ◌∷◌, length, map, Option, Some, None, slice_get, ◌==◌, if◌then◌else◌}
 use Rattle.cf_syntax.specs.declared.script.Script.{Script}
-use Rattle.cf_syntax.specs.declared.script.Block.{Block}
 use Rattle.cf_syntax.specs.declared.statement.Statement.{Statement}
-use Rattle.cf_syntax.specs.Forms.{used_by, pad}
+use Rattle.cf_syntax.specs.Mentions.{used_by, pad}
+pub use Rattle.cf_syntax.specs.BlockLines.{statements_in}
 use Rattle.cf_model.specs.declared.action.Action.{Action}
 use Rattle.cf_model.specs.declared.action.Action.TheVariants as actions
 use Rattle.cf_model.specs.declared.action.Entry.{Entry}
@@ -14,11 +14,6 @@ use Rattle.cf_graph.specs.Edges.{Reference, weigh, counted}
 use Rattle.cf_model.specs.State.{State, Frame, Binding, Work, release_of, slots_of, start, look, times, left_of, is_live}
 use Rattle.cf_model.specs.Actions.{Site, site_of, action_of}
 use Rattle.cf_model.specs.Steps.{statement_in, effect, answer_to, makes}
-
--- the statements of a block, if there is one
-abbrev pub statements_in : Option Block → List Statement
-statements_in None = []
-statements_in (Some b) = b.statements
 
 -- the statements of the setup block
 abbrev pub setup : Script → List Statement

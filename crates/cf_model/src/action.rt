@@ -236,6 +236,12 @@ pub enum Action {
         number: u32,
         used: [Option<ObjId>; 3],
     },
+    /// A statement of a form of run loops or of notices, of which no script that the reader takes has one yet.
+    Later {
+        block: u16,
+        number: u32,
+        used: [Option<ObjId>; 3],
+    },
     /// The thread's block is at its end.
     Done,
     /// The release of a reference that the thread was given out, written `release`.
@@ -312,6 +318,7 @@ impl Action {
             Statement::FieldSet { .. } => at_site!(FieldSet, block, number, used),
             Statement::FieldClear { .. } => at_site!(FieldClear, block, number, used),
             Statement::FieldTake { .. } => at_site!(FieldTake, block, number, used),
+            _ => at_site!(Later, block, number, used),
         }
     }
 }

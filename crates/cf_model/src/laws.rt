@@ -1,6 +1,7 @@
 //! Laws of the model, which hold of every script and every journal.
-ghost use Rattle.std.specs.Prelude.{◌≡◌, ◌+◌, ℕ, List, Some, take};
+ghost use Rattle.std.specs.Prelude.{◌≡◌, ◌+◌, ℕ, List, Some, map, take};
 ghost use Rattle.cf_syntax.specs.declared.script.Script.{Script};
+ghost use Rattle.cf_syntax.specs.BlockLines.{says};
 ghost use Rattle.cf_syntax.specs.Owned.{Owned, given, released};
 ghost use Rattle.cf_graph.specs.Edges.{weigh, one};
 ghost use Rattle.cf_model.specs.declared.action.Entry.{Entry};
@@ -19,6 +20,6 @@ pub fn finals_of_legal_journals()
 /// statements so far gave to it, less those that they took from it.
 pub fn variables_hold_what_they_own()
     ensures { (s : Script) (es : List Entry) (v o : ℕ) → Owned s → IsLegal s es → look v (After s es).frame.bindings ≡ Some o
-        → let earlier = take (After s es).frame.number (setup s) in
+        → let earlier = map says (take (After s es).frame.number (setup s)) in
         weigh (one (reference 0 v o)) (After s es).edges + released v earlier ≡ given v earlier }
 {}

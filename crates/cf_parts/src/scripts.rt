@@ -1,5 +1,6 @@
 //! The reader of scripts and the owner check, each on its happy path. Whole scripts are cases of `cf_rows`.
-use cf_script::{OwnFault, Script, ScriptFault, Statement, check_owners, read_script};
+use cf_owncheck::{OwnFault, check_owners};
+use cf_script::{Reason, Refusal, Script, ScriptFault, Statement, read_script};
 use cf_string::Str;
 use std::alloc::{AllocError, Global};
 use std::test::Fail;
@@ -8,25 +9,19 @@ use std::test::Fail;
 #[derive(Clone, Copy, Debug, PartialEq, Eq)]
 enum Outcome {
     /// It is refused by the reader.
-    Refused,
+    Refused(Refusal),
     /// It is read, and the script is not owned.
-    Unfit,
-    /// It is read, and the script is owned.
-    Owned,
+    Unfit(Refusal),
+    /// It is read, and the script is owned and has so many blocks.
+    Owned(usize),
     /// It has more bytes than a script may have, or memory ran out.
     Lost,
 }
 
 fn ownership_of(script: Script) -> Outcome {
     match check_owners(script) {
-        Ok(checked) => {
-            if checked.script().blocks.len() == 1 {
-                Outcome::Owned
-            } else {
-                Outcome::Lost
-            }
-        }
-        Err(OwnFault::Refused(_)) => Outcome::Unfit,
+        Ok(checked) => Outcome::Owned(checked.script().blocks.len()),
+        Err(OwnFault::Refused(refusal)) => Outcome::Unfit(refusal),
         Err(OwnFault::NoMemory) => Outcome::Lost,
     }
 }
@@ -37,20 +32,35 @@ fn outcome_of(alloc: Global, text: &[u8]) -> Outcome {
     }
     match read_script(alloc, text) {
         Ok(script) => ownership_of(script),
-        Err(ScriptFault::Refused(_)) => Outcome::Refused,
+        Err(ScriptFault::Refused(refusal)) => Outcome::Refused(refusal),
         Err(ScriptFault::NoMemory) => Outcome::Lost,
     }
 }
 
 // Texts, and what becomes of each.
-const TEXT_CASES: [(&[u8], Outcome, &str); 3] = [
-    (b"cf 1\nsetup\nend\n", Outcome::Owned, "an empty setup"),
+const TEXT_CASES: [(&[u8], Outcome, &str); 4] = [
+    (b"cf 1\nsetup\nend\n", Outcome::Owned(1), "an empty setup"),
+    (
+        b"cf 1\nsetup\nend\nthread t\nend\nhandler h\nend\n",
+        Outcome::Owned(3),
+        "a thread and a handler",
+    ),
     (
         b"cf 1\nsetup\nrelease a\nend\n",
-        Outcome::Unfit,
+        Outcome::Unfit(Refusal {
+            line: 3,
+            reason: Reason::Undefined,
+        }),
         "a release of nothing",
     ),
-    (b"", Outcome::Refused, "no bytes"),
+    (
+        b"",
+        Outcome::Refused(Refusal {
+            line: 1,
+            reason: Reason::Header,
+        }),
+        "no bytes",
+    ),
 ];
 
 #[test]

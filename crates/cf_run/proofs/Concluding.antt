@@ -1,13 +1,14 @@
 -- What a command came to, and what of its lines was written, make its outcome.
-use Rattle.std.proofs.Common.{◌≡◌, false, ℕ, ◌<◌, ◌≤◌, List, [], ◌∷◌, length, Option, Some, None, refl, sym, ap, ◌∙◌, subst, arith, inl, inr, ◌⊎◌}
+use Rattle.std.proofs.Common.{◌≡◌, true, false, ℕ, ◌<◌, ◌≤◌, List, [], ◌∷◌, length, Option, Some, None, refl, sym, ap, ◌∙◌, subst, arith, inl, inr, ◌⊎◌}
 use Rattle.std.specs.Prelude.{Result, Ok, Err, IsSome, IsSomeAnd, IfSome, Contains}
 use Rattle.std.proofs.lemmas.Bool.{false≢true}
 use Rattle.cf_io.specs.Bytes.{then_bytes}
 use Rattle.cf_io.specs.Files.{File, content_of}
 use Rattle.cf_syntax.specs.declared.script.Script.{Script}
 use Rattle.cf_syntax.specs.declared.refusal.Refusal.{Refusal}
-use Rattle.cf_syntax.specs.Text.{Text, Refused}
-use Rattle.cf_syntax.specs.Owned.{Owned, blocks_fit}
+use Rattle.cf_syntax.specs.Text.{Text}
+use Rattle.cf_syntax.specs.Owned.{Owned, owner_fault}
+use Rattle.cf_syntax.proofs.RefusalLaws.{one_refusal, not_both as read_and_refused}
 use Rattle.cf_model.specs.declared.action.Entry.{Entry}
 use Rattle.cf_model.specs.declared.ending.Ending.{Ending}
 use Rattle.cf_model.specs.declared.ending.Ending.TheVariants as endings
@@ -19,10 +20,10 @@ use Rattle.cf_run.specs.declared.output.Unwritten.{Unwritten as WriteError}
 use Rattle.cf_run.specs.declared.output.Unwritten.TheVariants.{Fault, NoMemory}
 use Rattle.cf_run.specs.declared.settle.Settled.{Settled}
 use Rattle.cf_run.specs.declared.settle.Settled.TheVariants as settled
-use Rattle.cf_run.specs.Calls.{SourceState, Call, status_is, SourceFailed, SinkFailed}
+use Rattle.cf_run.specs.Calls.{SourceState, Call, status_is, SinkFailed, Wrote}
 use Rattle.cf_run.specs.Commands.{file_of}
 use Rattle.cf_run.specs.Written.{WritesAll}
-use Rattle.cf_run.specs.Outcomes.{script_bytes, IsContent, IsRead, IsAccepted, IsUnfit, IsRefused, IsRefusedText, IsJournal, IsDue, usage_due, refusal_due, fault_due, run_due, Ran, Misused, Rejected, Unreadable, Unwritten, Shortened, Silent, Outcome, done, limited, full, misused, rejected, unreadable, unwritten, no_memory, Reads, ReadsScript, Tells}
+use Rattle.cf_run.specs.Outcomes.{script_bytes, IsContent, IsRead, has_one_block, IsAccepted, IsUnfit, HasMoreBlocks, IsFaulty, IsRefused, IsRefusedText, too_many, faulty, refusal_text, IsTold, IsJournal, IsDue, usage_due, refusal_due, fault_due, run_due, Ran, Misused, Rejected, Unreadable, Unwritten, Shortened, Silent, Outcome, done, limited, full, misused, rejected, unreadable, unwritten, no_memory, Reads, ReadsScript, Tells}
 use Rattle.cf_run.specs.Settled.{Accepted, Settles, HasFew, due_of, entries_of, status_by, status_after}
 use Rattle.cf_run.specs.Tally.{IsOver}
 use Rattle.cf_run.specs.Lines.{entries_in, run_text}
@@ -150,43 +151,70 @@ same_bytes words files told file bytes read f n c r =
     let there : content_of told r.file ≡ Some read = subst (λ (fs : Option (List File)). IsContent fs r.file read) f r.content in
     let e : ◌≡◌ {A = Option (List ℕ)} (Some read) (Some bytes) = sym there ∙ ap (content_of told) (same_file words r.file file r.named n) ∙ c in cc
 
--- no bytes are both the text of an owned script and refused
-text_refused : (bytes : List ℕ) (script : Script) (r : Refusal) → Text bytes script → Refused bytes r → ⊥
-text_refused bytes script r t u = let e : ◌≡◌ {A = Result Script Refusal} (Ok script) (Err r) = sym t ∙ u in cc
+-- no bytes are both the text of a script and refused as no text, or as that of another script
+same_script : (bytes : List ℕ) (s t : Script) → Text bytes s → Text bytes t → s ≡ t
+same_script bytes s t p q = let e : ◌≡◌ {A = Result Script Refusal} (Ok s) (Ok t) = sym p ∙ q in cc
 
 owned_unfit : (bytes : List ℕ) (script : Script) (r : Refusal) → Text bytes script → Owned script → IsUnfit bytes r → ⊥
 owned_unfit bytes script r t o u =
-    let same : ◌≡◌ {A = Result Script Refusal} (Ok u.script) (Ok script) = sym u.text ∙ t in
-    let e : u.script ≡ script = cc in
-    false≢true (sym u.unfit.0 ∙ ap (λ (s : Script). blocks_fit s.blocks) e ∙ o)
+    let e : ◌≡◌ {A = Option Refusal} None (Some r) = sym o ∙ ap owner_fault (same_script bytes script u.script t u.text) ∙ u.unfit in cc
+
+one_and_more : (bytes : List ℕ) (script : Script) (r : Refusal) → Text bytes script → has_one_block script ≡ true
+    → HasMoreBlocks bytes r → ⊥
+one_and_more bytes script r t one m =
+    false≢true (sym m.more ∙ ap has_one_block (same_script bytes m.script script m.text t) ∙ one)
 
 not_both : (bytes : List ℕ) (script : Script) (r : Refusal) → Text bytes script → Owned script
-    → Refused bytes r ⊎ IsUnfit bytes r → ⊥
-not_both bytes script r t o (inl u) = text_refused bytes script r t u
-not_both bytes script r t o (inr u) = owned_unfit bytes script r t o u
+    → has_one_block script ≡ true → IsFaulty bytes r → ⊥
+not_both bytes script r t o one (inl u) = read_and_refused bytes script r t u
+not_both bytes script r t o one (inr (inl u)) = owned_unfit bytes script r t o u
+not_both bytes script r t o one (inr (inr m)) = one_and_more bytes script r t one m
 
-accepted_refused : (words : List (List ℕ)) (files : Option (List File)) (told : List File) (file bytes : List ℕ)
-    (script : Script) (r : Refusal)
-    → files ≡ Some told → file_of words ≡ Some file → content_of told file ≡ Some bytes → length bytes ≤ script_bytes
-    → Text bytes script → Owned script → IsRefused words files r → ⊥
-accepted_refused words files told file bytes script r f n c w t o (inl x) =
+-- faulty bytes have one refusal
+one_fault : (bytes : List ℕ) (r q : Refusal) → IsFaulty bytes r → IsFaulty bytes q → r ≡ q
+one_fault bytes r q (inl u) (inl v) = one_refusal bytes r q u v
+one_fault bytes r q (inl u) (inr (inl v)) = absurd (read_and_refused bytes v.script r v.text u)
+one_fault bytes r q (inl u) (inr (inr v)) = absurd (read_and_refused bytes v.script r v.text u)
+one_fault bytes r q (inr (inl u)) (inl v) = absurd (read_and_refused bytes u.script q u.text v)
+one_fault bytes r q (inr (inl u)) (inr (inl v)) =
+    let e : ◌≡◌ {A = Option Refusal} (Some r) (Some q) = sym u.unfit ∙ ap owner_fault (same_script bytes u.script v.script u.text v.text) ∙ v.unfit in cc
+one_fault bytes r q (inr (inl u)) (inr (inr v)) = absurd (owned_unfit bytes v.script r v.text v.owned u)
+one_fault bytes r q (inr (inr u)) (inl v) = absurd (read_and_refused bytes u.script q u.text v)
+one_fault bytes r q (inr (inr u)) (inr (inl v)) = absurd (owned_unfit bytes u.script q u.text u.owned v)
+one_fault bytes r q (inr (inr u)) (inr (inr v)) = u.reason ∙ sym v.reason
+
+one_text : (bytes : List ℕ) (r q : Refusal) → IsRefusedText bytes r → IsRefusedText bytes q → r ≡ q
+one_text bytes r q (too_many over u) (too_many more v) = u ∙ sym v
+one_text bytes r q (too_many over u) (faulty within v) = absurd (omega (arith, over, within))
+one_text bytes r q (faulty within u) (too_many over v) = absurd (omega (arith, over, within))
+one_text bytes r q (faulty within u) (faulty few v) = one_fault bytes r q u v
+
+-- a file that is refused has bytes with this refusal
+refused_text : (words : List (List ℕ)) (files : Option (List File)) (told : List File) (file bytes : List ℕ)
+    (r : Refusal)
+    → files ≡ Some told → file_of words ≡ Some file → content_of told file ≡ Some bytes → IsRefused words files r
+    → IsRefusedText bytes r
+refused_text words files told file bytes r f n c (inl x) =
     let long = subst (λ (fs : Option (List File)). IfSome fs (λ ts. IsSomeAnd (content_of ts x.file) (λ bs. script_bytes < length bs))) f x.long in
     let over : script_bytes < length bytes = subst (λ (o : Option (List ℕ)). IsSomeAnd o (λ bs. script_bytes < length bs)) (ap (content_of told) (same_file words x.file file x.named n) ∙ c) long in
-    omega (arith, w, over)
-accepted_refused words files told file bytes script r f n c w t o (inr x) =
+    too_many over x.reason
+refused_text words files told file bytes r f n c (inr x) =
     let same = same_bytes words files told file bytes x.bytes f n c x.read in
-    not_both bytes script r t o (subst (λ (bs : List ℕ). Refused bs r ⊎ IsUnfit bs r) same x.fault)
+    subst (λ (bs : List ℕ). IsRefusedText bs r) same (faulty x.read.within x.fault)
+
+-- the text of an accepted script is not refused
+accepted_text : (bytes : List ℕ) (script : Script) (r : Refusal) → length bytes ≤ script_bytes → Text bytes script
+    → Owned script → has_one_block script ≡ true → IsRefusedText bytes r → ⊥
+accepted_text bytes script r w t o one (too_many over x) = omega (arith, w, over)
+accepted_text bytes script r w t o one (faulty within x) = not_both bytes script r t o one x
 
 refused_accepted : (words : List (List ℕ)) (files : Option (List File)) (told : List File) (file bytes : List ℕ)
     (script : Script) (r : Refusal)
     → files ≡ Some told → file_of words ≡ Some file → content_of told file ≡ Some bytes → IsRefusedText bytes r
     → IsAccepted words files script → ⊥
-refused_accepted words files told file bytes script r f n c (inl x) a =
+refused_accepted words files told file bytes script r f n c x a =
     let same = same_bytes words files told file bytes a.bytes f n c a.read in
-    omega (arith, a.read.within, ap length same, x)
-refused_accepted words files told file bytes script r f n c (inr x) a =
-    let same = same_bytes words files told file bytes a.bytes f n c a.read in
-    not_both bytes script r (subst (λ (bs : List ℕ). Text bs script) same a.text) a.owned x
+    accepted_text a.bytes script r a.read.within a.text a.owned a.one_block (subst (λ (bs : List ℕ). IsRefusedText bs r) (sym same) x)
 
 -- a journal whose thread is not done is not whole, of whichever script the bytes are the text
 unfinished : (words : List (List ℕ)) (files : Option (List File)) (told : List File) (file bytes : List ℕ)
@@ -313,8 +341,8 @@ module _ (call : Call) where
   runs_or_memory (limited st x) script h = (2, omega arith, sym st)
   runs_or_memory (full st x) script h = (3, omega arith, sym st)
   runs_or_memory (misused st x) script h = absurd (no_file call.words h.reads.file h.reads.named x.words_are)
-  runs_or_memory (rejected st x) script h = absurd (accepted_refused call.words call.source.files h.reads.told h.reads.file h.bytes script x.refusal
-      h.reads.tells h.reads.named h.reads.content h.within h.text h.owned x.refused)
+  runs_or_memory (rejected st x) script h = absurd (accepted_text h.bytes script x.refusal h.within h.text h.owned h.one_block
+      (refused_text call.words call.source.files h.reads.told h.reads.file h.bytes x.refusal h.reads.tells h.reads.named h.reads.content x.refused))
   runs_or_memory (unreadable st x) script h = absurd (h.reads.source_holds x.risen)
   runs_or_memory (unwritten st x) script h = absurd (h.reads.sink_holds x.risen)
   runs_or_memory (no_memory st x) script h = (1, omega arith, sym st)
@@ -334,8 +362,8 @@ module _ (call : Call) where
   done_or_memory (full st x) script h whole =
       absurd (stopped endings.Full script h x (full_going x.script (After x.script call.journal) x.journal.ends.1) whole)
   done_or_memory (misused st x) script h whole = absurd (no_file call.words h.reads.file h.reads.named x.words_are)
-  done_or_memory (rejected st x) script h whole = absurd (accepted_refused call.words call.source.files h.reads.told h.reads.file h.bytes script x.refusal
-      h.reads.tells h.reads.named h.reads.content h.within h.text h.owned x.refused)
+  done_or_memory (rejected st x) script h whole = absurd (accepted_text h.bytes script x.refusal h.within h.text h.owned h.one_block
+      (refused_text call.words call.source.files h.reads.told h.reads.file h.bytes x.refusal h.reads.tells h.reads.named h.reads.content x.refused))
   done_or_memory (unreadable st x) script h whole = absurd (h.reads.source_holds x.risen)
   done_or_memory (unwritten st x) script h whole = absurd (h.reads.sink_holds x.risen)
   done_or_memory (no_memory st x) script h whole = inr st
@@ -348,12 +376,14 @@ module _ (call : Call) where
       refused_accepted call.words call.source.files h.told h.file bytes x.script r h.tells h.named h.content refused x.read
 
   rejected_or_memory : Outcome call → (bytes : List ℕ) (r : Refusal) → Reads call bytes → IsRefusedText bytes r
-      → status_is 3 call ⊎ status_is 6 call
+      → IsTold r call ⊎ status_is 6 call
   rejected_or_memory (done st x) bytes r h refused = absurd (ran_refused endings.Done bytes r h refused x)
   rejected_or_memory (limited st x) bytes r h refused = absurd (ran_refused endings.Limit bytes r h refused x)
   rejected_or_memory (full st x) bytes r h refused = absurd (ran_refused endings.Full bytes r h refused x)
   rejected_or_memory (misused st x) bytes r h refused = absurd (no_file call.words h.file h.named x.words_are)
-  rejected_or_memory (rejected st x) bytes r h refused = inl st
+  rejected_or_memory (rejected st x) bytes r h refused =
+      let here = refused_text call.words call.source.files h.told h.file bytes x.refusal h.tells h.named h.content x.refused in
+      inl (record { status = st; written = subst (λ (q : Refusal). Wrote (refusal_text q) call) (one_text bytes x.refusal r here refused) x.written })
   rejected_or_memory (unreadable st x) bytes r h refused = absurd (h.source_holds x.risen)
   rejected_or_memory (unwritten st x) bytes r h refused = absurd (h.sink_holds x.risen)
   rejected_or_memory (no_memory st x) bytes r h refused = inr st

@@ -1,7 +1,7 @@
 -- The words of the command line. This project's own.
 use Rattle.std.specs.Prelude.{ℕ, Bool, not, ◌&&◌, List, Option, Some, None, length, codes, slice_index, ◌==◌, if◌then◌else◌, IsSome}
 use Rattle.std.specs.Str.{bytes_eq}
-use Rattle.cf_syntax.specs.Table.{word_at}
+use Rattle.cf_syntax.specs.FormStatements.{word_at}
 
 -- a word that names a file: it is not empty and does not begin with -
 abbrev pub is_file : List ℕ → Bool

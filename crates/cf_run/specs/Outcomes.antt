@@ -1,14 +1,15 @@
 -- What a command comes to: the lines that are due, what is said of them, and what each status tells. This
 -- project's own.
-use Rattle.std.specs.Prelude.{◌≡◌, ℕ, ◌<◌, ◌≤◌, ◌⊎◌, List, [], ◌∷◌, ◌++◌, length, codes, Contains, Option, Some, None, IfSome, IsSomeAnd, IsTrue}
+use Rattle.std.specs.Prelude.{◌≡◌, ℕ, ◌<◌, ◌≤◌, ◌⊎◌, Bool, true, false, List, [], ◌∷◌, ◌++◌, ◌==◌, length, codes, Contains, Option, Some, None, IfSome, IsSomeAnd, IsTrue}
 use Rattle.std.specs.Fmt.{decimal}
 use Rattle.cf_io.specs.Bytes.{IsAtEnd}
 use Rattle.cf_io.specs.Files.{File, content_of}
 use Rattle.cf_syntax.specs.declared.refusal.Refusal.{Refusal}
 use Rattle.cf_syntax.specs.declared.refusal.Reason.{Reason}
-use Rattle.cf_syntax.specs.declared.refusal.Reason.TheVariants.{TooLong, Unread}
+use Rattle.cf_syntax.specs.declared.refusal.Reason.TheVariants as reasons
 use Rattle.cf_syntax.specs.declared.script.Script.{Script}
-use Rattle.cf_syntax.specs.Text.{Text, Refused}
+use Rattle.cf_syntax.specs.Text.{Text}
+use Rattle.cf_syntax.specs.Refusals.{Refused}
 use Rattle.cf_syntax.specs.Owned.{Owned, Unfit}
 use Rattle.cf_model.specs.declared.action.Entry.{Entry}
 use Rattle.cf_model.specs.declared.ending.Ending.{Ending}
@@ -41,12 +42,17 @@ pub record IsRead (words : List (List ℕ)) (files : Option (List File)) (bytes 
   pub content : IsContent files file bytes
   pub within : length bytes ≤ script_bytes
 
--- the words name a file, it was read, and its bytes are the text of a script that is owned
+-- a script has one block, which is setup: it has no thread and no handler
+abbrev pub has_one_block : Script → Bool
+has_one_block s = length s.blocks == 1
+
+-- the words name a file, it was read, and its bytes are the text of a script that is owned and has one block
 pub record IsAccepted (words : List (List ℕ)) (files : Option (List File)) (script : Script) : Type 0 where
   pub bytes : List ℕ
   pub read : IsRead words files bytes
   pub text : Text bytes script
   pub owned : Owned script
+  pub one_block : has_one_block script ≡ true
 
 -- a text whose script is not owned
 pub record IsUnfit (bytes : List ℕ) (r : Refusal) : Type 0 where
@@ -54,26 +60,43 @@ pub record IsUnfit (bytes : List ℕ) (r : Refusal) : Type 0 where
   pub text : Text bytes script
   pub unfit : Unfit script r
 
--- the words name a file, it was read, and its bytes are no text of a script that is owned
-pub record IsUnread (words : List (List ℕ)) (files : Option (List File)) (r : Refusal) : Type 0 where
+-- a refusal without a line
+abbrev pub without_line : Reason → Refusal
+without_line reason = record { line = 0; reason = reason }
+
+-- a text whose script is owned, and has further blocks, which do not run yet
+pub record HasMoreBlocks (bytes : List ℕ) (r : Refusal) : Type 0 where
+  pub script : Script
+  pub text : Text bytes script
+  pub owned : Owned script
+  pub more : has_one_block script ≡ false
+  pub reason : r ≡ without_line reasons.Unread
+
+-- bytes that are no text, the text of a script that is not owned, or that of one which does not run yet
+abbrev pub IsFaulty : List ℕ → Refusal → Type 0
+IsFaulty bytes r = Refused bytes r ⊎ (IsUnfit bytes r ⊎ HasMoreBlocks bytes r)
+
+-- the words name a file, it was read, and its bytes are faulty
+pub record IsFaultyFile (words : List (List ℕ)) (files : Option (List File)) (r : Refusal) : Type 0 where
   pub bytes : List ℕ
   pub read : IsRead words files bytes
-  pub fault : Refused bytes r ⊎ IsUnfit bytes r
+  pub fault : IsFaulty bytes r
 
 -- the words name a file that is longer than a script may be
 pub record IsTooLong (words : List (List ℕ)) (files : Option (List File)) (r : Refusal) : Type 0 where
   pub file : List ℕ
   pub named : file_of words ≡ Some file
   pub long : IfSome files (λ told. IsSomeAnd (content_of told file) (λ bytes. script_bytes < length bytes))
-  pub reason : r ≡ record { line = 0; reason = TooLong }
+  pub reason : r ≡ without_line reasons.TooLong
 
--- the file is refused: it is too long, or its bytes are no text of a script that is owned
+-- the file is refused: it is too long, or its bytes are faulty
 abbrev pub IsRefused : List (List ℕ) → Option (List File) → Refusal → Type 0
-IsRefused words files r = IsTooLong words files r ⊎ IsUnread words files r
+IsRefused words files r = IsTooLong words files r ⊎ IsFaultyFile words files r
 
--- bytes of a file that are refused: they are too many, no text, or the text of a script that is not owned
-abbrev pub IsRefusedText : List ℕ → Refusal → Type 0
-IsRefusedText bytes r = (script_bytes < length bytes) ⊎ (Refused bytes r ⊎ IsUnfit bytes r)
+-- bytes of a file with their refusal: they are too many, or no more than a script may have and faulty
+pub data IsRefusedText (bytes : List ℕ) (r : Refusal) : Type 0 where
+  too_many : script_bytes < length bytes → r ≡ without_line reasons.TooLong → IsRefusedText bytes r
+  faulty : length bytes ≤ script_bytes → IsFaulty bytes r → IsRefusedText bytes r
 
 -- the line of words that are of no form
 abbrev pub usage_text : List ℕ
@@ -85,8 +108,26 @@ fault_text = codes "read fault\n"
 
 -- the word of a reason
 abbrev pub reason_word : Reason → List ℕ
-reason_word TooLong = codes "TooLong"
-reason_word Unread = codes "Unread"
+reason_word reasons.TooLong = codes "TooLong"
+reason_word reasons.Unread = codes "Unread"
+reason_word reasons.NotUtf8 = codes "NotUtf8"
+reason_word reasons.Text = codes "Text"
+reason_word reasons.Header = codes "Header"
+reason_word reasons.Word = codes "Word"
+reason_word reasons.Order = codes "Order"
+reason_word reasons.Kind = codes "Kind"
+reason_word reasons.Arity = codes "Arity"
+reason_word reasons.Name = codes "Name"
+reason_word reasons.Number = codes "Number"
+reason_word reasons.Hex = codes "Hex"
+reason_word reasons.Twice = codes "Twice"
+reason_word reasons.TooMany = codes "TooMany"
+reason_word reasons.Open = codes "Open"
+reason_word reasons.NoSetup = codes "NoSetup"
+reason_word reasons.Undefined = codes "Undefined"
+reason_word reasons.Redefined = codes "Redefined"
+reason_word reasons.Unowned = codes "Unowned"
+reason_word reasons.Unbalanced = codes "Unbalanced"
 
 -- the line of a refusal
 abbrev pub refusal_text : Refusal → List ℕ
@@ -196,6 +237,12 @@ pub record ReadsScript (call : Call) (script : Script) : Type 0 where
   pub within : length bytes ≤ script_bytes
   pub text : Text bytes script
   pub owned : Owned script
+  pub one_block : has_one_block script ≡ true
+
+-- a refusal is told by its line
+pub record IsTold (r : Refusal) (call : Call) : Type 0 where
+  pub status : status_is 3 call
+  pub written : Wrote (refusal_text r) call
 
 -- what is said of every call: the cause of each status, and when a status does come
 pub record Tells (call : Call) : Type 0 where
@@ -215,9 +262,10 @@ pub record Tells (call : Call) : Type 0 where
   pub statuses : Contains (0 ∷ 2 ∷ 3 ∷ 4 ∷ 5 ∷ 6 ∷ 7 ∷ 8 ∷ []) call.status
   -- faulty words give 2, unless a count rose or memory ran out
   pub misuse_is_told : file_of call.words ≡ None → ¬ (SinkFailed call) → status_is 2 call ⊎ status_is 6 call
-  -- of a source that tells its files: an accepted script runs, one whose journal is whole gives 0, and a refused one 3
+  -- of a source that tells its files: an accepted script runs, one whose journal is whole gives 0, and of a refused one
+  -- its line and reason are told
   pub accepted_runs : (script : Script) → ReadsScript call script → Contains (0 ∷ 6 ∷ 7 ∷ 8 ∷ []) call.status
   pub whole_runs : (script : Script) → ReadsScript call script → IsWhole script call.journal
       → status_is 0 call ⊎ status_is 6 call
   pub refused_is_told : (bytes : List ℕ) (r : Refusal) → Reads call bytes → IsRefusedText bytes r
-      → status_is 3 call ⊎ status_is 6 call
+      → IsTold r call ⊎ status_is 6 call

@@ -1,11 +1,11 @@
 -- What a command came to before a line of it is written.
-use Rattle.std.specs.Prelude.{◌≡◌, ℕ, ◌≤◌, ⊤, ◌⊎◌, List, [], length, Option, None, Result, Ok, Err, IsSomeAnd}
+use Rattle.std.specs.Prelude.{◌≡◌, ℕ, ◌≤◌, ⊤, true, List, [], length, None, Result, Ok, Err, IsSomeAnd}
 use Rattle.cf_fault.specs.Fault.{HasRisen}
 use Rattle.cf_io.specs.Bytes.{IsAtEnd}
-use Rattle.cf_syntax.specs.Text.{Text, Refused}
+use Rattle.cf_syntax.specs.Text.{Text}
 use Rattle.cf_syntax.specs.declared.script.Script.{Script}
 use Rattle.cf_syntax.specs.Owned.{Owned}
-use Rattle.cf_script.specs.declared.checked.Checked.{Checked}
+use Rattle.cf_owncheck.specs.declared.checked.Checked.{Checked}
 use Rattle.cf_script.specs.declared.fault.ScriptFault.{ScriptFault}
 use Rattle.cf_script.specs.declared.fault.ScriptFault.TheVariants as faults
 use Rattle.cf_model.specs.declared.action.Entry.{Entry}
@@ -19,23 +19,23 @@ use Rattle.cf_run.specs.Calls.{SourceState}
 use Rattle.cf_run.specs.Commands.{file_of, TakesWords}
 use Rattle.cf_run.specs.Tally.{IsOver}
 use Rattle.cf_run.specs.Lines.{run_text, entries_in}
-use Rattle.cf_run.specs.Outcomes.{IsUnfit, IsAccepted, IsRefused, usage_text, fault_text, refusal_text}
+use Rattle.cf_run.specs.Outcomes.{has_one_block, IsFaulty, IsAccepted, IsRefused, usage_text, fault_text, refusal_text}
 use Rattle.cf_ids.specs.declared.limits.TheConstants.{OBJECTS}
 
--- what the reader and the owner check say of bytes: an owned script of which they are the text, or their
+-- what the reader and the owner check say of bytes: an owned script of one block of which they are the text, or their
 -- refusal
 abbrev pub Accepts : Result Checked ScriptFault → List ℕ → Type 0
-Accepts (Ok c) bytes = Text bytes c × Owned c
-Accepts (Err (faults.Refused r)) bytes = Refused bytes r ⊎ IsUnfit bytes r
+Accepts (Ok c) bytes = Text bytes c × Owned c × (has_one_block c ≡ true)
+Accepts (Err (faults.Refused r)) bytes = IsFaulty bytes r
 Accepts (Err faults.NoMemory) bytes = ⊤
 
 -- what the bytes of a file came to
 abbrev pub SettlesBytes : List ℕ → Settled → Type 0
 SettlesBytes bytes settled.Usage = ⊥
 SettlesBytes bytes settled.ReadFault = ⊥
-SettlesBytes bytes (settled.Refused r) = Refused bytes r ⊎ IsUnfit bytes r
+SettlesBytes bytes (settled.Refused r) = IsFaulty bytes r
 SettlesBytes bytes (settled.Ran over) =
-    IsSomeAnd over.world.script (λ s. Text bytes s × IsOver s over.world over.ending over.tallies.items over.finals)
+    IsSomeAnd over.world.script (λ s. (Text bytes s × (has_one_block s ≡ true)) × IsOver s over.world over.ending over.tallies.items over.finals)
 
 -- the words name an accepted script, and the source stands at the end of its file and has counted no fault
 pub record Accepted (words : List (List ℕ)) (before after : SourceState) (s : Script) : Type 0 where

@@ -245,6 +245,24 @@ fn reason_word(reason: Reason) -> &'static str
     match reason {
         Reason::TooLong => "TooLong",
         Reason::Unread => "Unread",
+        Reason::NotUtf8 => "NotUtf8",
+        Reason::Text => "Text",
+        Reason::Header => "Header",
+        Reason::Word => "Word",
+        Reason::Order => "Order",
+        Reason::Kind => "Kind",
+        Reason::Arity => "Arity",
+        Reason::Name => "Name",
+        Reason::Number => "Number",
+        Reason::Hex => "Hex",
+        Reason::Twice => "Twice",
+        Reason::TooMany => "TooMany",
+        Reason::Open => "Open",
+        Reason::NoSetup => "NoSetup",
+        Reason::Undefined => "Undefined",
+        Reason::Redefined => "Redefined",
+        Reason::Unowned => "Unowned",
+        Reason::Unbalanced => "Unbalanced",
     }
 }
 

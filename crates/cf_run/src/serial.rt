@@ -9,7 +9,7 @@ ghost use Rattle.cf_run.specs.Tally.{grown, raised, lowered, finals_by, turn_by,
 use crate::tally::{Tally, tallied};
 use cf_ids::{DEFAULT_LIMIT, Ended, ObjId, ThreadId};
 use cf_model::Ending;
-use cf_script::Checked;
+use cf_owncheck::Checked;
 use cf_world::{Next, World};
 use std::alloc::{AllocError as NoMemory, Global};
 

@@ -7,7 +7,7 @@ ghost use Rattle.cf_io.specs.Bytes.{IsAtEnd};
 ghost use Rattle.cf_io.specs.Files.{content_of};
 ghost use Rattle.cf_run.specs.Calls.{told_by};
 ghost use Rattle.cf_run.specs.Lines.{entries_in};
-ghost use Rattle.cf_run.specs.Outcomes.{IsContent};
+ghost use Rattle.cf_run.specs.Outcomes.{IsContent, has_one_block};
 ghost use Rattle.cf_run.specs.Settled.{Accepts, SettlesBytes, Settles, status_by, status_of, entries_of};
 
 use crate::command::file_of;
@@ -15,7 +15,8 @@ use crate::serial::{Over, run_script};
 use cf_ids::SCRIPT_BYTES;
 use cf_io::{ReadAll, Source, read_all};
 use cf_model::{Ending, Entry};
-use cf_script::{Checked, OwnFault, Reason, Refusal, ScriptFault, check_owners, read_script};
+use cf_owncheck::{Checked, OwnFault, check_owners};
+use cf_script::{Reason, Refusal, Script, ScriptFault, read_script};
 use cf_world::World;
 use std::alloc::{AllocError, Global};
 
@@ -46,13 +47,28 @@ fn read_file<S: Source>(alloc: Global, source: &mut S, name: &str) -> Result<Vec
     read_all(alloc, source, SCRIPT_BYTES)
 }
 
-// The owned script that bytes are the text of.
+// A script has no block but setup.
+fn has_one_block(script: &Script) -> bool
+    ensures { result ≡ has_one_block script.now }
+{
+    script.blocks.as_slice().len() == 1
+}
+
+// The refusal of a script that does not run yet.
+const NOT_RUN: Refusal = Refusal {
+    line: 0,
+    reason: Reason::Unread,
+};
+
+// The owned script of one block that bytes are the text of.
+#[tactic(auto, using(cf_syntax::proofs::RefusalLaws::refused_from))]
 fn accept(alloc: Global, bytes: &[u8]) -> Result<Checked, ScriptFault>
     requires { length bytes.now ≤ SCRIPT_BYTES }
     ensures { Accepts result bytes.now }
 {
     match check_owners(read_script(alloc, bytes)?) {
-        Ok(checked) => Ok(checked),
+        Ok(checked) if has_one_block(checked.script()) => Ok(checked),
+        Ok(_) => Err(ScriptFault::Refused(NOT_RUN)),
         Err(OwnFault::Refused(refusal)) => Err(ScriptFault::Refused(refusal)),
         Err(OwnFault::NoMemory) => Err(ScriptFault::NoMemory),
     }

@@ -7,14 +7,10 @@ use Rattle.std.specs.Global.{Vec}
 use Rattle.std.proofs.lemmas.Bool.{leb-true}
 use Rattle.std.proofs.lemmas.List.{length-map, map_push}
 use Rattle.cf_syntax.specs.declared.script.ClassLine.{ClassLine}
-use Rattle.cf_syntax.specs.declared.form.Operand.{Operand}
-use Rattle.cf_syntax.specs.declared.form.Operand.TheVariants.{Fixed}
-use Rattle.cf_syntax.specs.declared.refusal.Refusal.{Refusal}
-use Rattle.cf_syntax.specs.Numbers.{index_of}
-use Rattle.cf_syntax.specs.Table.{◌>>=◌, require, word_at, is_count, is_of, are_of, index_at, class_named, class_words, not_named}
+use Rattle.cf_syntax.specs.FormStatements.{class_named}
+use Rattle.cf_syntax.specs.Text.{class_has_name}
 use Rattle.cf_script.specs.Views.{texts, names_of}
 use Rattle.cf_script.proofs.NameLaws.{position_name, any_name, position_texts, any_texts, inserted, names_new}
-use Rattle.cf_ids.specs.declared.limits.TheConstants.{FIELDS}
 
 -- class lines beside their names, which are owned
 same_count : (names : List (Vec ℕ)) (classes : List ClassLine) → texts names ≡ names_of classes
@@ -54,35 +50,15 @@ found names classes word place e some =
     let n = position_or_len (λ (c : ClassLine). bytes_eq word c.name) classes in
     some_named (ltb n (length classes)) n place (sym (same_place names classes word e) ∙ some)
 
-put_in : (t : Bool) (names more : List (List ℕ)) → not t ≡ true → cond t names more ≡ more
+put_in : (t : Bool) (names more : List (List ℕ)) → t ≡ false → cond t names more ≡ more
 put_in true names more e = absurd cc
 put_in false names more e = refl
 
 -- the names with that of a further class, which is free
 pub names_pushed : (names after : List (Vec ℕ)) (classes : List ClassLine) (class : ClassLine) (name : Vec ℕ)
-    → texts names ≡ names_of classes → not_named classes class.name ≡ true → name.items ≡ class.name
+    → texts names ≡ names_of classes → class_has_name classes class.name ≡ false → name.items ≡ class.name
     → after ≡ inserted name names → texts after ≡ names_of (classes ++ class ∷ [])
 names_pushed names after classes class name e free same is =
-    let none : not (list_any (bytes_eq class.name) (texts names)) ≡ true = ap not (ap (list_any (bytes_eq class.name)) e ∙ any_name (λ (c : ClassLine). c.name) class.name classes) ∙ free in
+    let none : list_any (bytes_eq class.name) (texts names) ≡ false = ap (list_any (bytes_eq class.name)) e ∙ any_name (λ (c : ClassLine). c.name) class.name classes ∙ free in
     names_new class.name name names after same is ∙ put_in _ (texts names) (texts names ++ class.name ∷ []) none
     ∙ ap (λ (ns : List (List ℕ)). ns ++ class.name ∷ []) e ∙ sym (map_push (λ (c : ClassLine). c.name) classes class)
-
-passed : (t : Bool) (r : Result (Unit {0}) Refusal) → (require t >>= (λ _. r)) ≡ Ok tt → (t ≡ true) × (r ≡ Ok tt)
-passed true r e = (refl, e)
-passed false r e = absurd cc
-
--- if the words are of their classes, the word at a place is
-of_at : (cs : List Operand) (ws : List (List ℕ)) (i : ℕ) → are_of cs ws ≡ Ok tt → i < length cs → i < length ws
-    → is_of (get_or cs i Fixed) (get_or ws i []) ≡ true
-of_at [] ws i e inside within = absurd (omega arith)
-of_at (c ∷ cs) [] i e inside within = absurd (omega arith)
-of_at (c ∷ cs) (w ∷ ws) zero e inside within = (passed (is_of c w) (are_of cs ws) e).0
-of_at (c ∷ cs) (w ∷ ws) (suc i) e inside within = of_at cs ws i (passed (is_of c w) (are_of cs ws) e).1 (omega arith) (omega arith)
-
-count_small : (o : Option ℕ) → is_count o ≡ true → unwrap_or o 0 ≤ FIELDS
-count_small None e = absurd cc
-count_small (Some n) e = leb-true n FIELDS e
-
--- the number of fields of a class line fits a byte
-pub fields_small : (ws : List (List ℕ)) → length ws ≡ 6 → are_of class_words ws ≡ Ok tt → index_at ws 3 ≤ FIELDS
-fields_small ws six e = count_small (index_of (word_at ws 3)) (of_at class_words ws 3 e (omega arith) (omega arith))

@@ -1,8 +1,10 @@
 -- The files of lemmas of cf_script.
 pub mod ClassLaws
-pub mod FitLaws
-pub mod FormLaws
 pub mod HexLaws
 pub mod NameLaws
 pub mod NumberLaws
+pub mod OpeningLaws
+pub mod ReaderLaws
+pub mod TableLaws
+pub mod ThreadLaws
 pub mod Utf8

@@ -1,14 +1,17 @@
 -- A name among names that are owned.
-use Rattle.std.proofs.Common.{◌≡◌, ℕ, ◌+◌, ◌<◌, ◌≤◌, Bool, true, false, cond, not, List, [], ◌∷◌, ◌++◌, length, Some, None, Ok, Err, refl, ap, sym, ◌∙◌, ltb}
+use Rattle.std.proofs.Common.{◌≡◌, ℕ, ◌+◌, ◌<◌, ◌≤◌, Bool, true, false, cond, not, List, [], ◌∷◌, ◌++◌, length, Some, None, Ok, Err, inl, inr, refl, ap, sym, ◌∙◌, arith, ltb, subst}
 use Rattle.std.specs.Prelude.{◌||◌, nat_lt, if◌then◌else◌, position, map}
+use Rattle.std.proofs.lemmas.Bool.{cases_Bool, ltb-true, ltb-false, lt-ltb}
 use Rattle.std.specs.List.{list_any, position_or_len}
 use Rattle.std.specs.Str.{bytes_eq}
 use Rattle.std.specs.Global.{Vec}
-use Rattle.std.proofs.lemmas.Bool.{lt-ltb, le-ltb}
-use Rattle.std.proofs.lemmas.List.{map_push}
-use Rattle.cf_syntax.specs.Table.{unread, with_name, With, with_variable}
+use Rattle.std.proofs.lemmas.List.{length-map, map_push}
+use Rattle.std.proofs.lemmas.List.Sums.{prefix_len-le-length}
+use Rattle.cf_syntax.specs.FormWords.{with_name}
+use Rattle.cf_syntax.specs.Text.{place_of}
+use Rattle.cf_syntax.specs.declared.refusal.Reason.TheVariants.{TooMany}
 use Rattle.cf_script.specs.Views.{texts}
-use Rattle.cf_ids.specs.declared.limits.TheConstants.{VARIABLES}
+use Rattle.cf_script.specs.NamesViews.{number_in}
 
 -- a word among the names of some things
 pub position_name : {A : Type 0} (name : A → List ℕ) (word : List ℕ) (xs : List A)
@@ -20,6 +23,10 @@ pub any_name : {A : Type 0} (name : A → List ℕ) (word : List ℕ) (xs : List
     → list_any (bytes_eq word) (map name xs) ≡ list_any (λ x. bytes_eq word (name x)) xs
 any_name name word [] = refl
 any_name name word (x ∷ xs) = ap (λ (t : Bool). bytes_eq word (name x) || t) (any_name name word xs)
+
+pub place_named : {A : Type 0} (name : A → List ℕ) (word : List ℕ) (xs : List A)
+    → place_of (map name xs) word ≡ position (λ x. bytes_eq word (name x)) xs
+place_named name word xs = rw (position_name name word xs, length-map xs name) refl
 
 -- the same of names that are owned
 pub position_texts : (word : List ℕ) (names : List (Vec ℕ))
@@ -71,19 +78,44 @@ names_new word value names after e is =
     ap texts is ∙ texts_both (list_any (λ n. bytes_eq value.items n.items) names) value names
     ∙ ap (λ (t : Bool). cond t (texts names) (texts names ++ value.items ∷ [])) (sym (any_texts value.items names)) ∙ ap (with_name (texts names)) e
 
-number_by : (so_far : With (List ℕ)) (word : List ℕ) (t : Bool)
-    → nat_lt (position_or_len (bytes_eq word) so_far.names) VARIABLES ≡ t
-    → with_variable so_far word ≡ cond t
-    (Ok (record { names = with_name so_far.names word; value = so_far.value ++ position_or_len (bytes_eq word) so_far.names ∷ [] }))
-    (Err unread)
-number_by so_far word t e = rw e refl
+-- the number of a name, where there is room for it
+pub number_is : (limit : ℕ) (word : List ℕ) (names : List (List ℕ)) (place : ℕ)
+    → place ≡ position_or_len (bytes_eq word) names → place < limit
+    → number_in limit word names ≡ Ok place
+number_is limit word names place e lt = rw (sym e, lt-ltb place limit lt) refl
 
-pub number_refused : (so_far : With (List ℕ)) (word : List ℕ) (place : ℕ)
-    → place ≡ position_or_len (bytes_eq word) so_far.names → VARIABLES ≤ place → with_variable so_far word ≡ Err unread
-number_refused so_far word place is large = number_by so_far word false (rw (← is) (le-ltb place VARIABLES large))
+below : (n m i : ℕ) → cond (ltb n m) (Some n) None ≡ Some i → i < m
+below n m i e = tests (ltb n m) refl e
+  where
+    tests : (t : Bool) → ltb n m ≡ t → cond t (Some n) None ≡ Some i → i < m
+    tests true at e = let same : n ≡ i = cc in subst (λ (k : ℕ). k < m) same (ltb-true n m at)
+    tests false at e = absurd cc
 
-pub number_given : (so_far : With (List ℕ)) (names : List (List ℕ)) (numbers : List ℕ) (word : List ℕ) (place : ℕ)
-    → place ≡ position_or_len (bytes_eq word) so_far.names → names ≡ with_name so_far.names word
-    → numbers ≡ so_far.value ++ place ∷ [] → place < VARIABLES
-    → with_variable so_far word ≡ Ok (record { names = names; value = numbers })
-number_given so_far names numbers word place is kept more small = number_by so_far word true (rw (← is) (lt-ltb place VARIABLES small)) ∙ rw (← kept, ← is, ← more) refl
+not_below : (n m : ℕ) → m ≤ n → ltb n m ≡ false
+not_below n m le = elim (cases_Bool (ltb n m)) [ inl t ↦ absurd (omega (arith, ltb-true n m t, le)) | inr f ↦ f ]
+
+past : (n m : ℕ) → cond (ltb n m) (Some n) None ≡ None → m ≤ n
+past n m e = tests (ltb n m) refl e
+  where
+    tests : (t : Bool) → ltb n m ≡ t → cond t (Some n) None ≡ None → m ≤ n
+    tests true at e = absurd cc
+    tests false at e = ltb-false n m at
+
+-- a name that is there is within the names, and where there is none and no room, it is one too many
+pub place_below : (word : List ℕ) (names : List (Vec ℕ)) (place : ℕ)
+    → position (λ n. bytes_eq word n.items) names ≡ Some place → place < length names
+place_below word names place e = below (position_or_len (λ (n : Vec ℕ). bytes_eq word n.items) names) (length names) place e
+
+pub one_too_many : (limit : ℕ) (word : List ℕ) (names : List (Vec ℕ))
+    → position (λ n. bytes_eq word n.items) names ≡ None → limit ≤ length names
+    → number_in limit word (texts names) ≡ Err TooMany
+one_too_many limit word names none full =
+    let n = position_or_len (λ (v : Vec ℕ). bytes_eq word v.items) names in
+    let over : ltb n limit ≡ false = not_below n limit (omega (arith, past n (length names) none, full)) in
+    rw (position_texts word names, over) refl
+
+pub place_within : (word : List ℕ) (names : List (Vec ℕ)) (place : ℕ)
+    → place ≡ position_or_len (bytes_eq word) (texts names) → place ≤ length names
+place_within word names place e =
+    let within : position_or_len (bytes_eq word) (texts names) ≤ length (texts names) = prefix_len-le-length _ (texts names) in
+    omega (arith, e, within, length-map names (λ (n : Vec ℕ). n.items))

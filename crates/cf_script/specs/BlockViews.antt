@@ -1,16 +1,37 @@
 -- What a block that is open, and the lines so far, stand for.
+use Rattle.std.specs.Prelude.{ℕ, List, [], Result, Ok}
 use Rattle.std.specs.Option.{option_map}
-use Rattle.cf_syntax.specs.Text.{Opened, Reading}
+use Rattle.cf_syntax.specs.declared.script.ClassLine.{ClassLine}
+use Rattle.cf_syntax.specs.declared.refusal.Reason.{Reason}
+use Rattle.cf_syntax.specs.FormWords.{◌>>=◌, Names, With}
+use Rattle.cf_syntax.specs.Text.{Opened, Reading, is_handler, with_statement, statement_of}
 use Rattle.cf_script.specs.declared.block.OpenBlock.{OpenBlock}
 use Rattle.cf_script.specs.declared.block.Reader.{Reader}
-use Rattle.cf_script.specs.Views.{texts}
 
 -- what a block that is open stands for
 abbrev pub open_block_of : OpenBlock → Opened
-open_block_of b =
-    record { names = texts b.names.keys; statements = b.statements.items; numbers = b.lines.items; first = b.first }
+open_block_of b = record {
+  kind = b.kind;
+  name = b.name.items;
+  uses = b.uses.items;
+  statements = b.statements.items;
+  numbers = b.lines.items;
+  first = b.first;
+}
 
 -- what the lines so far stand for
 abbrev pub reading_of : Reader → Reading
-reading_of r =
-    record { count = r.count; classes = r.classes; blocks = r.blocks.items; block = option_map open_block_of r.block }
+reading_of r = record {
+  count = r.count;
+  classes = r.classes;
+  blocks = r.blocks;
+  open_block = option_map open_block_of r.block;
+  threads = r.threads;
+  names = r.names;
+}
+
+-- a block that is open with a statement more, whose line has a number, and the names after it
+abbrev pub with_line : List ClassLine → Names → Opened → (line : ℕ) → List (List ℕ) → Result (With Opened) Reason
+with_line classes names b line ws = do
+  s ← statement_of classes [] (is_handler b.kind) names ws
+  Ok (record { names = s.names; value = with_statement b s.value line })

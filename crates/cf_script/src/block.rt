@@ -1,26 +1,30 @@
-//! The lines of a script, one after another.
-ghost use Rattle.std.specs.Prelude.{◌≡◌, ◌+◌, ◌<◌, ◌^◌, ◌∷◌, ◌++◌, [], Ok, None, IfOk};
+//! The lines of a script, one after another: what they made so far, and the lines inside a block.
+ghost use Rattle.std.specs.Prelude.{◌≡◌, ◌+◌, ◌<◌, ◌^◌, IfOk, IfSome, OnOk, Some, [], length, map, position};
 ghost use Rattle.std.specs.Option.{option_map};
-ghost use Rattle.cf_syntax.specs.Text.{is_word, is_header, close_block, add_class, open_block, outside, inside, add_statement, read_words, after_line, whole};
-ghost use Rattle.cf_script.specs.Gives.{GivesAs, Gives};
+ghost use Rattle.std.specs.Str.{bytes_eq};
+ghost use Rattle.cf_syntax.specs.Text.{Opened, start, is_header, new_block, is_handler, close_block, end_line, place_line, header_line, spoken_line, after_line, handler_named, ended, script_at, whole};
+ghost use Rattle.cf_script.specs.Gives.{GivesAs};
 ghost use Rattle.cf_script.specs.Views.{lent};
-ghost use Rattle.cf_script.specs.BlockViews.{open_block_of, reading_of};
+ghost use Rattle.cf_script.specs.BlockViews.{open_block_of, reading_of, with_line};
 
-use crate::classes::{Classes, class_of};
-use crate::fault::{ScriptFault, UNREAD};
+use crate::blocks::Blocks;
+use crate::classes::Classes;
+use crate::fault::LineFault;
 use crate::lines::{is_utf8, says_nothing};
-use crate::names::variables;
-use crate::statements::{Stated, statement_of};
+use crate::names::{Names, copies, in_order};
+use crate::openings::after;
+use crate::statements::read_statement;
 use crate::words::{is, split_words, word_at};
 use cf_ids::Seq;
-use cf_syntax::{Block, Script, Statement};
-use indexmap::IndexSet;
-use std::alloc::Global;
+use cf_syntax::{Block, BlockKind, Given, Handler, Reason, Script, Statement};
+use std::alloc::{AllocError, Global};
 
 /// A block whose `end` is still to come.
 #[derive(Drop)]
 pub(crate) struct OpenBlock {
-    pub names: IndexSet<Vec<u8>>,
+    pub kind: BlockKind,
+    pub name: Vec<u8>,
+    pub uses: Vec<Given>,
     pub statements: Vec<Statement>,
     pub lines: Vec<u32>,
     pub first: u32,
@@ -32,15 +36,12 @@ pub(crate) struct Reader {
     /// How many they are.
     pub count: u32,
     pub classes: Classes,
-    pub blocks: Vec<Block>,
+    /// The blocks that are ended.
+    pub blocks: Blocks,
     pub block: Option<OpenBlock>,
-}
-
-/// Whether a line is this one word.
-fn is_word(words: &[&[u8]], word: &[u8]) -> bool
-    ensures { result ≡ is_word (lent words.now) word.now }
-{
-    words.len() == 1 && is(word_at(words, 0), word)
+    /// How many blocks of threads began, with setup.
+    pub threads: usize,
+    pub names: Names,
 }
 
 /// Whether a line is `cf 1`.
@@ -50,229 +51,260 @@ fn is_header(words: &[&[u8]]) -> bool
     words.len() == 2 && is(word_at(words, 0), b"cf") && is(word_at(words, 1), b"1")
 }
 
-/// The line with this number, which says a class.
-#[tactic(auto, unfolding(cf_syntax::specs::Text::add_class))]
-fn add_class(
-    alloc: Global,
-    classes: Classes,
-    blocks: Vec<Block>,
-    line: u32,
-    words: &[&[u8]],
-) -> Result<Reader, ScriptFault>
-    ensures read { GivesAs reading_of result (add_class classes blocks.items line (lent words.now)) }
-    ensures count { IfOk result (λ r. r.count ≡ line) }
+/// Whether a block is that of a handler.
+fn is_handler(kind: BlockKind) -> bool
+    ensures { result ≡ is_handler kind }
 {
-    if !blocks.is_empty() {
-        return Err(ScriptFault::Refused(UNREAD));
+    matches!(kind, BlockKind::Handler)
+}
+
+impl OpenBlock {
+    /// A line with a statement.
+    fn statement_line(
+        &mut self,
+        alloc: Global,
+        classes: &Classes,
+        names: &mut Names,
+        line: u32,
+        words: &[&[u8]],
+    ) -> Result<(), LineFault>
+        ensures { GivesAs (λ _. record { names = names.new; value = open_block_of self.new }) result
+            (with_line classes.now names.old (open_block_of self.old) line (lent words.now)) }
+    {
+        let statement = read_statement(alloc, classes, is_handler(self.kind), names, words)?;
+        self.statements.push(statement)?;
+        self.lines.push(line)?;
+        Ok(())
     }
-    let class = class_of(alloc, &classes, words)?;
-    let mut classes = classes;
-    classes.push(alloc, class)?;
-    Ok(Reader {
-        count: line,
-        classes,
-        blocks,
-        block: None,
-    })
-}
 
-/// The line with this number, which begins setup.
-#[tactic(auto, unfolding(cf_syntax::specs::Text::open_block))]
-fn open_block(
-    alloc: Global,
-    classes: Classes,
-    blocks: Vec<Block>,
-    line: u32,
-    words: &[&[u8]],
-) -> Result<Reader, ScriptFault>
-    ensures read { GivesAs reading_of result (open_block classes blocks.items line (lent words.now)) }
-    ensures count { IfOk result (λ r. r.count ≡ line) }
-{
-    if !is_word(words, b"setup") || !blocks.is_empty() {
-        return Err(ScriptFault::Refused(UNREAD));
-    }
-    let block = OpenBlock {
-        names: IndexSet::new(alloc),
-        statements: Vec::new(alloc),
-        lines: Vec::new(alloc),
-        first: line,
-    };
-    Ok(Reader {
-        count: line,
-        classes,
-        blocks,
-        block: Some(block),
-    })
-}
-
-/// The line with this number, where no block is open.
-fn outside(
-    alloc: Global,
-    classes: Classes,
-    blocks: Vec<Block>,
-    line: u32,
-    words: &[&[u8]],
-) -> Result<Reader, ScriptFault>
-    ensures read { GivesAs reading_of result (outside classes blocks.items line (lent words.now)) }
-    ensures count { IfOk result (λ r. r.count ≡ line) }
-{
-    if is(word_at(words, 0), b"class") {
-        add_class(alloc, classes, blocks, line, words)
-    } else {
-        open_block(alloc, classes, blocks, line, words)
-    }
-}
-
-/// The block that this line ends.
-fn close_block(alloc: Global, block: OpenBlock, line: u32) -> Result<Block, ScriptFault>
-    ensures { GivesAs (λ b. b) result (Ok (close_block (open_block_of block) line)) }
-{
-    let OpenBlock {
-        names,
-        statements,
-        lines,
-        first,
-    } = block;
-    Ok(Block {
-        name: Seq::from_vec(Vec::from_slice(alloc, b"setup")?),
-        uses: Seq::from_vec(Vec::new(alloc)),
-        variables: variables(alloc, names)?,
-        statements: Seq::from_vec(statements),
-        lines: Seq::from_vec(lines),
-        first,
-        last: line,
-    })
-}
-
-/// A block with the statement of the line with this number.
-fn with_line(
-    alloc: Global,
-    classes: &Classes,
-    block: OpenBlock,
-    line: u32,
-    words: &[&[u8]],
-) -> Result<OpenBlock, ScriptFault>
-    ensures { GivesAs open_block_of result (add_statement classes.now (open_block_of block) line (lent words.now)) }
-{
-    let OpenBlock {
-        names,
-        mut statements,
-        mut lines,
-        first,
-    } = block;
-    let Stated { names, statement } = statement_of(alloc, classes, names, words)?;
-    statements.push(statement)?;
-    lines.push(line)?;
-    Ok(OpenBlock {
-        names,
-        statements,
-        lines,
-        first,
-    })
-}
-
-/// The line with this number, where a block is open.
-#[tactic(auto, unfolding(cf_syntax::specs::Text::inside))]
-fn inside(
-    alloc: Global,
-    classes: Classes,
-    blocks: Vec<Block>,
-    block: OpenBlock,
-    line: u32,
-    words: &[&[u8]],
-) -> Result<Reader, ScriptFault>
-    ensures read { GivesAs reading_of result
-        (inside classes blocks.items (open_block_of block) line (lent words.now)) }
-    ensures count { IfOk result (λ r. r.count ≡ line) }
-{
-    if is_word(words, b"end") {
-        let mut blocks = blocks;
-        blocks.push(close_block(alloc, block, line)?)?;
-        return Ok(Reader {
-            count: line,
-            classes,
-            blocks,
-            block: None,
-        });
-    }
-    let block = with_line(alloc, &classes, block, line, words)?;
-    Ok(Reader {
-        count: line,
-        classes,
-        blocks,
-        block: Some(block),
-    })
-}
-
-/// A line that says something, by its words.
-#[tactic(auto, unfolding(cf_syntax::specs::Text::read_header))]
-fn place_line(alloc: Global, reader: Reader, words: &[&[u8]]) -> Result<Reader, ScriptFault>
-    requires { reader.count + 1 < 2 ^ 32 }
-    ensures read { GivesAs reading_of result (read_words (reading_of reader) (lent words.now)) }
-    ensures count { IfOk result (λ r. r.count ≡ reader.count + 1) }
-{
-    let Reader {
-        count,
-        classes,
-        blocks,
-        block,
-    } = reader;
-    if count == 0 {
-        if !is_header(words) {
-            return Err(ScriptFault::Refused(UNREAD));
+    /// The block that a line with this number ends, by the names of its variables.
+    fn close(self, variables: Seq<Seq<u8>>, line: u32) -> Block
+        ensures { result ≡ close_block (open_block_of self) variables line }
+    {
+        let OpenBlock {
+            name,
+            uses,
+            statements,
+            lines,
+            first,
+            ..
+        } = self;
+        Block {
+            name: Seq::from_vec(name),
+            uses: Seq::from_vec(uses),
+            variables,
+            statements: Seq::from_vec(statements),
+            lines: Seq::from_vec(lines),
+            first,
+            last: line,
         }
-        return Ok(Reader {
-            count: 1,
-            classes,
-            blocks,
-            block,
+    }
+}
+
+impl Reader {
+    /// Before line 1.
+    pub fn new(alloc: Global) -> Result<Reader, AllocError>
+        ensures { IfOk result (λ r. reading_of r ≡ start) }
+    {
+        Ok(Reader {
+            count: 0,
+            classes: Classes::new(alloc),
+            blocks: Blocks::new(alloc),
+            block: None,
+            threads: 0,
+            names: Names::new(alloc)?,
+        })
+    }
+
+    /// Begins a block at the line that is read.
+    pub fn begin(&mut self, alloc: Global, kind: BlockKind, name: Vec<u8>, uses: Vec<Given>)
+        requires { self.old.count + 1 < 2 ^ 32 }
+        ensures { reading_of self.new ≡ new_block (reading_of self.old) kind name.items uses.items }
+    {
+        self.block = Some(OpenBlock {
+            kind,
+            name,
+            uses,
+            statements: Vec::new(alloc),
+            lines: Vec::new(alloc),
+            first: self.count + 1,
         });
     }
-    match block {
-        None => outside(alloc, classes, blocks, count + 1, words),
-        Some(block) => inside(alloc, classes, blocks, block, count + 1, words),
+
+    /// The line `end` of a block.
+    #[tactic(auto, unfolding(cf_syntax::specs::Text::end_line))]
+    fn end_line(&mut self, alloc: Global, words: &[&[u8]]) -> Result<(), LineFault>
+        requires { self.old.count + 1 < 2 ^ 32 }
+        ensures { (b : Opened) → option_map open_block_of self.old.block ≡ Some b
+            → GivesAs (λ _. reading_of self.new) result (end_line (reading_of self.old) b (lent words.now)) }
+    {
+        if words.len() != 1 {
+            return Err(LineFault::Faulty(Reason::Arity));
+        }
+        if let Some(block) = self.block.take() {
+            let variables = self.names.take_variables(alloc);
+            let names = copies(alloc, variables.as_slice())?;
+            self.blocks.push(block.close(names, self.count + 1), variables)?;
+        }
+        Ok(())
+    }
+
+    /// A line that says something, after line 1, by its words.
+    fn place_line(&mut self, alloc: Global, words: &[&[u8]]) -> Result<(), LineFault>
+        requires { self.old.count + 1 < 2 ^ 32 }
+        ensures { GivesAs (λ _. reading_of self.new) result
+            (place_line [] (reading_of self.old) (option_map open_block_of self.old.block) (lent words.now)) }
+    {
+        let line = self.count + 1;
+        match &mut self.block {
+            None => self.outside(alloc, words),
+            Some(_) if is(word_at(words, 0), b"end") => self.end_line(alloc, words),
+            Some(block) => {
+                block.statement_line(alloc, &self.classes, &mut self.names, line, words)
+            }
+        }
+    }
+
+    /// A line that says something.
+    #[tactic(auto, unfolding(cf_syntax::specs::Text::spoken_line, cf_syntax::specs::Text::header_line))]
+    fn spoken_line<'a>(
+        &mut self,
+        alloc: Global,
+        found: &mut Vec<&'a [u8]>,
+        line: &'a [u8],
+    ) -> Result<(), LineFault>
+        requires { self.old.count + 1 < 2 ^ 32 }
+        ensures { GivesAs (λ _. reading_of self.new) result (spoken_line [] (reading_of self.old) line.now) }
+    {
+        split_words(found, line)?;
+        let words = found.as_slice();
+        if self.count != 0 {
+            return self.place_line(alloc, words);
+        }
+        if is_header(words) {
+            Ok(())
+        } else {
+            Err(LineFault::Faulty(Reason::Header))
+        }
+    }
+
+    /// A line more.
+    #[tactic(auto, unfolding(cf_syntax::specs::Text::after_line))]
+    pub fn after_line<'a>(
+        &mut self,
+        alloc: Global,
+        found: &mut Vec<&'a [u8]>,
+        line: &'a [u8],
+    ) -> Result<(), LineFault>
+        requires { self.old.count + 1 < 2 ^ 32 }
+        ensures read { GivesAs (λ _. reading_of self.new) result (after_line [] (reading_of self.old) line.now) }
+        ensures count { OnOk result (self.new.count ≡ self.old.count + 1) }
+    {
+        if !is_utf8(line) {
+            return Err(LineFault::Faulty(Reason::NotUtf8));
+        }
+        let count = self.count + 1;
+        if self.count == 0 || !says_nothing(line) {
+            self.spoken_line(alloc, found, line)?;
+        }
+        self.count = count;
+        Ok(())
     }
 }
 
-/// A line more.
-#[tactic(auto, unfolding(cf_syntax::specs::Text::after_line, cf_syntax::specs::Text::read_line))]
-pub(crate) fn after_line<'a>(
+/// The place of the first block with a name.
+fn block_named(blocks: &[Block], name: &[u8]) -> Option<usize>
+    ensures place { result ≡ position (λ b. bytes_eq name.now b.name) blocks.now }
+    ensures within { IfSome result (λ i. i < length blocks.now) }
+{
+    blocks
+        .iter()
+        .position(|block| is(name, block.name.as_slice()))
+}
+
+/// A handler and the place of its block.
+fn handler_named(threads: usize, blocks: &[Block], name: Seq<u8>) -> Handler
+    ensures { result ≡ handler_named threads blocks.now name }
+{
+    match block_named(after(blocks, threads), name.as_slice()) {
+        None => Handler { name, block: None },
+        Some(place) => Handler {
+            name,
+            block: Some(threads + place),
+        },
+    }
+}
+
+impl Reader {
+    /// What is wanting at the end of the text.
+    #[tactic(auto, unfolding(cf_syntax::specs::Text::ended))]
+    fn ended(&self) -> Result<(), Reason>
+        ensures { result ≡ ended (reading_of self.now) }
+    {
+        if self.count == 0 {
+            return Err(Reason::Header);
+        }
+        if self.block.is_some() {
+            return Err(Reason::Open);
+        }
+        if self.threads == 0 {
+            return Err(Reason::NoSetup);
+        }
+        Ok(())
+    }
+
+    /// The script of the lines.
+    fn into_script(self, alloc: Global) -> Result<Script, AllocError>
+        ensures { IfOk result (λ s. s ≡ script_at (reading_of self)) }
+    {
+        let Reader {
+            classes,
+            blocks,
+            threads,
+            names,
+            ..
+        } = self;
+        let Names {
+            handlers,
+            modes,
+            notices,
+            ..
+        } = names;
+        let handlers = in_order(alloc, handlers)?;
+        let handlers = handlers_named(alloc, threads, blocks.as_slice(), handlers)?;
+        Ok(Script {
+            classes: classes.into_seq(),
+            blocks: blocks.into_seq(),
+            thread_count: threads,
+            handlers,
+            modes: in_order(alloc, modes)?,
+            notices: in_order(alloc, notices)?,
+        })
+    }
+
+    /// The script at the end of the text.
+    #[tactic(auto, unfolding(cf_syntax::specs::Text::whole))]
+    pub fn whole(self, alloc: Global) -> Result<Script, LineFault>
+        ensures { GivesAs (λ s. s) result (whole (reading_of self)) }
+    {
+        self.ended()?;
+        Ok(self.into_script(alloc)?)
+    }
+}
+
+/// The handlers of some names.
+fn handlers_named(
     alloc: Global,
-    reader: Reader,
-    found: &mut Vec<&'a [u8]>,
-    line: &'a [u8],
-) -> Result<Reader, ScriptFault>
-    requires { reader.count + 1 < 2 ^ 32 }
-    ensures read { GivesAs reading_of result (after_line (reading_of reader) line.now) }
-    ensures count { IfOk result (λ r. r.count ≡ reader.count + 1) }
+    threads: usize,
+    blocks: &[Block],
+    names: Seq<Seq<u8>>,
+) -> Result<Seq<Handler>, AllocError>
+    ensures { IfOk result (λ hs. hs ≡ map (handler_named threads blocks.now) names) }
 {
-    if !is_utf8(line) {
-        return Err(ScriptFault::Refused(UNREAD));
-    }
-    if 0 < reader.count && says_nothing(line) {
-        let mut reader = reader;
-        reader.count += 1;
-        return Ok(reader);
-    }
-    split_words(found, line)?;
-    place_line(alloc, reader, found.as_slice())
-}
-
-/// The script at the end of the text.
-pub(crate) fn whole(reader: Reader) -> Result<Script, ScriptFault>
-    ensures { Gives result (whole reader.classes reader.blocks.items (option_map open_block_of reader.block)) }
-{
-    let Reader {
-        classes,
-        blocks,
-        block,
-        ..
-    } = reader;
-    if block.is_some() || blocks.is_empty() {
-        return Err(ScriptFault::Refused(UNREAD));
-    }
-    Ok(Script {
-        classes: classes.into_seq(),
-        blocks: Seq::from_vec(blocks),
-    })
+    let handlers: Vec<Handler> = names
+        .into_vec()
+        .into_iter()
+        .map(|name| handler_named(threads, blocks, name))
+        .collect(alloc)?;
+    Ok(Seq::from_vec(handlers))
 }

@@ -1,17 +1,10 @@
 //! The class lines of a script.
-ghost use Rattle.std.specs.Prelude.{◌≡◌, ◌<◌, ◌∷◌, ◌++◌, [], length, IfOk, OnOk, nat_lt, true};
-ghost use Rattle.std.specs.List.{list_any};
-ghost use Rattle.std.specs.Str.{bytes_eq};
-ghost use Rattle.cf_syntax.specs.Table.{class_named, not_named, class_of};
-ghost use Rattle.cf_script.specs.Gives.{GivesAs};
-ghost use Rattle.cf_script.specs.Views.{lent};
+ghost use Rattle.std.specs.Prelude.{◌≡◌, ◌<◌, ◌∷◌, ◌++◌, [], length, OnOk, nat_lt, false};
+ghost use Rattle.cf_syntax.specs.FormStatements.{class_named};
+ghost use Rattle.cf_syntax.specs.Text.{class_has_name};
 
-use crate::fault::{ScriptFault, UNREAD};
-use crate::numbers::index_at;
-use crate::table::are_of;
-use crate::words::{is, word_at};
 use cf_ids::{Seq, TYPES, TypeId};
-use cf_syntax::{ClassLine, Operand};
+use cf_syntax::ClassLine;
 use indexmap::IndexSet;
 use std::alloc::{AllocError, Global};
 use std::marker::Model;
@@ -21,16 +14,6 @@ const FIRST: u16 = 14;
 
 /// The most classes of a script.
 const CLASSES: usize = TYPES + 1 - FIRST as usize;
-
-/// The words of a class line.
-const CLASS_WORDS: [Operand; 6] = [
-    Operand::Fixed,
-    Operand::Name,
-    Operand::Fields,
-    Operand::Count,
-    Operand::Equal,
-    Operand::Equality,
-];
 
 /// The class lines so far, of which there are at most 1,011.
 #[derive(Drop)]
@@ -72,21 +55,14 @@ impl Classes {
     }
 
     /// Whether a class has this name.
-    fn has(&self, name: &[u8]) -> bool
-        ensures { result ≡ list_any (λ c. bytes_eq name.now c.name) self.now }
+    pub fn has(&self, name: &[u8]) -> bool
+        ensures { result ≡ class_has_name self.now name.now }
     {
         self.names.contains(name)
     }
 
-    /// Whether a class may have this name.
-    fn is_free(&self, name: &[u8]) -> bool
-        ensures { result ≡ not_named self.now name.now }
-    {
-        !self.has(name)
-    }
-
     /// Whether a further class may come.
-    fn has_room(&self) -> bool
+    pub fn has_room(&self) -> bool
         ensures { result ≡ nat_lt (length self.now) 1011 }
     {
         self.lines.len() < CLASSES
@@ -95,7 +71,7 @@ impl Classes {
     /// A class more.
     pub fn push(&mut self, alloc: Global, class: ClassLine) -> Result<(), AllocError>
         requires room { length self.old < 1011 }
-        requires free { not_named self.old class.name ≡ true }
+        requires free { class_has_name self.old class.name ≡ false }
         ensures { OnOk result (self.new ≡ self.old ++ class ∷ []) }
     {
         let name = Vec::from_slice(alloc, class.name.as_slice())?;
@@ -113,30 +89,4 @@ impl Classes {
         let Classes { lines, .. } = self;
         Seq::from_vec(lines)
     }
-}
-
-/// The class that the words of a line say.
-#[tactic(auto, unfolding(cf_syntax::specs::Table::class_of))]
-pub(crate) fn class_of(
-    alloc: Global,
-    classes: &Classes,
-    words: &[&[u8]],
-) -> Result<ClassLine, ScriptFault>
-    ensures class { GivesAs (λ c. c) result (class_of classes.now (lent words.now)) }
-    ensures room { OnOk result (length classes.now < 1011) }
-    ensures free { IfOk result (λ class. not_named classes.now class.name ≡ true) }
-{
-    if words.len() != CLASS_WORDS.len() {
-        return Err(ScriptFault::Refused(UNREAD));
-    }
-    are_of(&CLASS_WORDS, words)?;
-    let name = word_at(words, 1);
-    if !classes.is_free(name) || !classes.has_room() {
-        return Err(ScriptFault::Refused(UNREAD));
-    }
-    Ok(ClassLine {
-        name: Seq::from_vec(Vec::from_slice(alloc, name)?),
-        fields: index_at(words, 3) as u8,
-        keyed: is(word_at(words, 5), b"key"),
-    })
 }

@@ -1,16 +1,10 @@
 //! Why a script was not read.
 ghost use Rattle.std.specs.Prelude.{◌≡◌};
-ghost use Rattle.cf_script.specs.declared.fault.ScriptFault.TheVariants.{Refused, NoMemory};
+ghost use Rattle.cf_script.specs.declared.fault.LineFault.TheVariants.{Faulty, NoRoom};
 
 use cf_syntax::{Reason, Refusal};
 use std::alloc::{AllocError, AllocFailed};
 use thiserror::Error;
-
-/// The refusal of a text that is none of a script.
-pub(crate) const UNREAD: Refusal = Refusal {
-    line: 0,
-    reason: Reason::Unread,
-};
 
 /// Why a text gave no script.
 #[derive(Debug, Drop, Error)]
@@ -23,26 +17,35 @@ pub enum ScriptFault {
     NoMemory,
 }
 
-impl From<Refusal> for ScriptFault {
-    ghost from_gives = { λ refusal fault. fault ≡ Refused refusal };
+/// Why a line was not read.
+#[derive(Drop)]
+pub(crate) enum LineFault {
+    /// It has this fault.
+    Faulty(Reason),
+    /// Memory ran out.
+    NoRoom,
+}
 
-    fn from(refusal: Refusal) -> ScriptFault {
-        ScriptFault::Refused(refusal)
+impl From<Reason> for LineFault {
+    ghost from_gives = { λ reason fault. fault ≡ Faulty reason };
+
+    fn from(reason: Reason) -> LineFault {
+        LineFault::Faulty(reason)
     }
 }
 
-impl From<AllocError> for ScriptFault {
-    ghost from_gives = { λ _ fault. fault ≡ NoMemory };
+impl From<AllocError> for LineFault {
+    ghost from_gives = { λ _ fault. fault ≡ NoRoom };
 
-    fn from(_error: AllocError) -> ScriptFault {
-        ScriptFault::NoMemory
+    fn from(_error: AllocError) -> LineFault {
+        LineFault::NoRoom
     }
 }
 
-impl<T: Drop> From<AllocFailed<T>> for ScriptFault {
-    ghost from_gives = { λ _ fault. fault ≡ NoMemory };
+impl<T: Drop> From<AllocFailed<T>> for LineFault {
+    ghost from_gives = { λ _ fault. fault ≡ NoRoom };
 
-    fn from(_error: AllocFailed<T>) -> ScriptFault {
-        ScriptFault::NoMemory
+    fn from(_error: AllocFailed<T>) -> LineFault {
+        LineFault::NoRoom
     }
 }

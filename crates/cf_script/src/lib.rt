@@ -1,23 +1,22 @@
-//! The reader of scripts, and the check that a script is owned.
+//! The reader: bytes to a script, or the line and the reason of a refusal.
 #![tactic(auto)]
 
 mod block;
-mod checked;
+mod blocks;
 mod classes;
 mod fault;
+mod forms;
 mod lines;
+mod members;
 mod names;
 mod numbers;
-mod owners;
+mod openings;
+mod operands;
 mod reader;
 mod statements;
 mod table;
 mod words;
 
-pub use cf_syntax::{
-    Block, ClassLine, DataLiteral, Given, Ownership, Reason, Refusal, Script, Statement,
-    TextLiteral,
-};
-pub use checked::{Checked, OwnFault, check_owners};
+pub use cf_syntax::{Block, ClassLine, Given, Handler, Reason, Refusal, Script, Statement};
 pub use fault::ScriptFault;
 pub use reader::read_script;

@@ -1,98 +1,237 @@
-//! The variables of a block, numbered in the order of first use.
-ghost use Rattle.std.specs.Prelude.{◌≡◌, IfOk, OnOk, length};
-ghost use Rattle.std.specs.List.{position_or_len};
-ghost use Rattle.std.specs.Str.{bytes_eq};
-ghost use Rattle.cf_syntax.specs.Table.{with_name, with_variable, with_word, variables_of};
+//! The names of a script, each numbered in the order of first use.
+ghost use Rattle.std.specs.Prelude.{◌≡◌, ◌≤◌, ◌<◌, [], ◌∷◌, IfOk, OnOk, length, codes};
+ghost use Rattle.cf_ids.specs.declared.limits.TheConstants.{VARIABLES};
+ghost use Rattle.cf_syntax.specs.FormWords.{table_of, limit_of, unless_word, with_name, with_number, numbered, numbered_word, numbers_of, no_numbers};
+ghost use Rattle.cf_syntax.specs.FormWords as Definitions;
+ghost use Rattle.cf_syntax.specs.Text.{start};
 ghost use Rattle.cf_script.specs.Gives.{GivesAs};
 ghost use Rattle.cf_script.specs.Views.{lent, texts};
-ghost use Rattle.cf_script.specs.NamesViews.{numbering_of};
+ghost use Rattle.cf_script.specs.NamesViews.{number_in, line_numbers_of, with_line_numbers_of};
 
-use crate::fault::{ScriptFault, UNREAD};
-use crate::words::word_at;
-use cf_ids::{Seq, VARIABLES, VarId};
-use cf_syntax::Operand;
+use crate::fault::LineFault;
+use crate::words::{is, word_at};
+use cf_ids::{HANDLERS, HandlerId, MODES, ModeId, NOTICES, NameId, Seq, VARIABLES, VarId};
+use cf_syntax::{NameTable, Operand, Reason};
 use indexmap::IndexSet;
 use smallvec::SmallVec;
 use std::alloc::{AllocError, Global};
+use std::marker::Model;
 
-/// The variables of a line so far, and the names with them.
+/// The names so far: of the open block's variables, and of the script's handlers, modes and notices.
 #[derive(Drop)]
-pub(crate) struct Numbered {
-    pub names: IndexSet<Vec<u8>>,
-    /// Their numbers. A form has at most three variables, so that a line takes no memory for them.
-    pub variables: SmallVec<VarId, 3>,
+pub(crate) struct Names {
+    pub variables: IndexSet<Vec<u8>>,
+    pub handlers: IndexSet<Vec<u8>>,
+    pub modes: IndexSet<Vec<u8>>,
+    pub notices: IndexSet<Vec<u8>>,
 }
 
-/// The place of a name, which goes after the others where it is new.
-fn place_of(alloc: Global, names: &mut IndexSet<Vec<u8>>, word: &[u8]) -> Result<usize, AllocError>
-    ensures place { IfOk result (λ place. place ≡ position_or_len (bytes_eq word.now) (texts names.old.keys)) }
+impl Model for Names {
+    ghost use Rattle.std.specs.Prelude.{◌≤◌, length};
+    ghost use Rattle.cf_ids.specs.declared.limits.TheConstants.{VARIABLES, HANDLERS, MODES, NOTICES};
+    ghost use Rattle.cf_syntax.specs.FormWords as Definitions;
+    ghost use Rattle.cf_script.specs.Views.{texts};
+
+    ghost Value = { Definitions.Names };
+
+    ghost view = { λ n. record { variables = texts n.variables.keys; handlers = texts n.handlers.keys; modes = texts n.modes.keys; notices = texts n.notices.keys } };
+
+    ghost invariant = { λ n. (length n.variables.keys ≤ VARIABLES) × (length n.handlers.keys ≤ HANDLERS) × (length n.modes.keys ≤ MODES) × (length n.notices.keys ≤ NOTICES) };
+}
+
+/// The number of a name, of which there may be so many. A new one goes after the others.
+fn number_of(
+    alloc: Global,
+    names: &mut IndexSet<Vec<u8>>,
+    limit: usize,
+    word: &[u8],
+) -> Result<usize, LineFault>
+    requires { length names.old.keys ≤ limit }
+    ensures place { GivesAs (λ n. n) result (number_in limit word.now (texts names.old.keys)) }
     ensures names { OnOk result (texts names.new.keys ≡ with_name (texts names.old.keys) word.now) }
+    ensures below { IfOk result (λ n. n < limit) }
+    ensures few { length names.new.keys ≤ limit }
 {
     if let Some(place) = names.get_index_of(word) {
         return Ok(place);
+    }
+    if names.len() == limit {
+        return Err(LineFault::Faulty(Reason::TooMany));
     }
     let (place, _) = names.insert_full(Vec::from_slice(alloc, word)?)?;
     Ok(place)
 }
 
-/// The variables with one more.
-fn with_variable(alloc: Global, so_far: Numbered, word: &[u8]) -> Result<Numbered, ScriptFault>
-    ensures { GivesAs numbering_of result (with_variable (numbering_of so_far) word.now) }
-{
-    let Numbered {
-        mut names,
-        mut variables,
-    } = so_far;
-    let place = place_of(alloc, &mut names, word)?;
-    if place >= VARIABLES {
-        return Err(ScriptFault::Refused(UNREAD));
+impl Names {
+    /// Before line 1: `default` is mode 0.
+    pub fn new(alloc: Global) -> Result<Names, AllocError>
+        ensures { IfOk result (λ names. names ≡ start.names) }
+    {
+        let mut modes = IndexSet::new(alloc);
+        modes.insert(Vec::from_slice(alloc, b"default")?)?;
+        Ok(Names {
+            variables: IndexSet::new(alloc),
+            handlers: IndexSet::new(alloc),
+            modes,
+            notices: IndexSet::new(alloc),
+        })
     }
-    variables.push(VarId(place as u16))?;
-    Ok(Numbered { names, variables })
+
+    /// The number of a name in its table.
+    pub fn number(
+        &mut self,
+        alloc: Global,
+        table: NameTable,
+        word: &[u8],
+    ) -> Result<usize, LineFault>
+        ensures number { GivesAs (λ n. record { names = self.new; value = n }) result
+            (numbered table word.now self.old) }
+        ensures below { IfOk result (λ n. n < limit_of table) }
+    {
+        match table {
+            NameTable::Variables => number_of(alloc, &mut self.variables, VARIABLES, word),
+            NameTable::Handlers => number_of(alloc, &mut self.handlers, HANDLERS, word),
+            NameTable::Modes => number_of(alloc, &mut self.modes, MODES, word),
+            NameTable::Notices => number_of(alloc, &mut self.notices, NOTICES, word),
+        }
+    }
+
+    /// A handler's block has `info` as its first variable.
+    pub fn begin_handler(&mut self, alloc: Global) -> Result<(), AllocError>
+        ensures { OnOk result (self.new ≡ record self.old { variables = codes "info" ∷ [] }) }
+    {
+        let mut variables = IndexSet::new(alloc);
+        variables.insert(Vec::from_slice(alloc, b"info")?)?;
+        self.variables = variables;
+        Ok(())
+    }
+
+    /// The variables of the block that ends.
+    pub fn take_variables(&mut self, alloc: Global) -> IndexSet<Vec<u8>>
+        ensures few { length result.keys ≤ VARIABLES }
+        ensures taken { texts result.keys ≡ self.old.variables }
+        ensures left { self.new ≡ record self.old { variables = [] } }
+    {
+        std::mem::replace(&mut self.variables, IndexSet::new(alloc))
+    }
 }
 
-/// The variables with a word of a class, which may be one.
-fn with_word(
+/// The numbers of a line's names. A form has at most three variables, so that a line takes no memory for them, and one
+/// handler, mode and notice.
+#[derive(Drop)]
+pub(crate) struct LineNumbers {
+    pub variables: SmallVec<VarId, 3>,
+    pub handler: HandlerId,
+    pub mode: ModeId,
+    pub notice: NameId,
+}
+
+impl LineNumbers {
+    /// The numbers of no word.
+    pub fn new(alloc: Global) -> LineNumbers
+        ensures { (names : Definitions.Names) → with_line_numbers_of names result ≡ no_numbers names }
+    {
+        LineNumbers {
+            variables: SmallVec::new(alloc),
+            handler: HandlerId(0),
+            mode: ModeId(0),
+            notice: NameId(0),
+        }
+    }
+
+    /// The number of a name more.
+    fn push(&mut self, table: NameTable, n: usize) -> Result<(), AllocError>
+        requires { n < limit_of table }
+        ensures { OnOk result (line_numbers_of self.new ≡ with_number table n (line_numbers_of self.old)) }
+    {
+        match table {
+            NameTable::Variables => self.variables.push(VarId(n as u16))?,
+            NameTable::Handlers => self.handler = HandlerId(n as u16),
+            NameTable::Modes => self.mode = ModeId(n as u16),
+            NameTable::Notices => self.notice = NameId(n as u16),
+        }
+        Ok(())
+    }
+}
+
+/// A table, unless the word is a fixed one.
+fn unless_word(word: &[u8], fixed: &[u8], table: NameTable) -> Option<NameTable>
+    ensures { result ≡ unless_word word.now fixed.now table }
+{
+    if is(word, fixed) { None } else { Some(table) }
+}
+
+/// The table of the names among which a word stands, in place of an operand.
+fn table_of(operand: Operand, word: &[u8]) -> Option<NameTable>
+    ensures { result ≡ table_of operand word.now }
+{
+    match operand {
+        Operand::Bound | Operand::Used => Some(NameTable::Variables),
+        Operand::Handler => Some(NameTable::Handlers),
+        Operand::Mode => Some(NameTable::Modes),
+        Operand::ModeOrCommon => unless_word(word, b"common", NameTable::Modes),
+        Operand::Notice => Some(NameTable::Notices),
+        Operand::NoticeOrAny => unless_word(word, b"any", NameTable::Notices),
+        Operand::Info => unless_word(word, b"nil", NameTable::Variables),
+        Operand::Filter => unless_word(word, b"any", NameTable::Variables),
+        _ => None,
+    }
+}
+
+/// The numbers of a line with those of a word more, which may be no name.
+pub(crate) fn number_word(
     alloc: Global,
-    so_far: Numbered,
-    class: Operand,
+    names: &mut Names,
+    numbers: &mut LineNumbers,
+    operand: Operand,
     word: &[u8],
-) -> Result<Numbered, ScriptFault>
-    ensures { GivesAs numbering_of result (with_word (numbering_of so_far) class word.now) }
+) -> Result<(), LineFault>
+    ensures { GivesAs (λ _. with_line_numbers_of names.new numbers.new) result
+        (numbered_word (table_of operand word.now) word.now (with_line_numbers_of names.old numbers.old)) }
 {
-    match class {
-        Operand::Variable => with_variable(alloc, so_far, word),
-        _ => Ok(so_far),
+    if let Some(table) = table_of(operand, word) {
+        let n = names.number(alloc, table, word)?;
+        numbers.push(table, n)?;
     }
+    Ok(())
 }
 
-/// The variables of the words of a form.
-pub(crate) fn number_variables(
+/// The numbers of the words of a form.
+pub(crate) fn numbers_of(
     alloc: Global,
-    classes: &[Operand],
-    names: IndexSet<Vec<u8>>,
+    names: &mut Names,
+    operands: &[Operand],
     words: &[&[u8]],
-) -> Result<Numbered, ScriptFault>
-    requires { length words.now ≡ length classes.now }
-    ensures { GivesAs numbering_of result (variables_of classes.now (texts names.keys) (lent words.now)) }
+) -> Result<LineNumbers, LineFault>
+    requires { length words.now ≡ length operands.now }
+    ensures { GivesAs (λ ns. with_line_numbers_of names.new ns) result
+        (numbers_of operands.now (lent words.now) (no_numbers names.old)) }
 {
-    let mut so_far = Numbered {
-        names,
-        variables: SmallVec::new(alloc),
-    };
-    for (i, class) in classes.iter().enumerate() {
-        so_far = with_word(alloc, so_far, *class, word_at(words, i))?;
+    let mut numbers = LineNumbers::new(alloc);
+    for (i, operand) in operands.iter().enumerate() {
+        number_word(alloc, names, &mut numbers, *operand, word_at(words, i))?;
     }
-    Ok(so_far)
+    Ok(numbers)
 }
 
-/// The names, in the order of their numbers.
-pub(crate) fn variables(alloc: Global, names: IndexSet<Vec<u8>>) -> Result<Seq<Seq<u8>>, AllocError>
-    ensures { IfOk result (λ variables. variables ≡ texts names.keys) }
+/// Names in the order of their numbers.
+pub(crate) fn in_order(alloc: Global, names: IndexSet<Vec<u8>>) -> Result<Seq<Seq<u8>>, AllocError>
+    ensures { IfOk result (λ ns. ns ≡ texts names.keys) }
 {
-    let variables: Vec<Seq<u8>> = names
+    let names: Vec<Seq<u8>> = names
         .into_iter()
         .map(|name| Seq::from_vec(name))
         .collect(alloc)?;
-    Ok(Seq::from_vec(variables))
+    Ok(Seq::from_vec(names))
+}
+
+/// Copies of names.
+pub(crate) fn copies(alloc: Global, names: &[Vec<u8>]) -> Result<Seq<Seq<u8>>, AllocError>
+    ensures { IfOk result (λ ns. ns ≡ texts names.now) }
+{
+    let mut list = Vec::new(alloc);
+    for name in names {
+        list.push(Seq::from_vec(Vec::from_slice(alloc, name.as_slice())?))?;
+    }
+    Ok(Seq::from_vec(list))
 }

@@ -1,8 +1,8 @@
 //! The words that are numbers, bytes and kinds.
-ghost use Rattle.std.specs.Prelude.{◌≡◌, ◌<◌, [], IfOk, IfSome, None, Some, unwrap_or, is_some, ◌-◌, if◌then◌else◌};
+ghost use Rattle.std.specs.Prelude.{◌≡◌, ◌≤◌, ◌^◌, ◌<◌, [], IfOk, IfSome, None, Some, unwrap_or, is_some, ◌-◌, if◌then◌else◌};
 ghost use Rattle.std.specs.List.{list_all};
-ghost use Rattle.cf_syntax.specs.Numbers.{is_digit, number_below, index_of, integer_of, bytes_of, kind_of};
-ghost use Rattle.cf_syntax.specs.Table.{is_count, index_at, integer_at, kind_at};
+ghost use Rattle.cf_syntax.specs.Numbers.{is_digit, number_below, index_of, unum_of, is_mask, is_field_count, integer_of, bytes_of, kind_of};
+ghost use Rattle.cf_syntax.specs.FormStatements.{index_at, field_count_at, number_at, mask_at, integer_at, kind_at};
 ghost use Rattle.cf_script.specs.Views.{lent};
 ghost use Rattle.hex.specs.Hex.{is_hex_digit};
 
@@ -13,10 +13,13 @@ use hex::FromHexError;
 use std::alloc::{AllocError, Global};
 
 /// The least number that is too large for an INDEX.
-const INDEX_LIMIT: u64 = 1 << 32;
+const INDEX_LIMIT: u128 = 1 << 32;
 
 /// The least number that is too large for an INT.
-const INT_LIMIT: u64 = 1 << 63;
+const INT_LIMIT: u128 = 1 << 63;
+
+/// The least number that is too large for a UNUM.
+const UNUM_LIMIT: u128 = 1 << 64;
 
 /// The number of a decimal digit.
 fn digit_of(byte: u8) -> Option<u64>
@@ -30,7 +33,8 @@ fn digit_of(byte: u8) -> Option<u64>
 }
 
 /// The number of a numeral that is below a limit.
-fn number_below(limit: u64, word: &[u8]) -> Option<u64>
+fn number_below(limit: u128, word: &[u8]) -> Option<u64>
+    requires { limit ≤ 2 ^ 64 }
     ensures value { result ≡ number_below limit word.now }
     ensures below { IfSome result (λ n. n < limit) }
 {
@@ -41,7 +45,11 @@ fn number_below(limit: u64, word: &[u8]) -> Option<u64>
     for b in word {
         number = number.checked_mul(10)?.checked_add(digit_of(*b)?)?;
     }
-    if number < limit { Some(number) } else { None }
+    if u128::from(number) < limit {
+        Some(number)
+    } else {
+        None
+    }
 }
 
 /// The number of an INDEX.
@@ -53,11 +61,29 @@ pub(crate) fn index_of(word: &[u8]) -> Option<u32>
 }
 
 /// Whether a word is an INDEX that is at most 255.
-pub(crate) fn is_count(word: &[u8]) -> bool
-    ensures { result ≡ is_count (index_of word.now) }
+pub(crate) fn is_field_count(word: &[u8]) -> bool
+    ensures { result ≡ is_field_count (index_of word.now) }
 {
     match index_of(word) {
         Some(number) => number as usize <= FIELDS,
+        None => false,
+    }
+}
+
+/// The number of a UNUM.
+pub(crate) fn unum_of(word: &[u8]) -> Option<u64>
+    ensures { result ≡ unum_of word.now }
+{
+    let number = number_below(UNUM_LIMIT, word)?;
+    Some(number)
+}
+
+/// Whether a word is a MASK.
+pub(crate) fn is_mask(word: &[u8]) -> bool
+    ensures { result ≡ is_mask (unum_of word.now) }
+{
+    match unum_of(word) {
+        Some(number) => 0 < number && number & 231 == number,
         None => false,
     }
 }
@@ -129,6 +155,29 @@ pub(crate) fn index_at(words: &[&[u8]], i: usize) -> u32
     ensures { result ≡ index_at (lent words.now) i }
 {
     index_of(word_at(words, i)).unwrap_or(0)
+}
+
+/// What the word at a place says as a UNUM.
+pub(crate) fn number_at(words: &[&[u8]], i: usize) -> u64
+    ensures { result ≡ number_at (lent words.now) i }
+{
+    unum_of(word_at(words, i)).unwrap_or(0)
+}
+
+/// What the word at a place says as a number of fields.
+pub(crate) fn field_count_at(words: &[&[u8]], i: usize) -> u8
+    ensures { result ≡ field_count_at (lent words.now) i }
+{
+    let number = index_at(words, i);
+    if number as usize <= FIELDS { number as u8 } else { 0 }
+}
+
+/// What the word at a place says as a MASK.
+pub(crate) fn mask_at(words: &[&[u8]], i: usize) -> u8
+    ensures { result ≡ mask_at (lent words.now) i }
+{
+    let number = number_at(words, i);
+    if number <= 231 { number as u8 } else { 0 }
 }
 
 /// What the word at a place says as an INT.

@@ -1,134 +1,155 @@
-//! The table of the forms of statements, and what the words of each have to be.
-ghost use Rattle.std.specs.Prelude.{◌≡◌, length, map};
-ghost use Rattle.cf_syntax.specs.Table.{form_in, make_of, form_of, is_of, are_of};
+//! The table of the forms of statements, and the form of a line.
+ghost use Rattle.std.specs.Prelude.{◌≡◌, ◌&&◌, is_some, map};
+ghost use Rattle.std.specs.List.{list_any};
+ghost use Rattle.std.specs.Option.{option_map};
+ghost use Rattle.cf_syntax.specs.FormWords.{is_kind, starts, begins, has_count, find_row, form_of};
 ghost use Rattle.cf_script.specs.Views.{lent};
-ghost use Rattle.cf_script.specs.TableViews.{form_word_of};
+ghost use Rattle.cf_script.specs.TableViews.{form_word_of, kind_of, found_row, search_of, search_in, joined};
 
-use crate::fault::UNREAD;
-use crate::numbers::{index_of, integer_of, is_count, is_hex, kind_of};
-use crate::words::{is, is_name, is_text, word_at};
-use cf_syntax::{
-    ArrayForm, Collection, DataForm, DictForm, FieldForm, HeapForm, Operand, PlainForm, Refusal,
-    SetForm, StatementForm, TextForm,
-};
+use crate::forms::search_common;
+use crate::words::{is, word_at};
+use cf_syntax::{Operand, Reason, StatementForm};
 
-/// A word, and the form that it finds.
-struct FormWord(&'static [u8], StatementForm);
+/// A form: its first word, the kind after `make V` where it has one, and what each word after the first has to be.
+#[derive(Clone, Copy)]
+pub(crate) struct FormWord {
+    pub word: &'static [u8],
+    pub kind: Option<&'static [u8]>,
+    pub operands: &'static [Operand],
+    pub form: StatementForm,
+}
 
-/// The forms by their first words.
-const FIRST_WORDS: [FormWord; 35] = [
-    FormWord(b"retain", StatementForm::Plain(PlainForm::Retain)),
-    FormWord(b"release", StatementForm::Plain(PlainForm::Release)),
-    FormWord(b"show", StatementForm::Plain(PlainForm::Show)),
-    FormWord(b"new", StatementForm::Plain(PlainForm::New)),
-    FormWord(b"str.append", StatementForm::Plain(PlainForm::StrAppend)),
-    FormWord(b"str.insert", StatementForm::Text(TextForm::StrInsert)),
-    FormWord(b"str.delete", StatementForm::Plain(PlainForm::StrDelete)),
-    FormWord(b"str.replace", StatementForm::Text(TextForm::StrReplace)),
-    FormWord(b"str.sub", StatementForm::Plain(PlainForm::StrSub)),
-    FormWord(b"data.append", StatementForm::Data(DataForm::DataAppend)),
-    FormWord(b"data.replace", StatementForm::Data(DataForm::DataReplace)),
-    FormWord(b"data.delete", StatementForm::Plain(PlainForm::DataDelete)),
-    FormWord(b"num.as", StatementForm::Plain(PlainForm::NumAs)),
-    FormWord(b"arr.append", StatementForm::Array(ArrayForm::Append)),
-    FormWord(b"arr.insert", StatementForm::Array(ArrayForm::Insert)),
-    FormWord(b"arr.set", StatementForm::Array(ArrayForm::Set)),
-    FormWord(b"arr.remove", StatementForm::Array(ArrayForm::Remove)),
-    FormWord(b"arr.take", StatementForm::Array(ArrayForm::Take)),
-    FormWord(b"dict.add", StatementForm::Dict(DictForm::Add)),
-    FormWord(b"dict.set", StatementForm::Dict(DictForm::Set)),
-    FormWord(b"dict.replace", StatementForm::Dict(DictForm::Replace)),
-    FormWord(b"dict.remove", StatementForm::Dict(DictForm::Remove)),
-    FormWord(b"dict.take", StatementForm::Dict(DictForm::Take)),
-    FormWord(b"set.add", StatementForm::Set(SetForm::Add)),
-    FormWord(b"set.set", StatementForm::Set(SetForm::Set)),
-    FormWord(b"set.replace", StatementForm::Set(SetForm::Replace)),
-    FormWord(b"set.remove", StatementForm::Set(SetForm::Remove)),
-    FormWord(b"set.count", StatementForm::Set(SetForm::Count)),
-    FormWord(b"set.take", StatementForm::Set(SetForm::Take)),
-    FormWord(b"heap.add", StatementForm::Heap(HeapForm::Add)),
-    FormWord(b"heap.take", StatementForm::Heap(HeapForm::Take)),
-    FormWord(b"heap.remove", StatementForm::Heap(HeapForm::Remove)),
-    FormWord(b"field.set", StatementForm::Field(FieldForm::Set)),
-    FormWord(b"field.clear", StatementForm::Field(FieldForm::Clear)),
-    FormWord(b"field.take", StatementForm::Field(FieldForm::Take)),
-];
-
-/// The forms that make an object, by its kind.
-const KINDS: [FormWord; 10] = [
-    FormWord(b"string", StatementForm::Text(TextForm::MakeString)),
-    FormWord(b"mstring", StatementForm::Text(TextForm::MakeMstring)),
-    FormWord(b"data", StatementForm::Data(DataForm::MakeData)),
-    FormWord(b"mdata", StatementForm::Data(DataForm::MakeMdata)),
-    FormWord(b"number", StatementForm::Plain(PlainForm::MakeNumber)),
-    FormWord(b"array", StatementForm::Make(Collection::Array)),
-    FormWord(b"dict", StatementForm::Make(Collection::Dict)),
-    FormWord(b"set", StatementForm::Make(Collection::Set)),
-    FormWord(b"bag", StatementForm::Make(Collection::Bag)),
-    FormWord(b"heap", StatementForm::Make(Collection::Heap)),
-];
-
-/// The form that a word finds.
-fn form_in(rows: &[FormWord], word: &[u8]) -> Result<StatementForm, Refusal>
-    ensures { result ≡ form_in (map form_word_of rows.now) word.now }
+/// Whether a word is the kind of a form, where the form has one.
+fn is_kind(kind: &Option<&'static [u8]>, word: &[u8]) -> bool
+    ensures { result ≡ is_kind (kind_of kind.now) word.now }
 {
-    for FormWord(found_by, form) in rows {
-        if is(word, found_by) {
-            return Ok(*form);
+    match kind {
+        None => true,
+        Some(kind) => is(word, kind),
+    }
+}
+
+/// Whether the first word of a line is that of a form.
+fn starts(form_word: &FormWord, words: &[&[u8]]) -> bool
+    ensures { result ≡ starts (form_word_of form_word.now) (lent words.now) }
+{
+    is(word_at(words, 0), form_word.word)
+}
+
+/// Whether the words of a line begin a form.
+fn begins(form_word: &FormWord, words: &[&[u8]]) -> bool
+    ensures { result ≡ begins (form_word_of form_word.now) (lent words.now) }
+{
+    starts(form_word, words) && is_kind(&form_word.kind, word_at(words, 2))
+}
+
+/// Whether the words of a line begin a form and are as many as its words.
+fn fits(form_word: &FormWord, words: &[&[u8]]) -> bool
+    ensures { result ≡
+        (begins (form_word_of form_word.now) (lent words.now) && has_count (form_word_of form_word.now) (lent words.now)) }
+{
+    begins(form_word, words) && words.len() == 1 + form_word.operands.len()
+}
+
+/// Whether the first word of a line begins one of some forms.
+fn any_starts(rows: &[FormWord], words: &[&[u8]]) -> bool
+    ensures { result ≡ list_any (λ r. starts r (lent words.now)) (map form_word_of rows.now) }
+{
+    for form_word in rows {
+        if starts(form_word, words) {
+            return true;
         }
     }
-    Err(UNREAD)
+    false
 }
 
-/// The form that words begin which make an object.
-fn make_of(words: &[&[u8]]) -> Result<StatementForm, Refusal>
-    ensures { result ≡ make_of (lent words.now) }
+/// Whether the words of a line begin one of some forms.
+fn any_begins(rows: &[FormWord], words: &[&[u8]]) -> bool
+    ensures { result ≡ list_any (λ r. begins r (lent words.now)) (map form_word_of rows.now) }
 {
-    let form = form_in(&KINDS, word_at(words, 2))?;
-    Ok(form.on_words(words.len()))
-}
-
-/// The form that words begin.
-pub(crate) fn form_of(words: &[&[u8]]) -> Result<StatementForm, Refusal>
-    ensures { result ≡ form_of (lent words.now) }
-{
-    let first = word_at(words, 0);
-    if is(first, b"make") {
-        make_of(words)
-    } else {
-        form_in(&FIRST_WORDS, first)
-    }
-}
-
-/// Whether a word is of a class.
-fn is_of(class: Operand, word: &[u8]) -> bool
-    ensures { result ≡ is_of class word.now }
-{
-    match class {
-        Operand::Fixed => true,
-        Operand::Variable | Operand::Name => is_name(word),
-        Operand::Text => is_text(word),
-        Operand::Hex => is_hex(word),
-        Operand::Int => integer_of(word).is_some(),
-        Operand::Index => index_of(word).is_some(),
-        Operand::Kind => kind_of(word).is_some(),
-        Operand::Plain => is(word, b"plain"),
-        Operand::Fields => is(word, b"fields"),
-        Operand::Count => is_count(word),
-        Operand::Equal => is(word, b"equal"),
-        Operand::Equality => is(word, b"identity") || is(word, b"key"),
-    }
-}
-
-/// Whether as many words as classes are each of theirs.
-pub(crate) fn are_of(classes: &[Operand], words: &[&[u8]]) -> Result<(), Refusal>
-    requires { length words.now ≡ length classes.now }
-    ensures { result ≡ are_of classes.now (lent words.now) }
-{
-    for (i, class) in classes.iter().enumerate() {
-        if !is_of(*class, word_at(words, i)) {
-            return Err(UNREAD);
+    for form_word in rows {
+        if begins(form_word, words) {
+            return true;
         }
     }
-    Ok(())
+    false
+}
+
+/// The first of some forms that the words of a line begin, with as many words as it has.
+fn find_row(rows: &[FormWord], words: &[&[u8]]) -> Option<FormWord>
+    ensures { option_map form_word_of result
+        ≡ find_row (λ r. begins r (lent words.now) && has_count r (lent words.now)) (map form_word_of rows.now) }
+{
+    for form_word in rows {
+        if fits(form_word, words) {
+            return Some(*form_word);
+        }
+    }
+    None
+}
+
+/// How far the words of a line begin some forms.
+#[derive(Drop)]
+pub(crate) struct Findings {
+    /// Whether the first word is that of a form.
+    pub starts: bool,
+    /// Whether the words begin a form, with its kind.
+    pub begins: bool,
+    /// The first form that they begin, with as many words as it has.
+    pub form_word: Option<FormWord>,
+}
+
+/// What the words of a line begin among some forms. Words that are of a form are found in one pass.
+#[tactic(auto, using(crate::proofs::TableLaws::found_starts, crate::proofs::TableLaws::found_begins))]
+pub(crate) fn search(rows: &[FormWord], words: &[&[u8]]) -> Findings
+    ensures { search_of result ≡ search_in (lent words.now) (map form_word_of rows.now) }
+{
+    match find_row(rows, words) {
+        Some(form_word) => Findings {
+            starts: true,
+            begins: true,
+            form_word: Some(form_word),
+        },
+        None => Findings {
+            starts: any_starts(rows, words),
+            begins: any_begins(rows, words),
+            form_word: None,
+        },
+    }
+}
+
+/// Whether words are of a form that was found.
+pub(crate) fn is_found(found: &Findings) -> bool
+    ensures { result ≡ is_some (search_of found.now).form_word }
+{
+    found.form_word.is_some()
+}
+
+/// What is found among some forms, and then among those after them.
+pub(crate) fn join(first: Findings, second: Findings) -> Findings
+    ensures { search_of result ≡ joined (search_of first) (search_of second) }
+{
+    Findings {
+        starts: first.starts || second.starts,
+        begins: first.begins || second.begins,
+        form_word: match first.form_word {
+            Some(form_word) => Some(form_word),
+            None => second.form_word,
+        },
+    }
+}
+
+/// The form of a line.
+#[tactic(auto, unfolding(cf_syntax::specs::FormWords::form_of))]
+pub(crate) fn form_of(words: &[&[u8]]) -> Result<FormWord, Reason>
+    ensures { found_row result ≡ form_of (lent words.now) }
+{
+    let found = search_common(words);
+    if !found.starts {
+        return Err(Reason::Word);
+    }
+    if 3 <= words.len() && !found.begins {
+        return Err(Reason::Kind);
+    }
+    found.form_word.ok_or(Reason::Arity)
 }

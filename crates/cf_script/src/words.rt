@@ -3,15 +3,16 @@ ghost use Rattle.std.specs.Prelude.{◌≡◌, ◌≤◌, ◌<◌, ◌∷◌, le
 ghost use Rattle.std.specs.List.{list_all, list_any};
 ghost use Rattle.std.specs.Str.{bytes_eq};
 ghost use Rattle.cf_syntax.specs.Words.{is_blank, goes, words, words_from, is_letter, is_name_byte, is_reserved, is_name, is_text, unescape, text_from, text_of};
-ghost use Rattle.cf_syntax.specs.Table.{word_at};
-ghost use Rattle.cf_syntax.specs.Text.{words_or_refusal};
+ghost use Rattle.cf_syntax.specs.FormStatements.{word_at};
+ghost use Rattle.cf_syntax.specs.FormWords.{needed};
+ghost use Rattle.cf_syntax.specs.declared.refusal.Reason.TheVariants.{Text};
 ghost use Rattle.cf_script.specs.Gives.{GivesAs};
 ghost use Rattle.cf_script.specs.Views.{lent};
 ghost use Rattle.cf_syntax.proofs.WordLaws.{IsWithin, first_place, behind};
 
-use crate::fault::{ScriptFault, UNREAD};
+use crate::fault::LineFault;
 use crate::lines::is_blank;
-use cf_syntax::Place;
+use cf_syntax::{Place, Reason};
 use std::alloc::{AllocError, Global};
 
 /// The words that are no names.
@@ -121,13 +122,13 @@ fn skip_blanks(bytes: &[u8]) -> &[u8]
 }
 
 /// The words of a line, in place of what `found` has.
-pub(crate) fn split_words<'a>(found: &mut Vec<&'a [u8]>, line: &'a [u8]) -> Result<(), ScriptFault>
-    ensures { GivesAs (λ _. lent found.new.items) result (words_or_refusal (words line.now)) }
+pub(crate) fn split_words<'a>(found: &mut Vec<&'a [u8]>, line: &'a [u8]) -> Result<(), LineFault>
+    ensures { GivesAs (λ _. lent found.new.items) result (needed Text (words line.now)) }
 {
     found.clear();
     let mut rest = skip_blanks(line);
     while !rest.is_empty() {
-        let (word, after) = first_word(rest).ok_or(UNREAD)?;
+        let (word, after) = first_word(rest).ok_or(Reason::Text)?;
         found.push(word)?;
         rest = skip_blanks(after);
     }

@@ -70,5 +70,19 @@ pub(crate) fn plan_of(
         | Statement::New { .. }
         | Statement::Retain { .. }
         | Statement::Release { .. } => plan_alone(alloc, classes, statement),
+        Statement::MakeSource { .. }
+        | Statement::MakeTimer { .. }
+        | Statement::MakeObserver { .. }
+        | Statement::Add { .. }
+        | Statement::Drop { .. }
+        | Statement::Common { .. }
+        | Statement::Signal { .. }
+        | Statement::Invalidate { .. }
+        | Statement::Wake { .. }
+        | Statement::Stop { .. }
+        | Statement::Run { .. }
+        | Statement::Observe { .. }
+        | Statement::Forget { .. }
+        | Statement::Post { .. } => Ok(Plan::skipping()),
     }
 }

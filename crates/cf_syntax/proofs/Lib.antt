@@ -1,7 +1,9 @@
 -- The files of lemmas of cf_syntax.
+pub mod BlockLaws
 pub mod CountLaws
 pub mod LineLaws
 pub mod OnLiterals
 pub mod OwnedLaws
+pub mod RefusalLaws
+pub mod SpacedLaws
 pub mod WordLaws
-pub mod Sizes

@@ -1,17 +1,16 @@
--- Sums over statements.
+-- Sums over lines.
 use Rattle.std.proofs.Common.{◌≡◌, ℕ, ◌+◌, ◌≤◌, Bool, true, false, cond, eqb, List, [], ◌∷◌, ◌++◌, length, ap, ◌∙◌, sym, add_assoc, arith}
-use Rattle.cf_syntax.specs.declared.statement.Statement.{Statement}
-use Rattle.cf_syntax.specs.declared.statement.Ownership.{Ownership}
-use Rattle.cf_syntax.specs.declared.statement.Ownership.TheVariants.{Keeps, Binds, Retains, Releases}
-use Rattle.cf_syntax.specs.Forms.{ownership_of}
+use Rattle.cf_syntax.specs.declared.mention.Ownership.{Ownership}
+use Rattle.cf_syntax.specs.declared.mention.Ownership.TheVariants.{Keeps, Binds, Retains, Releases}
+use Rattle.cf_syntax.specs.BlockLines.{BlockLine, line_ownership}
 use Rattle.cf_syntax.specs.Owned.{total, bound_by, given_by, released_by}
 
--- one statement more
-pub total_push : (f : Ownership → ℕ) (ss : List Statement) (s : Statement)
-    → total f (ss ++ s ∷ []) ≡ total f ss + f (ownership_of s)
+-- one line more
+pub total_push : (f : Ownership → ℕ) (ss : List BlockLine) (s : BlockLine)
+    → total f (ss ++ s ∷ []) ≡ total f ss + f (line_ownership s)
 total_push f [] s = omega arith
-total_push f (t ∷ ss) s = ap (λ (n : ℕ). f (ownership_of t) + n) (total_push f ss s)
-    ∙ sym (add_assoc (f (ownership_of t)) (total f ss) (f (ownership_of s)))
+total_push f (t ∷ ss) s = ap (λ (n : ℕ). f (line_ownership t) + n) (total_push f ss s)
+    ∙ sym (add_assoc (f (line_ownership t)) (total f ss) (f (line_ownership s)))
 
 one_le : (t : Bool) → cond t 1 0 ≤ 1
 one_le true = omega arith
@@ -36,6 +35,6 @@ taken_by_le v (Retains w) = omega arith
 taken_by_le v (Releases w) = one_le (eqb v w)
 
 -- a sum of numbers that are at most 1
-pub total_le : (f : Ownership → ℕ) (small : (t : Ownership) → f t ≤ 1) (ss : List Statement) → total f ss ≤ length ss
+pub total_le : (f : Ownership → ℕ) (small : (t : Ownership) → f t ≤ 1) (ss : List BlockLine) → total f ss ≤ length ss
 total_le f small [] = omega arith
-total_le f small (s ∷ ss) = omega (arith, small (ownership_of s), total_le f small ss)
+total_le f small (s ∷ ss) = omega (arith, small (line_ownership s), total_le f small ss)

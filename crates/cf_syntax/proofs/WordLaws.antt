@@ -153,7 +153,7 @@ whole_map : (b : ℕ) (word : List ℕ) (o : Option (List (List ℕ)))
 whole_map b word None = refl
 whole_map b word (Some ws) = refl
 
-begins : (b : ℕ) (bs : List ℕ) → is_blank b ≡ false
+pub begins : (b : ℕ) (bs : List ℕ) → is_blank b ≡ false
     → words (b ∷ bs) ≡ goes_on_from (b ∷ []) (words_from (first_place b) bs)
 begins b bs e =
     step_to Between (first_place b) b bs (begun_goes (is_blank b) (eqb b 34) e)

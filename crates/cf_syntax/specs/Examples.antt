@@ -1,68 +1,77 @@
--- Texts and their scripts, by which the definitions can be compared with what they are meant to say.
-use Rattle.std.specs.Prelude.{ℕ, List, [], ◌∷◌, ◌++◌, codes, true, false}
+-- Scripts by which the definitions can be compared with what they are meant to say.
+use Rattle.std.specs.Prelude.{ℕ, pos, List, [], ◌∷◌, codes, true, false, Some, None}
 use Rattle.cf_syntax.specs.declared.script.Script.{Script}
-use Rattle.cf_syntax.specs.declared.statement.Statement.TheVariants.{MakeString, Release, MakeArray, MakeDict, ArrSet, ArrTake, DictSet, DictTake, FieldTake, MakeSet, MakeBag, MakeHeap, SetAdd, SetCount, SetTake, HeapAdd, HeapTake, HeapRemove}
+use Rattle.cf_syntax.specs.declared.script.Block.{Block}
+use Rattle.cf_syntax.specs.declared.script.Given.{Given}
+use Rattle.cf_syntax.specs.declared.script.Handler.{Handler}
+use Rattle.cf_syntax.specs.declared.refusal.Refusal.{Refusal}
+use Rattle.cf_syntax.specs.declared.refusal.Reason.{Reason}
+use Rattle.cf_syntax.specs.declared.statement.Statement.{Statement}
+use Rattle.cf_syntax.specs.declared.statement.Statement.TheVariants.{MakeString, MakeSource, Retain, Release}
 
--- a string is made and released
-abbrev pub small_text : List ℕ
-small_text = codes "cf 1\nsetup\nmake a string \"hi\"\nrelease a\nend\n"
+-- a refusal
+abbrev pub refused_at : ℕ → Reason → Refusal
+refused_at line reason = record { line = line; reason = reason }
 
--- the script of that text
-abbrev pub small_script : Script
-small_script = record {
-  classes = [];
-  blocks = record {
-    name = codes "setup";
-    uses = [];
-    variables = codes "a" ∷ [];
-    statements = MakeString 0 (codes "hi") ∷ Release 0 ∷ [];
-    lines = 3 ∷ 4 ∷ [];
-    first = 2;
-    last = 5;
-  } ∷ [];
+-- a block of the variables x and so on
+abbrev pub block_of : (name : List ℕ) → List Given → List Statement → (lines : List ℕ) → (first last : ℕ) → Block
+block_of name uses statements lines first last = record {
+  name = name;
+  uses = uses;
+  variables = codes "x" ∷ [];
+  statements = statements;
+  lines = lines;
+  first = first;
+  last = last;
 }
 
--- forms of one to three variables, numbered from left to right
-abbrev pub members_text : List ℕ
-members_text =
-    codes "cf 1\nsetup\nmake a array plain\nmake d dict\narr.set a 7 d\narr.take x a 7\n"
-    ++ codes "dict.set d a x\ndict.take y d a\nfield.take z d 0\nend\n"
-
--- the script of that text
-abbrev pub members_script : Script
-members_script = record {
+-- a script of blocks, of which so many are those of threads, and of a handler whose block is the one with a number
+abbrev pub script_of_blocks : List Block → (threads : ℕ) → List Handler → Script
+script_of_blocks blocks threads handlers = record {
   classes = [];
-  blocks = record {
-    name = codes "setup";
-    uses = [];
-    variables = codes "a" ∷ codes "d" ∷ codes "x" ∷ codes "y" ∷ codes "z" ∷ [];
-    statements =
-        MakeArray 0 true ∷ MakeDict 1 false ∷ ArrSet 0 7 1 ∷ ArrTake 2 0 7 ∷ DictSet 1 0 2 ∷ DictTake 3 1 0
-        ∷ FieldTake 4 1 0 ∷ [];
-    lines = 3 ∷ 4 ∷ 5 ∷ 6 ∷ 7 ∷ 8 ∷ 9 ∷ [];
-    first = 2;
-    last = 10;
-  } ∷ [];
+  blocks = blocks;
+  thread_count = threads;
+  handlers = handlers;
+  modes = codes "default" ∷ [];
+  notices = [];
 }
 
--- forms on sets, bags and heaps
-abbrev pub heaps_text : List ℕ
-heaps_text =
-    codes "cf 1\nsetup\nmake s set\nmake b bag plain\nmake h heap\nset.add s b\nset.count b s\nset.take v s b\n"
-    ++ codes "heap.add h s\nheap.take w h\nheap.remove h\nend\n"
+-- `x` as setup's first variable and the thread's first one
+abbrev pub uses_x : Given
+uses_x = record { setup = Some 0; own = 0 }
 
-abbrev pub heaps_script : Script
-heaps_script = record {
-  classes = [];
-  blocks = record {
-    name = codes "setup";
-    uses = [];
-    variables = codes "s" ∷ codes "b" ∷ codes "h" ∷ codes "v" ∷ codes "w" ∷ [];
-    statements =
-        MakeSet 0 false ∷ MakeBag 1 true ∷ MakeHeap 2 false ∷ SetAdd 0 1 ∷ SetCount 1 0 ∷ SetTake 3 0 1
-        ∷ HeapAdd 2 0 ∷ HeapTake 4 2 ∷ HeapRemove 2 ∷ [];
-    lines = 3 ∷ 4 ∷ 5 ∷ 6 ∷ 7 ∷ 8 ∷ 9 ∷ 10 ∷ 11 ∷ [];
-    first = 2;
-    last = 12;
-  } ∷ [];
-}
+-- setup makes a string and a source of the handler h, a thread takes the string over, and h retains and releases
+-- `info`
+abbrev pub owned_script : Script
+owned_script = script_of_blocks (
+    block_of (codes "setup") [] (MakeString 0 (codes "hi") ∷ MakeSource 1 (pos 0) 0 None ∷ []) (3 ∷ 4 ∷ []) 2 5
+    ∷ block_of (codes "a") (uses_x ∷ []) (Release 0 ∷ []) (7 ∷ []) 6 8
+    ∷ block_of (codes "h") [] (Retain 0 ∷ Release 0 ∷ []) (10 ∷ 11 ∷ []) 9 12 ∷ [])
+    2 (record { name = codes "h"; block = Some 2 } ∷ [])
+
+-- a string that is released twice
+abbrev pub released_twice : Script
+released_twice = script_of_blocks (
+    block_of (codes "setup") [] (MakeString 0 (codes "hi") ∷ Release 0 ∷ Release 0 ∷ []) (3 ∷ 4 ∷ 5 ∷ []) 2 6 ∷ [])
+    1 []
+
+-- a handler that retains `info`
+abbrev pub kept_info : Script
+kept_info = script_of_blocks (
+    block_of (codes "setup") [] [] [] 2 3 ∷ block_of (codes "h") [] (Retain 0 ∷ []) (5 ∷ []) 4 6 ∷ [])
+    1 (record { name = codes "h"; block = Some 1 } ∷ [])
+
+-- two threads that use the one reference that setup has
+abbrev pub taken_twice : Script
+taken_twice = script_of_blocks (
+    block_of (codes "setup") [] (MakeString 0 (codes "hi") ∷ []) (3 ∷ []) 2 4
+    ∷ block_of (codes "a") (uses_x ∷ []) (Release 0 ∷ []) (6 ∷ []) 5 7
+    ∷ block_of (codes "b") (uses_x ∷ []) [] [] 8 9 ∷ [])
+    3 []
+
+-- a variable that stands twice after `uses`
+abbrev pub named_twice : Script
+named_twice = script_of_blocks (
+    block_of (codes "setup") [] (MakeString 0 (codes "hi") ∷ []) (3 ∷ []) 2 4
+    ∷ block_of (codes "a") (uses_x ∷ uses_x ∷ []) [] [] 5 6 ∷ [])
+    2 []

@@ -1,10 +1,16 @@
 -- The files of definitions of cf_syntax.
+pub mod BlockLines
 pub mod Counting
-pub mod Forms
+pub mod FormStatements
+pub mod FormTable
+pub mod FormWords
 pub mod Lines
+pub mod Mentions
 pub mod Numbers
 pub mod Owned
+pub mod Refusals
 pub mod Examples
-pub mod Table
 pub mod Text
+pub mod Spaced
+pub mod TextRows
 pub mod Words

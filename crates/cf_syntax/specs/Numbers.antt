@@ -1,5 +1,5 @@
 -- The words that are numbers, bytes and kinds. This project's own.
-use Rattle.std.specs.Prelude.{ℕ, ◌+◌, ◌-◌, ◌*◌, ◌^◌, Bool, not, ◌&&◌, ℤ, pos, neg_ℤ, List, [], ◌∷◌, length, drop, codes, Option, Some, None, slice_index, nat_lt, ◌==◌, Result, Ok, Err, if◌then◌else◌}
+use Rattle.std.specs.Prelude.{ℕ, ◌+◌, ◌-◌, ◌*◌, ◌^◌, Bool, false, not, ◌&&◌, ℤ, pos, neg_ℤ, List, [], ◌∷◌, length, drop, codes, Option, Some, None, slice_index, nat_lt, nat_le, bit_and, ◌==◌, Result, Ok, Err, if◌then◌else◌}
 use Rattle.std.specs.Option.{option_map}
 use Rattle.std.specs.List.{list_all}
 use Rattle.std.specs.Int.{is_in_range}
@@ -34,6 +34,20 @@ number_below limit word =
 -- an INDEX
 abbrev pub index_of : List ℕ → Option ℕ
 index_of word = number_below (2 ^ 32) word
+
+-- a UNUM
+abbrev pub unum_of : List ℕ → Option ℕ
+unum_of word = number_below (2 ^ 64) word
+
+-- a number of fields, which is an INDEX of at most 255
+abbrev pub is_field_count : Option ℕ → Bool
+is_field_count None = false
+is_field_count (Some n) = nat_le n 255
+
+-- a MASK: at least one of the bits 1, 2, 4, 32, 64 and 128, and no other
+abbrev pub is_mask : Option ℕ → Bool
+is_mask None = false
+is_mask (Some n) = nat_lt 0 n && bit_and n 231 == n
 
 -- an INT: a numeral, with - (45) before it where it is negative
 abbrev pub integer_of : List ℕ → Option ℤ

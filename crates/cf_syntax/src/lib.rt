@@ -1,24 +1,28 @@
-//! What a script is: its classes, blocks and statements, the refusals of a text, and the definitions of a
-//! script's text and of an owned script.
+//! What a script is: its classes, blocks, statements and names, the refusals of a text and of a script, and the
+//! definitions of a script's text and of an owned script.
 #![tactic(auto)]
 
 mod counts;
 mod examples;
 mod form;
+mod laws;
 mod literal;
+mod mention;
+mod ownership;
 mod place;
 mod refusal;
 mod script;
 mod statement;
+mod text_rows;
 
 pub use counts::Counts;
-pub use examples::{a_text_and_its_script, heaps_and_their_script, members_and_their_script};
-pub use form::{
-    ArrayForm, Collection, DataForm, DictForm, FieldForm, HeapForm, Operand, PlainForm, SetForm,
-    StatementForm, TextForm,
-};
+pub use examples::{a_script_that_is_owned, an_owned_script_fits, scripts_that_are_not_owned};
+pub use form::{BlockKind, NameTable, Operand, StatementForm};
+pub use laws::each_text_is_read_or_refused;
 pub use literal::{DataLiteral, TextLiteral};
+pub use mention::{Mention, ModeWord, Ownership, ThreadWord};
 pub use place::Place;
 pub use refusal::{Reason, Refusal};
-pub use script::{Block, ClassLine, Given, Script};
-pub use statement::{Ownership, Statement};
+pub use script::{Block, ClassLine, Given, Handler, Script};
+pub use statement::Statement;
+pub use text_rows::{a_text_and_its_script, texts_with_faulty_blocks, texts_with_faulty_lines};

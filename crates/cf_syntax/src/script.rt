@@ -1,6 +1,10 @@
-//! A script, its classes and its blocks.
+//! A script, its classes, its blocks and its names.
+ghost use Rattle.std.specs.Prelude.{◌≡◌, slice_get};
+ghost use Rattle.std.specs.Option.{option_copied, option_map};
+ghost use Rattle.cf_syntax.specs.BlockLines.{handler_block};
+
 use crate::statement::Statement;
-use cf_ids::{Seq, VarId};
+use cf_ids::{HandlerId, ModeId, NameId, Seq, VarId};
 
 /// A class line: the class with the type number 14 and the number of class lines before it.
 #[derive(Drop)]
@@ -23,12 +27,13 @@ pub struct Given {
     pub own: VarId,
 }
 
-/// A block: its name, its variables in the order of first use, and its statements.
+/// A block: its name, its variables in the order of first use, and its statements. In a handler's block variable 0
+/// is `info`.
 #[derive(Drop)]
 pub struct Block {
     /// The name; that of the setup block is `setup`.
     pub name: Seq<u8>,
-    /// What the block takes from setup.
+    /// What the block takes from setup; nothing but in the block of a thread.
     pub uses: Seq<Given>,
     /// The names of the variables, by number.
     pub variables: Seq<Seq<u8>>,
@@ -42,11 +47,90 @@ pub struct Block {
     pub last: u32,
 }
 
-/// A script: its classes, and its blocks in the order of the file, of which setup is the first.
+/// A handler that a script names.
+#[derive(Drop)]
+pub struct Handler {
+    /// The name, a NAME.
+    pub name: Seq<u8>,
+    /// The number of its block; none if the script has no block of this handler.
+    pub block: Option<usize>,
+}
+
+/// A script: its classes, its blocks in the order of the file, and the names of its handlers, modes and notices in the
+/// order of first use. The first block is setup, those of threads follow, and then those of handlers. Mode 0 is
+/// `default`.
 #[derive(Drop)]
 pub struct Script {
     /// The class lines, in order.
     pub classes: Seq<ClassLine>,
     /// The blocks, in order.
     pub blocks: Seq<Block>,
+    /// How many of the blocks are those of threads, with setup.
+    pub thread_count: usize,
+    /// The handlers, by number.
+    pub handlers: Seq<Handler>,
+    /// The names of the modes, by number.
+    pub modes: Seq<Seq<u8>>,
+    /// The names of the notices, by number.
+    pub notices: Seq<Seq<u8>>,
+}
+
+impl Script {
+    /// The class line of type 14 plus this number, and none if there is no such line.
+    pub fn class(&self, i: usize) -> Option<&ClassLine>
+        ensures { option_copied result ≡ slice_get self.now.classes i }
+    {
+        self.classes.as_slice().get(i)
+    }
+
+    /// The block with this number, and none if there is none. Thread t has block t.
+    pub fn block(&self, i: usize) -> Option<&Block>
+        ensures { option_copied result ≡ slice_get self.now.blocks i }
+    {
+        self.blocks.as_slice().get(i)
+    }
+
+    /// How many threads there are, with setup.
+    pub fn threads(&self) -> usize
+        ensures { result ≡ self.now.thread_count }
+    {
+        self.thread_count
+    }
+
+    /// The number of a handler's block, and none if the script has none of that handler.
+    pub fn handler(&self, h: HandlerId) -> Option<usize>
+        ensures { result ≡ handler_block self.now h }
+    {
+        let handler = self.handlers.as_slice().get(usize::from(h.0))?;
+        let block = handler.block?;
+        if block < self.thread_count {
+            None
+        } else {
+            Some(block)
+        }
+    }
+
+    /// The name of a handler, and none if no handler has this number.
+    pub fn handler_name(&self, h: HandlerId) -> Option<&[u8]>
+        ensures { option_copied result ≡ option_map (λ x. x.name) (slice_get self.now.handlers h) }
+    {
+        let handler = self.handlers.as_slice().get(usize::from(h.0))?;
+        Some(handler.name.as_slice())
+    }
+
+    /// The name of a mode, and none if no mode has this number.
+    pub fn mode(&self, m: ModeId) -> Option<&[u8]>
+        ensures { option_copied result ≡ slice_get self.now.modes m }
+    {
+        let name = self.modes.as_slice().get(usize::from(m.0))?;
+        Some(name.as_slice())
+    }
+
+    /// The name of a notice, and none if no notice has this number.
+    pub fn notice(&self, n: NameId) -> Option<&[u8]>
+        ensures { option_copied result ≡ slice_get self.now.notices n }
+    {
+        let name = self.notices.as_slice().get(usize::from(n.0))?;
+        Some(name.as_slice())
+    }
 }

@@ -1,12 +1,11 @@
 //! The statements of a script.
-ghost use Rattle.std.specs.Prelude.{◌≡◌, ◌≤◌, length, slice_get};
-ghost use Rattle.cf_syntax.specs.Forms.{ownership_of, used_by, is_known, makes_object, pad};
-
 use crate::literal::{DataLiteral, TextLiteral};
-use cf_ids::{TypeId, VarId};
+use crate::mention::{ModeWord, ThreadWord};
+use cf_ids::{HandlerId, ModeId, NameId, TypeId, VarId};
 use cf_number::{Num, NumKind};
 
-/// A statement: one variant for each form of the language. `variable` is the form's first variable.
+/// A statement: one variant for each form of the language. `variable` is the form's first
+/// variable. A form with an INFO that is `nil`, or with `any`, has none there.
 #[derive(Drop)]
 pub enum Statement {
     /// `make V string TEXT`: a new immutable string, which V owns.
@@ -50,6 +49,47 @@ pub enum Statement {
     MakeDict {
         variable: VarId,
         plain: bool,
+    },
+    /// `make V set` and `make V set plain`: a new set without members.
+    MakeSet {
+        variable: VarId,
+        plain: bool,
+    },
+    /// `make V bag` and `make V bag plain`: a new bag without members.
+    MakeBag {
+        variable: VarId,
+        plain: bool,
+    },
+    /// `make V heap` and `make V heap plain`: a new heap without elements.
+    MakeHeap {
+        variable: VarId,
+        plain: bool,
+    },
+    /// `make V source INT HANDLER INFO`: a new source of run loops. `order` is its place among the sources of a mode.
+    MakeSource {
+        variable: VarId,
+        order: i64,
+        handler: HandlerId,
+        info: Option<VarId>,
+    },
+    /// `make V timer UNUM UNUM HANDLER INFO`: a new timer with its first date and its interval, both in ticks. An
+    /// interval of 0 stands for a timer that fires once.
+    MakeTimer {
+        variable: VarId,
+        first: u64,
+        interval: u64,
+        handler: HandlerId,
+        info: Option<VarId>,
+    },
+    /// `make V observer MASK once|repeats INT HANDLER INFO`: a new observer of the activities in the mask, whose bits
+    /// are 1, 2, 4, 32, 64 and 128.
+    MakeObserver {
+        variable: VarId,
+        mask: u8,
+        repeats: bool,
+        order: i64,
+        handler: HandlerId,
+        info: Option<VarId>,
     },
     /// `retain V`: one more reference.
     Retain {
@@ -174,66 +214,6 @@ pub enum Statement {
         dictionary: VarId,
         key: VarId,
     },
-    /// `make V set` and `make V set plain`: a new set without members.
-    MakeSet {
-        variable: VarId,
-        plain: bool,
-    },
-    /// `make V bag` and `make V bag plain`: a new bag without members.
-    MakeBag {
-        variable: VarId,
-        plain: bool,
-    },
-    /// `make V heap` and `make V heap plain`: a new binary heap without elements.
-    MakeHeap {
-        variable: VarId,
-        plain: bool,
-    },
-    /// `set.add S X`: puts X after the last member of the set or bag S if none is equal; a bag counts it.
-    SetAdd {
-        variable: VarId,
-        element: VarId,
-    },
-    /// `set.set S X`: puts X in place of the member equal to it, or after the last one.
-    SetSet {
-        variable: VarId,
-        element: VarId,
-    },
-    /// `set.replace S X`: puts X in place of the member equal to it, if there is one.
-    SetReplace {
-        variable: VarId,
-        element: VarId,
-    },
-    /// `set.remove S X`: takes out the member equal to X; a bag counts one less, and takes out the last.
-    SetRemove {
-        variable: VarId,
-        element: VarId,
-    },
-    /// `set.count S X`: how many members equal to X there are.
-    SetCount {
-        variable: VarId,
-        element: VarId,
-    },
-    /// `set.take V S X`: binds V to the member equal to X, if there is one.
-    SetTake {
-        variable: VarId,
-        set: VarId,
-        element: VarId,
-    },
-    /// `heap.add H X`: puts X into the heap H.
-    HeapAdd {
-        variable: VarId,
-        element: VarId,
-    },
-    /// `heap.take V H`: binds V to the least element of H, of equal ones the earliest, if there is one.
-    HeapTake {
-        variable: VarId,
-        heap: VarId,
-    },
-    /// `heap.remove H`: takes out the least element, of equal ones the earliest.
-    HeapRemove {
-        variable: VarId,
-    },
     /// `field.set O INDEX X`: lets a field of the instance O be X.
     FieldSet {
         variable: VarId,
@@ -251,174 +231,108 @@ pub enum Statement {
         instance: VarId,
         at: u32,
     },
-}
-
-/// What a statement does to the number of references that a variable of its block owns.
-#[derive(Clone, Copy)]
-pub enum Ownership {
-    /// Nothing.
-    Keeps,
-    /// It binds the variable, which then owns one where an object was found.
-    Binds(VarId),
-    /// One more.
-    Retains(VarId),
-    /// One less.
-    Releases(VarId),
-}
-
-impl Statement {
-    /// What the statement does to a variable's count.
-    pub fn ownership(&self) -> Ownership
-        ensures { result ≡ ownership_of self.now }
-    {
-        match self {
-            Statement::MakeString { variable, .. }
-            | Statement::MakeMstring { variable, .. }
-            | Statement::MakeData { variable, .. }
-            | Statement::MakeMdata { variable, .. }
-            | Statement::MakeNumber { variable, .. }
-            | Statement::New { variable, .. }
-            | Statement::MakeArray { variable, .. }
-            | Statement::MakeDict { variable, .. }
-            | Statement::MakeSet { variable, .. }
-            | Statement::MakeBag { variable, .. }
-            | Statement::MakeHeap { variable, .. }
-            | Statement::StrSub { variable, .. }
-            | Statement::ArrTake { variable, .. }
-            | Statement::DictTake { variable, .. }
-            | Statement::SetTake { variable, .. }
-            | Statement::HeapTake { variable, .. }
-            | Statement::FieldTake { variable, .. } => Ownership::Binds(*variable),
-            Statement::Retain { variable } => Ownership::Retains(*variable),
-            Statement::Release { variable } => Ownership::Releases(*variable),
-            _ => Ownership::Keeps,
-        }
-    }
-
-    /// The variables that the statement uses, in the order of its words, then nothing.
-    pub fn uses(&self) -> [Option<VarId>; 3]
-        ensures { result ≡ pad (used_by self.now) }
-    {
-        [self.first_used(), self.second_used(), self.third_used()]
-    }
-
-    /// The first variable that it uses.
-    fn first_used(&self) -> Option<VarId>
-        ensures { result ≡ slice_get (used_by self.now) 0 }
-    {
-        match self {
-            Statement::MakeString { .. }
-            | Statement::MakeMstring { .. }
-            | Statement::MakeData { .. }
-            | Statement::MakeMdata { .. }
-            | Statement::MakeNumber { .. }
-            | Statement::New { .. }
-            | Statement::MakeArray { .. }
-            | Statement::MakeDict { .. }
-            | Statement::MakeSet { .. }
-            | Statement::MakeBag { .. }
-            | Statement::MakeHeap { .. } => None,
-            Statement::StrSub { text, .. } => Some(*text),
-            Statement::ArrTake { array, .. } => Some(*array),
-            Statement::DictTake { dictionary, .. } => Some(*dictionary),
-            Statement::SetTake { set, .. } => Some(*set),
-            Statement::HeapTake { heap, .. } => Some(*heap),
-            Statement::FieldTake { instance, .. } => Some(*instance),
-            Statement::Retain { variable }
-            | Statement::Release { variable }
-            | Statement::Show { variable }
-            | Statement::StrAppend { variable, .. }
-            | Statement::StrInsert { variable, .. }
-            | Statement::StrDelete { variable, .. }
-            | Statement::StrReplace { variable, .. }
-            | Statement::DataAppend { variable, .. }
-            | Statement::DataReplace { variable, .. }
-            | Statement::DataDelete { variable, .. }
-            | Statement::NumAs { variable, .. }
-            | Statement::ArrAppend { variable, .. }
-            | Statement::ArrInsert { variable, .. }
-            | Statement::ArrSet { variable, .. }
-            | Statement::ArrRemove { variable, .. }
-            | Statement::DictAdd { variable, .. }
-            | Statement::DictSet { variable, .. }
-            | Statement::DictReplace { variable, .. }
-            | Statement::DictRemove { variable, .. }
-            | Statement::SetAdd { variable, .. }
-            | Statement::SetSet { variable, .. }
-            | Statement::SetReplace { variable, .. }
-            | Statement::SetRemove { variable, .. }
-            | Statement::SetCount { variable, .. }
-            | Statement::HeapAdd { variable, .. }
-            | Statement::HeapRemove { variable }
-            | Statement::FieldSet { variable, .. }
-            | Statement::FieldClear { variable, .. } => Some(*variable),
-        }
-    }
-
-    /// The second one.
-    fn second_used(&self) -> Option<VarId>
-        ensures { result ≡ slice_get (used_by self.now) 1 }
-    {
-        match self {
-            Statement::StrAppend { other, .. } => Some(*other),
-            Statement::ArrAppend { element, .. }
-            | Statement::ArrInsert { element, .. }
-            | Statement::ArrSet { element, .. }
-            | Statement::SetAdd { element, .. }
-            | Statement::SetSet { element, .. }
-            | Statement::SetReplace { element, .. }
-            | Statement::SetRemove { element, .. }
-            | Statement::SetCount { element, .. }
-            | Statement::SetTake { element, .. }
-            | Statement::HeapAdd { element, .. }
-            | Statement::FieldSet { element, .. } => Some(*element),
-            Statement::DictAdd { key, .. }
-            | Statement::DictSet { key, .. }
-            | Statement::DictReplace { key, .. }
-            | Statement::DictRemove { key, .. }
-            | Statement::DictTake { key, .. } => Some(*key),
-            _ => None,
-        }
-    }
-
-    /// The third one, which is the last.
-    fn third_used(&self) -> Option<VarId>
-        ensures third { result ≡ slice_get (used_by self.now) 2 }
-        ensures few { length (used_by self.now) ≤ 3 }
-    {
-        match self {
-            Statement::DictAdd { value, .. }
-            | Statement::DictSet { value, .. }
-            | Statement::DictReplace { value, .. } => Some(*value),
-            _ => None,
-        }
-    }
-
-    /// Whether the class that the statement names, if it names one, is one of the script.
-    pub fn is_known(&self) -> bool
-        ensures { result ≡ is_known self.now }
-    {
-        !matches!(self, Statement::New { class: None, .. })
-    }
-
-    /// Whether the statement is of a form that makes an object, or may make one.
-    pub fn makes_object(&self) -> bool
-        ensures { result ≡ makes_object self.now }
-    {
-        matches!(
-            self,
-            Statement::MakeString { .. }
-                | Statement::MakeMstring { .. }
-                | Statement::MakeData { .. }
-                | Statement::MakeMdata { .. }
-                | Statement::MakeNumber { .. }
-                | Statement::MakeArray { .. }
-                | Statement::MakeDict { .. }
-                | Statement::MakeSet { .. }
-                | Statement::MakeBag { .. }
-                | Statement::MakeHeap { .. }
-                | Statement::New { .. }
-                | Statement::StrSub { .. }
-        )
-    }
+    /// `set.add S X`: adds X to the set or bag S.
+    SetAdd {
+        variable: VarId,
+        element: VarId,
+    },
+    /// `set.set S X`: puts X in place of the member equal to it, or adds it.
+    SetSet {
+        variable: VarId,
+        element: VarId,
+    },
+    /// `set.replace S X`: puts X in place of the member equal to it, where there is one.
+    SetReplace {
+        variable: VarId,
+        element: VarId,
+    },
+    /// `set.remove S X`: takes out the member equal to X; of a bag, one of its occurrences.
+    SetRemove {
+        variable: VarId,
+        element: VarId,
+    },
+    /// `set.count S X`: how often members equal to X occur.
+    SetCount {
+        variable: VarId,
+        element: VarId,
+    },
+    /// `set.take V S X`: binds V to the member of S that is equal to X, where there is one.
+    SetTake {
+        variable: VarId,
+        set: VarId,
+        element: VarId,
+    },
+    /// `heap.add H X`: adds X to the heap H.
+    HeapAdd {
+        variable: VarId,
+        element: VarId,
+    },
+    /// `heap.take V H`: binds V to the least element of H, where there is one.
+    HeapTake {
+        variable: VarId,
+        heap: VarId,
+    },
+    /// `heap.remove H`: takes out the least element.
+    HeapRemove {
+        variable: VarId,
+    },
+    /// `add I THREAD MODE`: puts an item into a mode of a thread's run loop, or into its common items.
+    Add {
+        item: VarId,
+        thread: ThreadWord,
+        mode: ModeWord,
+    },
+    /// `drop I THREAD MODE`: takes an item out of a mode of a thread's run loop, or out of its common items.
+    Drop {
+        item: VarId,
+        thread: ThreadWord,
+        mode: ModeWord,
+    },
+    /// `common THREAD MODE`: makes a mode of a thread's run loop a common one.
+    Common {
+        thread: ThreadWord,
+        mode: ModeId,
+    },
+    /// `signal S`: signals a source.
+    Signal {
+        source: VarId,
+    },
+    /// `invalidate I`: makes an item invalid, which takes it out of every mode.
+    Invalidate {
+        item: VarId,
+    },
+    /// `wake THREAD`: wakes a thread's run loop.
+    Wake {
+        thread: ThreadWord,
+    },
+    /// `stop THREAD`: stops the innermost run of a thread's run loop.
+    Stop {
+        thread: ThreadWord,
+    },
+    /// `run MODE UNUM`, `run MODE forever`, each also with a last word `once`: runs the loop of the thread in a mode,
+    /// for so many ticks at most, or without a limit where there is none.
+    Run {
+        mode: ModeId,
+        limit: Option<u64>,
+        once: bool,
+    },
+    /// `observe V HANDLER NAME|any X|any`: registers V for the notices of a name, or of any, that are posted with the
+    /// object of X, or with any or none.
+    Observe {
+        observer: VarId,
+        handler: HandlerId,
+        name: Option<NameId>,
+        filter: Option<VarId>,
+    },
+    /// `forget V NAME|any X|any`: takes out registrations of V.
+    Forget {
+        observer: VarId,
+        name: Option<NameId>,
+        filter: Option<VarId>,
+    },
+    /// `post NAME INFO`: posts a notice.
+    Post {
+        name: NameId,
+        info: Option<VarId>,
+    },
 }

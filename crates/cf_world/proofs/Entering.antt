@@ -5,7 +5,7 @@ use Rattle.std.proofs.lemmas.Bool.Decides.{nat_tests}
 use Rattle.cf_graph.specs.Edges.{counted}
 use Rattle.cf_syntax.specs.declared.script.Script.{Script}
 use Rattle.cf_syntax.specs.declared.statement.Statement.{Statement}
-use Rattle.cf_syntax.specs.Forms.{ownership_of, used_by, pad}
+use Rattle.cf_syntax.specs.Mentions.{ownership_of, used_by, pad}
 use Rattle.cf_syntax.specs.Owned.{Owned}
 use Rattle.cf_contents.specs.Contents.{Object, times}
 use Rattle.cf_contents.specs.Deeds.{first_of, object_of, deed_at, taken_in, given_out}

@@ -1,15 +1,15 @@
 -- A world that goes on by an entry is at the state after it.
 use Rattle.std.proofs.Common.{◌≡◌, ℕ, zero, suc, ◌+◌, ◌<◌, Bool, true, false, ◌&&◌, List, [], ◌∷◌, ◌++◌, length, Option, Some, None, ltb, ◌==◌, refl, sym, ap, ◌∙◌, subst, arith, length-append}
-use Rattle.std.specs.Prelude.{slice_get, IfSome, IsSome, IsSomeAnd}
+use Rattle.std.specs.Prelude.{slice_get, IfSome, IsSomeAnd}
 use Rattle.std.proofs.lemmas.Bool.Decides.{nat_tests}
 use Rattle.cf_ids.specs.declared.answer.Answer.{Answer}
 use Rattle.cf_ids.specs.declared.answer.Answer.TheVariants as answers
 use Rattle.cf_ids.specs.declared.answer.Ended.{Ended}
 use Rattle.cf_syntax.specs.declared.script.Script.{Script}
 use Rattle.cf_syntax.specs.declared.statement.Statement.{Statement}
-use Rattle.cf_syntax.specs.declared.statement.Ownership.{Ownership}
-use Rattle.cf_syntax.specs.declared.statement.Ownership.TheVariants.{Keeps, Binds, Retains, Releases}
-use Rattle.cf_syntax.specs.Forms.{ownership_of, makes_object}
+use Rattle.cf_syntax.specs.declared.mention.Ownership.{Ownership}
+use Rattle.cf_syntax.specs.declared.mention.Ownership.TheVariants.{Keeps, Binds, Retains, Releases}
+use Rattle.cf_syntax.specs.Mentions.{ownership_of, makes_object}
 use Rattle.cf_contents.specs.Contents.{Object, times}
 use Rattle.cf_contents.specs.Deeds.{Origin, nowhere, fresh, there, first_of, deed_at}
 use Rattle.cf_contents.proofs.FormLaws.{MakesOnly, form_fits}

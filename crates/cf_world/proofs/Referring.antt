@@ -1,5 +1,5 @@
 -- The references by the parts of a world are those of the state, each as often.
-use Rattle.std.proofs.Common.{◌≡◌, ℕ, zero, suc, ◌+◌, ◌-◌, ◌<◌, ◌≤◌, Bool, List, [], ◌∷◌, ◌++◌, length, take, map, replicate, get_or, Option, Some, None, refl, sym, ap, ◌∙◌, subst, arith, inl, inr, append_assoc}
+use Rattle.std.proofs.Common.{◌≡◌, ℕ, zero, suc, ◌+◌, ◌-◌, ◌<◌, ◌≤◌, ◌^◌, Bool, List, [], ◌∷◌, ◌++◌, length, take, map, replicate, get_or, Option, Some, None, refl, sym, ap, ◌∙◌, subst, arith, inl, inr, append_assoc}
 use Rattle.std.specs.Prelude.{slice_get, count_by}
 use Rattle.std.proofs.lemmas.List.{map-append}
 use Rattle.std.proofs.lemmas.Bool.Decides.{eqb_tells}
@@ -11,8 +11,10 @@ use Rattle.cf_graph.proofs.Degrees.{same_counts}
 use Rattle.cf_syntax.specs.declared.counts.Counts.{Counts}
 use Rattle.cf_syntax.specs.declared.script.Script.{Script}
 use Rattle.cf_syntax.specs.declared.statement.Statement.{Statement}
-use Rattle.cf_syntax.specs.Counting.{Counted}
-use Rattle.cf_syntax.specs.Owned.{given, released}
+use Rattle.cf_syntax.specs.BlockLines.{BlockLine, says}
+use Rattle.cf_syntax.specs.Counting.{Counted, HasRoom}
+use Rattle.cf_syntax.specs.Owned.{bound_by, given_by, released_by}
+use Rattle.cf_syntax.proofs.OwnedLaws.{total_le, bound_by_le, given_by_le, taken_by_le}
 use Rattle.cf_contents.specs.Contents.{times}
 use Rattle.cf_contents.specs.Stores.{Held, MayGrow, left_in, left_to}
 use Rattle.cf_contents.proofs.BodyLaws.{length-objects}
@@ -34,7 +36,7 @@ use Rattle.cf_world.specs.Worlds.{WorldView, state_of}
 use Rattle.cf_world.specs.Inside.{view_of, IsWorld}
 use Rattle.cf_world.specs.declared.world.World.TheInside.{Inside}
 use Rattle.cf_world.proofs.Acting.{begun_is}
-use Rattle.cf_world.specs.Referring.{below, held_references, copies, counted_references, variable_references, owed_references, slot_references}
+use Rattle.cf_world.specs.Referring.{given, released, below, held_references, copies, counted_references, variable_references, owed_references, slot_references}
 use Rattle.cf_world.proofs.Mirroring.{left-mirrors}
 
 -- ---- lists, one after another
@@ -264,7 +266,7 @@ edges-held v (Some o) n = each n
     each (suc n) = ap (λ (es : List Edge). edge_of (owed_reference 0 o) ∷ es) (each n)
 
 -- the counts are those after statements
-pub counted-same : (table : List (Option ℕ)) (c : Counts) (earlier : List Statement) → Counted c earlier → below (counted_references table c) 256 ≡ below (variable_references table earlier) 256
+pub counted-same : (table : List (Option ℕ)) (c : Counts) (earlier : List Statement) → Counted c (map says earlier) → below (counted_references table c) 256 ≡ below (variable_references table earlier) 256
 counted-same table c earlier t =
     below-same (counted_references table c) (variable_references table earlier) 256
     (λ v small. ap (λ (n : ℕ). held_references v (held_at table v) (n - get_or c.released v 0)) (t.gives v small) ∙ ap (λ (n : ℕ). held_references v (held_at table v) (given v earlier - n)) (t.takes v small))
@@ -347,7 +349,7 @@ world-edges s journal bodies table items number is_done p es at is =
     edges_same s (After s journal) bodies table items number is_done (sound s journal at.owned at.legal) at.follows p es is
 
 -- what is added one after another is all of them
-pub edges-whole : (table : List (Option ℕ)) (c : Counts) (done earlier : List Statement) (us items : List Item) (start held owed_too all_of slots : List Edge) → start ≡ [] → held ≡ start ++ edges_of (below (counted_references table c) 256) → owed_too ≡ held ++ edges_of (owed_references us) → us ≡ items → all_of ≡ owed_too ++ slots → Counted c done → done ≡ earlier → all_of ≡ (edges_of (below (variable_references table earlier) 256) ++ edges_of (owed_references items)) ++ slots
+pub edges-whole : (table : List (Option ℕ)) (c : Counts) (done earlier : List Statement) (us items : List Item) (start held owed_too all_of slots : List Edge) → start ≡ [] → held ≡ start ++ edges_of (below (counted_references table c) 256) → owed_too ≡ held ++ edges_of (owed_references us) → us ≡ items → all_of ≡ owed_too ++ slots → Counted c (map says done) → done ≡ earlier → all_of ≡ (edges_of (below (variable_references table earlier) 256) ++ edges_of (owed_references items)) ++ slots
 edges-whole table c done earlier us items start held owed_too all_of slots none first second same third tallied is =
     let held_is : held ≡ edges_of (below (variable_references table earlier) 256) =
     first ∙ ap (λ (es : List Edge). es ++ edges_of (below (counted_references table c) 256)) none
@@ -362,7 +364,15 @@ view-edges w s view p es script inv is here =
     ∙ ap (λ (st : State). count_by p (edges_of st.edges)) (sym state_is ∙ ap state_of is)
 
 -- running counts of statements that take no more than they gave
-pub counts_own : (c : Counts) (done earlier : List Statement) → Counted c done → done ≡ earlier → ((v : ℕ) → released v earlier ≤ given v earlier)
+pub counts_own : (c : Counts) (done earlier : List Statement) → Counted c (map says done) → done ≡ earlier → ((v : ℕ) → released v earlier ≤ given v earlier)
     → (v : ℕ) → v < 256 → get_or c.released v 0 ≤ get_or c.given v 0
 counts_own c done earlier counted is owns v small =
     let most = rw (← is) at (owns v) in omega (arith, counted.gives v small, counted.takes v small, most)
+
+-- running counts of fewer than 2^64 lines can rise
+pub room_for_one : (c : Counts) (earlier : List BlockLine) → Counted c earlier → length earlier + 1 < 2 ^ 64 → HasRoom c 1
+room_for_one c earlier counted few = record {
+  binds = λ v small. omega (arith, counted.binds v small, total_le (bound_by v) (bound_by_le v) earlier);
+  gives = λ v small. omega (arith, counted.gives v small, total_le (given_by v) (given_by_le v) earlier);
+  takes = λ v small. omega (arith, counted.takes v small, total_le (released_by v) (taken_by_le v) earlier);
+}

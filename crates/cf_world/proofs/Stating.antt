@@ -3,9 +3,9 @@ use Rattle.std.proofs.Common.{◌≡◌, ℕ, ◌+◌, Bool, true, cond, List, [
 use Rattle.std.specs.Prelude.{IfSome, IsSome}
 use Rattle.cf_ids.specs.declared.answer.Answer.{Answer}
 use Rattle.cf_syntax.specs.declared.statement.Statement.{Statement}
-use Rattle.cf_syntax.specs.declared.statement.Ownership.{Ownership}
-use Rattle.cf_syntax.specs.declared.statement.Ownership.TheVariants.{Keeps, Binds, Retains, Releases}
-use Rattle.cf_syntax.specs.Forms.{ownership_of}
+use Rattle.cf_syntax.specs.declared.mention.Ownership.{Ownership}
+use Rattle.cf_syntax.specs.declared.mention.Ownership.TheVariants.{Keeps, Binds, Retains, Releases}
+use Rattle.cf_syntax.specs.Mentions.{ownership_of}
 use Rattle.cf_contents.specs.Contents.{present}
 use Rattle.cf_contents.specs.Deeds.{Origin, nowhere, fresh, there, Change, first_of, object_of, taken_in, given_out}
 use Rattle.cf_contents.specs.Stores.{Held, Ready, live, objects_of, body_changed, bodies_changed}

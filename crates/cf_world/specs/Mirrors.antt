@@ -5,9 +5,9 @@ use Rattle.cf_ids.specs.declared.answer.Answer.TheVariants as answers
 use Rattle.cf_ids.specs.declared.answer.Ended.{Ended}
 use Rattle.cf_ids.specs.declared.answer.Ended.TheVariants.{More, Last}
 use Rattle.cf_syntax.specs.declared.statement.Statement.{Statement}
-use Rattle.cf_syntax.specs.declared.statement.Ownership.{Ownership}
-use Rattle.cf_syntax.specs.declared.statement.Ownership.TheVariants.{Keeps, Binds, Retains, Releases}
-use Rattle.cf_syntax.specs.Forms.{used_by, pad}
+use Rattle.cf_syntax.specs.declared.mention.Ownership.{Ownership}
+use Rattle.cf_syntax.specs.declared.mention.Ownership.TheVariants.{Keeps, Binds, Retains, Releases}
+use Rattle.cf_syntax.specs.Mentions.{used_by, pad}
 use Rattle.cf_contents.specs.Contents.{Object, times, present}
 use Rattle.cf_contents.specs.Deeds.{Origin, nowhere, fresh, there}
 use Rattle.cf_contents.specs.Stores.{Held, Ready, live, objects_of, with_body, body_finalised, bodies_changed, is_live_in, given_up_in, left_in}

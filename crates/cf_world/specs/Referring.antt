@@ -2,7 +2,8 @@
 use Rattle.std.specs.Prelude.{ℕ, zero, suc, ◌-◌, ◌≤◌, List, [], ◌∷◌, ◌++◌, map, replicate, Option, Some, None, slice_index}
 use Rattle.cf_syntax.specs.declared.counts.Counts.{Counts}
 use Rattle.cf_syntax.specs.declared.statement.Statement.{Statement}
-use Rattle.cf_syntax.specs.Owned.{given, released}
+use Rattle.cf_syntax.specs.BlockLines.{says}
+use Rattle.cf_syntax.specs.Owned as owned
 use Rattle.cf_graph.specs.declared.edge.Edge.{Edge}
 use Rattle.cf_graph.specs.Edges.{Reference, edge_of}
 use Rattle.cf_contents.specs.Stores.{Held, left_in}
@@ -29,6 +30,13 @@ copies (Some o) n = replicate n (edge_of (owed_reference 0 o))
 -- the references of a variable, as many as counts say
 abbrev pub counted_references : List (Option ℕ) → Counts → ℕ → List Reference
 counted_references table c v = held_references v (held_at table v) (slice_index c.given v - slice_index c.released v)
+
+-- how many references statements give to a variable, and take from it
+abbrev pub given : ℕ → List Statement → ℕ
+given v earlier = owned.given v (map says earlier)
+
+abbrev pub released : ℕ → List Statement → ℕ
+released v earlier = owned.released v (map says earlier)
 
 -- the references of a variable, as many as it owns after statements
 abbrev pub variable_references : List (Option ℕ) → List Statement → ℕ → List Reference

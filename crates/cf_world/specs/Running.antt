@@ -2,7 +2,7 @@
 use Rattle.std.specs.Prelude.{◌≡◌, ℕ, ◌+◌, ◌<◌, ◌≤◌, Bool, true, false, List, [], ◌∷◌, length, Option, Some, None, not, ◌&&◌, nat_le, if◌then◌else◌}
 use Rattle.cf_syntax.specs.declared.script.Script.{Script}
 use Rattle.cf_syntax.specs.declared.statement.Statement.{Statement}
-use Rattle.cf_syntax.specs.Forms.{ownership_of, makes_object}
+use Rattle.cf_syntax.specs.Mentions.{ownership_of, makes_object}
 use Rattle.cf_syntax.specs.Owned.{Owned}
 use Rattle.cf_contents.specs.Deeds.{first_of}
 use Rattle.cf_contents.specs.Stores.{Held, Ready, ready_deed, with_body, body_dropped, is_live_in, left_in}

@@ -1,11 +1,9 @@
 -- The work of a thread as the program keeps it: the first item stands last.
-use Rattle.std.specs.Prelude.{◌≡◌, ℕ, ◌+◌, Bool, false, List, [], ◌∷◌, ◌++◌, length, map, Option, Some, None, ◌==◌, if◌then◌else◌}
+use Rattle.std.specs.Prelude.{◌≡◌, ℕ, ◌+◌, Bool, false, List, [], ◌∷◌, ◌++◌, length, map, Option, Some, None, ◌==◌}
 use Rattle.cf_syntax.specs.declared.statement.Statement.{Statement}
-use Rattle.cf_syntax.specs.declared.statement.Ownership.{Ownership}
-use Rattle.cf_syntax.specs.declared.statement.Ownership.TheVariants.{Keeps, Binds, Retains, Releases}
-use Rattle.cf_syntax.specs.Forms.{ownership_of}
+use Rattle.cf_syntax.specs.Mentions.{ownership_of}
 use Rattle.cf_contents.specs.Deeds.{object_of, taken_in, given_out}
-use Rattle.cf_contents.specs.Stores.{Held, Ready, objects_of, is_live_in, left_in}
+use Rattle.cf_contents.specs.Stores.{Held, Ready, objects_of, left_in}
 use Rattle.cf_model.specs.State.{Work, release_of, slots_of}
 use Rattle.cf_model.specs.Steps.{answer_of}
 use Rattle.cf_model.specs.declared.action.Entry.{Entry}

@@ -1,5 +1,6 @@
 //! The references that there are.
-ghost use Rattle.std.specs.Prelude.{◌≡◌, ℕ, ◌<◌, ◌≤◌, [], ◌∷◌, ◌++◌, length, take, replicate, slice_index, OnOk, IfOk};
+ghost use Rattle.std.specs.Prelude.{◌≡◌, ℕ, ◌<◌, ◌≤◌, [], ◌∷◌, ◌++◌, length, map, take, replicate, slice_index, OnOk, IfOk};
+ghost use Rattle.cf_syntax.specs.BlockLines.{says};
 ghost use Rattle.cf_syntax.specs.Counting.{Counted};
 ghost use Rattle.cf_graph.specs.Edges.{edge_of, edges_of};
 ghost use Rattle.cf_model.specs.Steps.{owed_reference};
@@ -16,11 +17,11 @@ use std::alloc::{AllocError as NoMemory, Global};
 
 /// The counts of statements.
 fn count(statements: &[Statement]) -> Counts
-    ensures { Counted result statements.now }
+    ensures { Counted result (map says statements.now) }
 {
     let mut counts = Counts::new();
     for statement in statements {
-        counts.count(statement);
+        counts.count(statement.ownership());
     }
     counts
 }

@@ -1,6 +1,6 @@
 //! The entry of a statement that takes no reference away, and what it does to the parts of a world.
 ghost use Rattle.std.specs.Prelude.{◌≡◌, ◌+◌, ◌<◌, ◌≤◌, ◌^◌, ◌++◌, ◌∷◌, [], true, length, map, IfSome, IsSome, vec_len, vec_capacity};
-ghost use Rattle.cf_syntax.specs.Forms.{ownership_of};
+ghost use Rattle.cf_syntax.specs.Mentions.{ownership_of};
 ghost use Rattle.cf_contents.specs.Contents.{present};
 ghost use Rattle.cf_contents.specs.Deeds.{first_of};
 ghost use Rattle.cf_contents.specs.Stores.{live};

@@ -16,7 +16,7 @@ use crate::next::Next;
 use cf_graph::Edge;
 use cf_ids::{Ended, ObjId, ThreadId, TypeId};
 use cf_model::Entry;
-use cf_script::Checked;
+use cf_owncheck::Checked;
 use cf_store::Store;
 use std::alloc::{AllocError as NoMemory, Global};
 use std::marker::Model;

@@ -3,8 +3,7 @@ use Rattle.std.proofs.Common.{zero, suc, refl, lit<}
 use Rattle.std.specs.Fmt.{digits}
 use Rattle.cf_syntax.proofs.OnLiterals.{script_on_literals}
 use Rattle.cf_model.specs.Journals.{IsLegal, After, HasGivenUp}
-use Rattle.cf_model.specs.Examples.{small_journal}
-use Rattle.cf_syntax.specs.Examples.{small_script}
+use Rattle.cf_model.specs.Examples.{small_script, small_journal}
 use Rattle.cf_model.proofs.examples.a_script_and_its_lines.Goals as goal
 
 pub returns-clause-text : goal.returns-clause-text

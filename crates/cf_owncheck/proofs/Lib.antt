@@ -1,0 +1,2 @@
+-- The files of lemmas of cf_owncheck.
+pub mod Walks

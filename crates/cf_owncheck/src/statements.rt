@@ -1,0 +1,117 @@
+//! The first fault of a block's statements, by running counts.
+ghost use Rattle.std.specs.Prelude.{◌≡◌, ◌+◌, ◌<◌, ◌++◌, List, ℕ, None, length, map, slice_index};
+ghost use Rattle.cf_syntax.specs.Counting.{Counted, HasRoom};
+ghost use Rattle.cf_syntax.specs.BlockLines.{BlockLine, says};
+ghost use Rattle.cf_syntax.specs.Owned.{unbound_fault, unowned_fault, rebound_fault, thread_fault, or_else, place_fault, line_fault, statements_fault};
+
+use cf_ids::{ThreadId, VarId};
+use cf_syntax::{Counts, Mention, Reason, Refusal, Script, Statement};
+
+/// The fault of a variable that is not bound.
+pub(crate) fn unbound_fault(counts: &Counts, variable: VarId) -> Option<Reason>
+    ensures { (earlier : List BlockLine) → Counted counts.now earlier → result ≡ unbound_fault earlier variable }
+{
+    if counts.bound(variable) == 0 {
+        Some(Reason::Undefined)
+    } else {
+        None
+    }
+}
+
+/// The fault of a variable that owns no reference.
+pub(crate) fn unowned_fault(counts: &Counts, variable: VarId) -> Option<Reason>
+    ensures fault { (earlier : List BlockLine) → Counted counts.now earlier → result ≡ unowned_fault earlier variable }
+    ensures owns { result ≡ None → slice_index counts.now.released variable < slice_index counts.now.given variable }
+{
+    if counts.released(variable) < counts.given(variable) {
+        None
+    } else {
+        Some(Reason::Unowned)
+    }
+}
+
+/// The fault of a variable that is bound, where one is to be bound.
+pub(crate) fn rebound_fault(counts: &Counts, variable: VarId) -> Option<Reason>
+    ensures { (earlier : List BlockLine) → Counted counts.now earlier → result ≡ rebound_fault earlier variable }
+{
+    if counts.bound(variable) == 0 {
+        None
+    } else {
+        Some(Reason::Redefined)
+    }
+}
+
+/// The fault of a variable that is used.
+fn use_fault(counts: &Counts, variable: VarId) -> Option<Reason>
+    ensures { (earlier : List BlockLine) → Counted counts.now earlier → result ≡ or_else (unbound_fault earlier variable) (unowned_fault earlier variable) }
+{
+    match unbound_fault(counts, variable) {
+        None => unowned_fault(counts, variable),
+        fault => fault,
+    }
+}
+
+/// The fault of a thread that is named.
+fn thread_fault(script: &Script, thread: Option<ThreadId>) -> Option<Reason>
+    ensures { result ≡ thread_fault script.now thread }
+{
+    match thread {
+        None => Some(Reason::Undefined),
+        Some(thread) if usize::from(thread.0) < script.thread_count => None,
+        Some(_) => Some(Reason::Undefined),
+    }
+}
+
+/// The fault of a word that may name something.
+fn place_fault(script: &Script, counts: &Counts, mention: &Option<Mention>) -> Option<Reason>
+    ensures { (earlier : List BlockLine) → Counted counts.now earlier → result ≡ place_fault script.now earlier mention.now }
+{
+    match mention {
+        None => None,
+        Some(Mention::Binds(variable)) => rebound_fault(counts, *variable),
+        Some(Mention::Uses(variable)) => use_fault(counts, *variable),
+        Some(Mention::Class(Some(_))) => None,
+        Some(Mention::Class(None)) => Some(Reason::Undefined),
+        Some(Mention::Handler(handler)) => match script.handler(*handler) {
+            None => Some(Reason::Undefined),
+            Some(_) => None,
+        },
+        Some(Mention::Thread(thread)) => thread_fault(script, *thread),
+        Some(Mention::Unknown) => Some(Reason::Undefined),
+    }
+}
+
+/// The fault of a statement's leftmost word that has one.
+fn statement_fault(script: &Script, counts: &Counts, statement: &Statement) -> Option<Reason>
+    ensures { (earlier : List BlockLine) → Counted counts.now earlier → result ≡ line_fault script.now earlier (says statement.now) }
+{
+    let [first, second, third] = statement.mentions();
+    if let Some(reason) = place_fault(script, counts, &first) {
+        return Some(reason);
+    }
+    if let Some(reason) = place_fault(script, counts, &second) {
+        return Some(reason);
+    }
+    place_fault(script, counts, &third)
+}
+
+/// The first fault of statements, each with its line; where there is none, they are counted.
+pub(crate) fn statements_fault(
+    script: &Script,
+    counts: &mut Counts,
+    lines: &[u32],
+    statements: &[Statement],
+) -> Option<Refusal>
+    requires { HasRoom counts.old (length statements.now) }
+    ensures fault { (earlier : List BlockLine) → Counted counts.old earlier → result ≡ statements_fault script.now earlier lines.now statements.now }
+    ensures counted { (earlier : List BlockLine) → Counted counts.old earlier → result ≡ None → Counted counts.new (earlier ++ map says statements.now) }
+{
+    for (i, statement) in statements.iter().enumerate() {
+        if let Some(reason) = statement_fault(script, counts, statement) {
+            let line = lines.get(i).copied().unwrap_or(0);
+            return Some(Refusal { line, reason });
+        }
+        counts.count(statement.ownership());
+    }
+    None
+}

@@ -1,0 +1,19 @@
+-- Answers to the goals of `reader::read_script`.
+use Rattle.std.proofs.Common.{ℕ, List, ap, ◌∙◌, arith}
+use Rattle.cf_syntax.specs.Lines.{lines}
+use Rattle.cf_syntax.specs.Text.{Reading}
+use Rattle.cf_script.specs.BlockViews.{reading_of}
+use Rattle.cf_script.proofs.ThreadLaws.{finish, script_finish}
+use Rattle.cf_script.proofs.ReaderLaws.{line_refused}
+use Rattle.cf_script.proofs.reader.read_script.Goals as goal
+
+pub loop-rest-init : goal.loop-rest-init
+loop-rest-init c = record {
+  so_far = ap (λ (r : Reading). finish r (lines c.args.bytes.now)) c.in-Ok.ensures ∙ script_finish c.args.bytes.now;
+  within = omega (arith, ap (λ (r : Reading). r.count) c.in-Ok.ensures, c.requires);
+}
+
+pub returns-in-Err : goal.returns-in-Err
+returns-in-Err c =
+    line_refused (reading_of c.loop-rest.reader) (lines c.loop-rest.rest.now) c.next_line.result.0.now (lines c.next_line.result.1.now) c.args.bytes.now c.in-Err.fault c.on_line.result
+    c.loop-rest.invariant.so_far c.next_line.ensures.lines c.in-Err.ensures.read c.on_line.ensures

@@ -1,0 +1,17 @@
+-- The loop invariants of `reader::read_script`.
+use Rattle.std.proofs.Common.{◌≡◌, ◌+◌, ◌≤◌, length}
+use Rattle.cf_syntax.specs.Lines.{lines}
+use Rattle.cf_syntax.specs.Text.{script_of}
+use Rattle.cf_script.specs.BlockViews.{reading_of}
+use Rattle.cf_script.proofs.ThreadLaws.{finish}
+use Rattle.cf_script.proofs.reader.read_script.Given as goal
+
+-- reading on gives what the whole text gives, and a line takes at least a byte
+abbrev pub invariant-loop-rest : goal.invariant-loop-rest
+invariant-loop-rest l = record {
+  so_far : finish (reading_of l.reader) (lines l.rest) ≡ script_of l.bytes;
+  within : l.reader.count + length l.rest ≤ 1048576;
+}
+
+abbrev pub decreases-loop-rest : goal.decreases-loop-rest
+decreases-loop-rest l = length l.rest

@@ -1,8 +1,0 @@
--- Answers to the goals of `rows::a_text_and_its_script`.
-use Rattle.std.proofs.Common.{refl}
-use Rattle.cf_syntax.proofs.OnLiterals.{script_on_literals}
-use Rattle.cf_syntax.proofs.examples.a_text_and_its_script.Goals as goal
-
-pub returns : goal.returns
-unfolding script_on_literals
-returns c = refl

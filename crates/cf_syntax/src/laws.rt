@@ -1,0 +1,22 @@
+//! Laws of the text of a script and of its refusal, and of the words of a line.
+ghost use Rattle.std.specs.Prelude.{◌≡◌, ◌⊎◌, ℕ, List, Some};
+ghost use Rattle.cf_syntax.specs.Words.{words};
+ghost use Rattle.cf_syntax.specs.Spaced.{Spaced};
+ghost use Rattle.cf_syntax.specs.Text.{Text};
+ghost use Rattle.cf_syntax.specs.Refusals.{Refused};
+ghost use Rattle.cf_syntax.specs.declared.script.Script.{Script};
+ghost use Rattle.cf_syntax.specs.declared.refusal.Refusal.{Refusal};
+
+/// Bytes are the text of a script, or they are refused, and not both. A text has one refusal, and is that of one
+/// script.
+pub fn each_text_is_read_or_refused()
+    ensures either { (bs : List ℕ) → ((s : Script) × Text bs s) ⊎ ((r : Refusal) × Refused bs r) }
+    ensures not_both { (bs : List ℕ) (s : Script) (r : Refusal) → Text bs s → Refused bs r → ⊥ }
+    ensures one_refusal { (bs : List ℕ) (r q : Refusal) → Refused bs r → Refused bs q → r ≡ q }
+{}
+
+/// The words that are found in a line are those that it has, and it has no others.
+pub fn a_line_has_the_words_that_are_found()
+    ensures found { (line : List ℕ) (ws : List (List ℕ)) → words line ≡ Some ws → Spaced line ws }
+    ensures only { (line : List ℕ) (ws : List (List ℕ)) → Spaced line ws → words line ≡ Some ws }
+{}

@@ -5,5 +5,6 @@ pub mod Forms
 pub mod Hash
 pub mod Laws
 pub mod Leaves
+pub mod Named
 pub mod Registry
 pub mod Views

@@ -1,13 +1,15 @@
 //! The types of a script: the built-in ones, and those that it adds.
-ghost use Rattle.std.specs.Prelude.{◌≡◌, ◌+◌, ◌-◌, ◌≤◌, [], ◌∷◌, ◌++◌, length, slice_get, IfOk, OnOk, OnErr};
+ghost use Rattle.std.specs.Prelude.{◌≡◌, ◌+◌, ◌-◌, ◌≤◌, ◌<◌, [], ◌∷◌, ◌++◌, false, true, length, map, slice_get, IfOk, OnOk, OnErr};
 ghost use Rattle.cf_ids.specs.declared.limits.TheConstants.{TYPES};
 ghost use Rattle.std.specs.Option.{option_copied};
 ghost use Rattle.cf_types.specs.Faults.{IsRefusedFor, register_fault};
-ghost use Rattle.cf_types.specs.Registry.{built_in_classes};
+ghost use Rattle.cf_types.specs.Named.{are_new};
+ghost use Rattle.cf_types.specs.Registry.{built_in, built_in_classes, has_name};
 ghost use Rattle.cf_types.specs.declared.registry.RegisterFault.TheVariants.{NoMemory};
 
-use crate::classes::{BUILT_IN_NAMES, Class, Equality, add_built_in, add_class, has_name};
-use cf_ids::{TYPES, TypeId};
+use crate::classes::{BUILT_IN_NAMES, Class, Equality};
+use cf_ids::{Seq, TYPES, TypeId};
+use indexmap::IndexMap;
 use std::alloc::{AllocError, Global};
 use std::marker::Model;
 use thiserror::Error;
@@ -38,19 +40,22 @@ impl From<AllocError> for RegisterFault {
 /// the number n is the n-th, counted from 1.
 #[derive(Drop)]
 pub struct Registry {
-    classes: Vec<Class>,
+    /// The classes in the order of their numbers, each at its name, so that a name is found by one look-up.
+    classes: IndexMap<String, Class>,
 }
 
 impl Model for Registry {
     ghost use Rattle.std.specs.Prelude.{List, ◌≤◌, length};
     ghost use Rattle.cf_types.specs.declared.classes.Class.{Class};
     ghost use Rattle.cf_ids.specs.declared.limits.TheConstants.{TYPES};
+    ghost use Rattle.indexmap.specs.IndexMap.{values};
+    ghost use Rattle.cf_types.specs.Named.{AreNamed};
 
     ghost Value = { List Class };
 
-    ghost view = { λ r. r.classes.items };
+    ghost view = { λ r. values r.classes };
 
-    ghost invariant = { λ r. length r.classes.items ≤ TYPES };
+    ghost invariant = { λ r. (length r.classes.entries ≤ TYPES) × AreNamed r.classes.entries };
 }
 
 impl Registry {
@@ -58,9 +63,11 @@ impl Registry {
     pub fn new(alloc: Global) -> Result<Registry, AllocError>
         ensures { IfOk result (λ registry. registry ≡ built_in_classes) }
     {
-        let mut classes = Vec::new(alloc);
-        add_built_in(alloc, &mut classes, &BUILT_IN_NAMES)?;
-        Ok(Registry { classes })
+        let mut registry = Registry {
+            classes: IndexMap::new(alloc),
+        };
+        registry.add_built_in(alloc, &BUILT_IN_NAMES)?;
+        Ok(registry)
     }
 
     /// Adds a class after the others, and answers its number. `Full` comes exactly if there are 1,024 types, `Taken`
@@ -83,10 +90,10 @@ impl Registry {
         if TYPES <= self.classes.len() {
             return Err(RegisterFault::Full);
         }
-        if has_name(&self.classes, name) {
+        if self.has_name(name) {
             return Err(RegisterFault::Taken);
         }
-        add_class(alloc, &mut self.classes, name, fields, equality)?;
+        self.add(alloc, name, fields, equality)?;
         Ok(TypeId(self.classes.len() as u16))
     }
 
@@ -94,6 +101,53 @@ impl Registry {
     pub fn class(&self, id: TypeId) -> Option<&Class>
         ensures { option_copied result ≡ slice_get self.now (id - 1) }
     {
-        self.classes.get(usize::from(id.0) - 1)
+        let (_, class) = self.classes.get_index(usize::from(id.0) - 1)?;
+        Some(class)
+    }
+
+    /// Whether a class has this name.
+    fn has_name(&self, name: &str) -> bool
+        ensures { result ≡ has_name self.now name.now }
+    {
+        self.classes.contains_key(name)
+    }
+
+    /// Puts a class of a new name after the others. The bytes of the name are copied twice, for the class and for the
+    /// look-up. `NoMemory` changes no class.
+    fn add(
+        &mut self,
+        alloc: Global,
+        name: &str,
+        fields: u8,
+        equality: Equality,
+    ) -> Result<(), AllocError>
+        requires room { length self.old < TYPES }
+        requires free { has_name self.old name.now ≡ false }
+        ensures ok { OnOk result (self.new ≡ self.old
+            ++ record { name = name.now; fields = fields; equality = equality } ∷ []) }
+        ensures err { OnErr result (self.new ≡ self.old) }
+    {
+        let key = String::from_str(alloc, name)?;
+        let name = Seq::from_vec(Vec::from_slice(alloc, name.as_bytes())?);
+        let class = Class {
+            name,
+            fields,
+            equality,
+        };
+        self.classes.insert(key, class)?;
+        Ok(())
+    }
+
+    /// Puts the built-in classes of these names, which are new, after the others. After `NoMemory` some of them may be
+    /// there.
+    fn add_built_in(&mut self, alloc: Global, names: &[&str]) -> Result<(), AllocError>
+        requires room { length self.old + length names.now ≤ TYPES }
+        requires new { are_new self.old (map (λ name. name.now) names.now) ≡ true }
+        ensures { OnOk result (self.new ≡ self.old ++ map (λ name. built_in name.now) names.now) }
+    {
+        for &name in names {
+            self.add(alloc, name, 0, Equality::Identity)?;
+        }
+        Ok(())
     }
 }

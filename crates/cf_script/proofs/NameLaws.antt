@@ -1,14 +1,16 @@
 -- A name among names that are owned.
-use Rattle.std.proofs.Common.{◌≡◌, ℕ, ◌+◌, ◌<◌, ◌≤◌, Bool, true, false, cond, not, List, [], ◌∷◌, ◌++◌, length, Some, None, Ok, Err, inl, inr, refl, ap, sym, ◌∙◌, arith, ltb, subst}
-use Rattle.std.specs.Prelude.{◌||◌, nat_lt, if◌then◌else◌, position, map}
-use Rattle.std.proofs.lemmas.Bool.{cases_Bool, ltb-true, ltb-false, lt-ltb}
-use Rattle.std.specs.List.{list_any, position_or_len}
+use Rattle.std.proofs.Common.{◌≡◌, ℕ, ◌+◌, ◌<◌, ◌≤◌, Bool, true, false, cond, not, List, [], ◌∷◌, ◌++◌, length, Some, None, Ok, Err, inl, inr, refl, ap, sym, ◌∙◌, arith, leb, ltb, subst}
+use Rattle.std.specs.Prelude.{◌&&◌, ◌||◌, nat_lt, if◌then◌else◌, position, map}
+use Rattle.std.proofs.lemmas.Bool.{cases_Bool, and_parts, ltb-true, ltb-false, lt-ltb, leb-true}
+use Rattle.std.specs.List.{list_all, list_any, position_or_len}
 use Rattle.std.specs.Str.{bytes_eq}
 use Rattle.std.specs.Global.{Vec}
 use Rattle.std.proofs.lemmas.List.{length-map, map_push}
 use Rattle.std.proofs.lemmas.List.Sums.{prefix_len-le-length}
+use Rattle.std.proofs.lemmas.Slice.Eq.{bytes_eq-Decides}
 use Rattle.cf_syntax.specs.FormWords.{with_name}
 use Rattle.cf_syntax.specs.Text.{place_of}
+use Rattle.cf_syntax.specs.Words.{reserved, is_reserved}
 use Rattle.cf_syntax.specs.declared.refusal.Reason.TheVariants.{TooMany}
 use Rattle.cf_script.specs.Views.{texts}
 use Rattle.cf_script.specs.NamesViews.{number_in}
@@ -119,3 +121,27 @@ pub place_within : (word : List ℕ) (names : List (Vec ℕ)) (place : ℕ)
 place_within word names place e =
     let within : position_or_len (bytes_eq word) (texts names) ≤ length (texts names) = prefix_len-le-length _ (texts names) in
     omega (arith, e, within, length-map names (λ (n : Vec ℕ). n.items))
+
+-- a word that is no name has 3 to 8 bytes
+any_len : (rs : List (List ℕ)) (word : List ℕ) → list_all (λ r. leb 3 (length r) && leb (length r) 8) rs ≡ true
+    → list_any (λ r. bytes_eq r word) rs ≡ true
+    → (leb 3 (length word) && leb (length word) 8) ≡ true
+any_len [] word all e = absurd cc
+any_len (r ∷ rs) word all e =
+    let h = and_parts (leb 3 (length r) && leb (length r) 8) (list_all (λ r. leb 3 (length r) && leb (length r) 8) rs) all in
+    tests (bytes_eq r word) refl e h.0 (any_len rs word h.1)
+  where
+    tests : (t : Bool) → bytes_eq r word ≡ t → (t || list_any (λ r. bytes_eq r word) rs) ≡ true
+        → (leb 3 (length r) && leb (length r) 8) ≡ true
+        → (list_any (λ r. bytes_eq r word) rs ≡ true → (leb 3 (length word) && leb (length word) 8) ≡ true)
+        → (leb 3 (length word) && leb (length word) 8) ≡ true
+    tests true at e h rest = subst (λ (w : List ℕ). (leb 3 (length w) && leb (length w) 8) ≡ true) ((bytes_eq-Decides r word).0 at) h
+    tests false at e h rest = rest e
+
+pub reserved_len : (word : List ℕ) → is_reserved word ≡ true → (3 ≤ length word) × (length word ≤ 8)
+reserved_len word e =
+    let h = and_parts (leb 3 (length word)) (leb (length word) 8) (any_len reserved word refl e) in
+    (leb-true 3 (length word) h.0, leb-true (length word) 8 h.1)
+
+pub not_reserved : (word : List ℕ) → ((3 ≤ length word) × (length word ≤ 8) → ⊥) → false ≡ is_reserved word
+not_reserved word out = elim (cases_Bool (is_reserved word)) [ inl t ↦ absurd (out (reserved_len word t)) | inr f ↦ sym f ]

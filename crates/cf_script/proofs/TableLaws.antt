@@ -112,9 +112,9 @@ form_row ws r e =
     needed_row (find_row (IsOf ws) forms_now) r b.2
 
 -- the words of a line are one more than the operands of its form
-pub words_count : (ws : List (Bor (List ℕ))) (found : Result Code.FormWord Reason) (r : Code.FormWord)
+pub words_count : (ws : List (Bor (List ℕ))) (found : Result (Bor Code.FormWord) Reason) (r : Bor Code.FormWord)
     → found_row found ≡ form_of (lent ws) → found ≡ Ok r
-    → length ws ≡ 1 + length r.operands.now
+    → length ws ≡ 1 + length r.now.operands.now
 words_count ws found r e is =
-    let count = row_count (lent ws) forms_now (form_word_of r) (form_row (lent ws) (form_word_of r) (sym e ∙ ap found_row is)) in
-    sym (length-map ws (λ (w : Bor (List ℕ)). w.now)) ∙ eqb-true (length (lent ws)) (1 + length r.operands.now) count
+    let count = row_count (lent ws) forms_now (form_word_of r.now) (form_row (lent ws) (form_word_of r.now) (sym e ∙ ap found_row is)) in
+    sym (length-map ws (λ (w : Bor (List ℕ)). w.now)) ∙ eqb-true (length (lent ws)) (1 + length r.now.operands.now) count

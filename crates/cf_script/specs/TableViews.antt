@@ -17,8 +17,8 @@ abbrev pub form_word_of : FormWord → FormTable.FormWord
 form_word_of r = record { word = r.word.now; kind = kind_of r.kind; operands = r.operands.now; form = r.form }
 
 -- a row that is found, or the reason why there is none
-abbrev pub found_row : Result FormWord Reason → Result FormTable.FormWord Reason
-found_row (Ok r) = Ok (form_word_of r)
+abbrev pub found_row : Result (Bor FormWord) Reason → Result FormTable.FormWord Reason
+found_row (Ok r) = Ok (form_word_of r.now)
 found_row (Err e) = Err e
 
 -- how far the words of a line begin some forms, and the first of them that has as many words
@@ -35,7 +35,7 @@ search_in ws rows = record {
 }
 
 abbrev pub search_of : Code.Findings → Found
-search_of s = record { is_started = s.starts; is_begun = s.begins; form_word = option_map form_word_of s.form_word }
+search_of s = record { is_started = s.starts; is_begun = s.begins; form_word = option_map (λ r. form_word_of r.now) s.form_word }
 
 -- what is found among some rows, and then among those after them
 abbrev pub first_of : Option FormTable.FormWord → Option FormTable.FormWord → Option FormTable.FormWord

@@ -10,7 +10,7 @@ use crate::table::{Findings, FormWord, is_found, join, search};
 use cf_syntax::{Operand, StatementForm};
 
 /// The forms that come most often.
-const COMMON: [FormWord; 3] = [
+static COMMON: [FormWord; 3] = [
     FormWord {
         word: b"retain",
         kind: None,
@@ -43,7 +43,7 @@ pub(crate) fn search_common(words: &[&[u8]]) -> Findings
 }
 
 /// The forms that make objects without members.
-const LEAVES: [FormWord; 5] = [
+static LEAVES: [FormWord; 5] = [
     FormWord {
         word: b"make",
         kind: Some(b"string"),
@@ -93,7 +93,7 @@ fn search_leaves(words: &[&[u8]]) -> Findings
 }
 
 /// The forms that make collections.
-const COLLECTIONS: [FormWord; 10] = [
+static COLLECTIONS: [FormWord; 10] = [
     FormWord {
         word: b"make",
         kind: Some(b"array"),
@@ -168,7 +168,7 @@ fn search_collections(words: &[&[u8]]) -> Findings
 }
 
 /// The forms of instances, texts, data and numbers.
-const CONTENTS: [FormWord; 10] = [
+static CONTENTS: [FormWord; 10] = [
     FormWord {
         word: b"new",
         kind: None,

@@ -8,7 +8,7 @@ use crate::table::{Findings, FormWord, is_found, join, search};
 use cf_syntax::{Operand, StatementForm};
 
 /// The forms of arrays and dictionaries.
-const MEMBERS: [FormWord; 10] = [
+static MEMBERS: [FormWord; 10] = [
     FormWord {
         word: b"arr.append",
         kind: None,
@@ -83,7 +83,7 @@ pub(crate) fn search_members(words: &[&[u8]]) -> Findings
 }
 
 /// The forms of sets and bags.
-const SETS: [FormWord; 6] = [
+static SETS: [FormWord; 6] = [
     FormWord {
         word: b"set.add",
         kind: None,
@@ -134,7 +134,7 @@ fn search_sets(words: &[&[u8]]) -> Findings
 }
 
 /// The forms of heaps and fields.
-const PLACES: [FormWord; 6] = [
+static PLACES: [FormWord; 6] = [
     FormWord {
         word: b"heap.add",
         kind: None,

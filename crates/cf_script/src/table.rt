@@ -76,13 +76,13 @@ fn any_begins(rows: &[FormWord], words: &[&[u8]]) -> bool
 }
 
 /// The first of some forms that the words of a line begin, with as many words as it has.
-fn find_row(rows: &[FormWord], words: &[&[u8]]) -> Option<FormWord>
-    ensures { option_map form_word_of result
+fn find_row(rows: &'static [FormWord], words: &[&[u8]]) -> Option<&'static FormWord>
+    ensures { option_map (λ r. form_word_of r.now) result
         ≡ find_row (λ r. begins r (lent words.now) && has_count r (lent words.now)) (map form_word_of rows.now) }
 {
     for form_word in rows {
         if fits(form_word, words) {
-            return Some(*form_word);
+            return Some(form_word);
         }
     }
     None
@@ -96,12 +96,12 @@ pub(crate) struct Findings {
     /// Whether the words begin a form, with its kind.
     pub begins: bool,
     /// The first form that they begin, with as many words as it has.
-    pub form_word: Option<FormWord>,
+    pub form_word: Option<&'static FormWord>,
 }
 
 /// What the words of a line begin among some forms. Words that are of a form are found in one pass.
 #[tactic(auto, using(crate::proofs::TableLaws::found_starts, crate::proofs::TableLaws::found_begins))]
-pub(crate) fn search(rows: &[FormWord], words: &[&[u8]]) -> Findings
+pub(crate) fn search(rows: &'static [FormWord], words: &[&[u8]]) -> Findings
     ensures { search_of result ≡ search_in (lent words.now) (map form_word_of rows.now) }
 {
     match find_row(rows, words) {
@@ -141,7 +141,7 @@ pub(crate) fn join(first: Findings, second: Findings) -> Findings
 
 /// The form of a line.
 #[tactic(auto, unfolding(cf_syntax::specs::FormWords::form_of))]
-pub(crate) fn form_of(words: &[&[u8]]) -> Result<FormWord, Reason>
+pub(crate) fn form_of(words: &[&[u8]]) -> Result<&'static FormWord, Reason>
     ensures { found_row result ≡ form_of (lent words.now) }
 {
     let found = search_common(words);

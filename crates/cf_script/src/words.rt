@@ -48,6 +48,7 @@ fn goes(place: Place, byte: u8) -> Option<Place>
         Place::Between if is_blank(byte) => Some(Place::Between),
         Place::Between if byte == b'"' => Some(Place::Quoted),
         Place::Between => Some(Place::Plain),
+        Place::Plain if byte > b'"' => Some(Place::Plain),
         Place::Plain if is_blank(byte) => Some(Place::Between),
         Place::Plain if byte == b'"' => None,
         Place::Plain => Some(Place::Plain),
@@ -183,9 +184,16 @@ fn is_among(words: &[&[u8]], word: &[u8]) -> bool
     words.iter().any(|w| is(w, word))
 }
 
+/// Whether a word is one of those that are no names, which have 3 to 8 bytes.
 fn is_reserved(word: &[u8]) -> bool
     ensures { result ≡ is_reserved word.now }
 {
+    if word.len() < 3 {
+        return false;
+    }
+    if word.len() > 8 {
+        return false;
+    }
     is_among(&RESERVED, word)
 }
 

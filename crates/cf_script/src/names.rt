@@ -129,7 +129,7 @@ pub(crate) struct LineNumbers {
 impl LineNumbers {
     /// The numbers of no word.
     pub fn new(alloc: Global) -> LineNumbers
-        ensures { (names : Definitions.Names) → with_line_numbers_of names result ≡ no_numbers names }
+        ensures { line_numbers_of result ≡ record { variables = []; handler = 0; mode = 0; notice = 0 } }
     {
         LineNumbers {
             variables: SmallVec::new(alloc),
@@ -179,7 +179,7 @@ fn table_of(operand: Operand, word: &[u8]) -> Option<NameTable>
 }
 
 /// The numbers of a line with those of a word more, which may be no name.
-pub(crate) fn number_word(
+fn number_word(
     alloc: Global,
     names: &mut Names,
     numbers: &mut LineNumbers,
@@ -196,22 +196,22 @@ pub(crate) fn number_word(
     Ok(())
 }
 
-/// The numbers of the words of a form.
-pub(crate) fn numbers_of(
+/// The numbers of a line with those of the words of a form.
+pub(crate) fn number_words(
     alloc: Global,
     names: &mut Names,
+    numbers: &mut LineNumbers,
     operands: &[Operand],
     words: &[&[u8]],
-) -> Result<LineNumbers, LineFault>
+) -> Result<(), LineFault>
     requires { length words.now ≡ length operands.now }
-    ensures { GivesAs (λ ns. with_line_numbers_of names.new ns) result
-        (numbers_of operands.now (lent words.now) (no_numbers names.old)) }
+    ensures { GivesAs (λ _. with_line_numbers_of names.new numbers.new) result
+        (numbers_of operands.now (lent words.now) (with_line_numbers_of names.old numbers.old)) }
 {
-    let mut numbers = LineNumbers::new(alloc);
     for (i, operand) in operands.iter().enumerate() {
-        number_word(alloc, names, &mut numbers, *operand, word_at(words, i))?;
+        number_word(alloc, names, numbers, *operand, word_at(words, i))?;
     }
-    Ok(numbers)
+    Ok(())
 }
 
 /// Names in the order of their numbers.

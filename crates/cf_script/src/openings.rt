@@ -9,7 +9,7 @@ ghost use Rattle.cf_script.specs.BlockViews.{reading_of};
 use crate::block::Reader;
 use crate::blocks::Blocks;
 use crate::fault::LineFault;
-use crate::names::{LineNumbers, Names, numbers_of};
+use crate::names::{LineNumbers, Names, number_words};
 use crate::numbers::field_count_at;
 use crate::operands::are_of;
 use crate::words::{is, word_at};
@@ -197,7 +197,9 @@ fn number_uses(alloc: Global, names: &mut Names, words: &[&[u8]]) -> Result<Line
 {
     let mut operands = Vec::new(alloc);
     operands.resize(words.len(), Operand::Bound)?;
-    numbers_of(alloc, names, operands.as_slice(), words)
+    let mut numbers = LineNumbers::new(alloc);
+    number_words(alloc, names, &mut numbers, operands.as_slice(), words)?;
+    Ok(numbers)
 }
 
 /// The words after `uses`, as variables of setup and of the thread.

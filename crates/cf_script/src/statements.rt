@@ -10,7 +10,7 @@ ghost use Rattle.cf_script.specs.NamesViews.{line_numbers_of};
 
 use crate::classes::Classes;
 use crate::fault::LineFault;
-use crate::names::{LineNumbers, Names, numbers_of};
+use crate::names::{LineNumbers, Names, number_words};
 use crate::numbers::{bytes_of, index_at, integer_at, kind_at, mask_at, number_at, unum_of};
 use crate::operands::are_of;
 use crate::table::form_of;
@@ -412,6 +412,7 @@ pub(crate) fn read_statement(
     let form_word = form_of(words)?;
     let (_, after) = words.split_at(1);
     are_of(in_handler, form_word.operands, after)?;
-    let numbers = numbers_of(alloc, names, form_word.operands, after)?;
+    let mut numbers = LineNumbers::new(alloc);
+    number_words(alloc, names, &mut numbers, form_word.operands, after)?;
     statement_by(alloc, classes, form_word.form, &numbers, words)
 }

@@ -12,7 +12,7 @@ are_of-requires c =
     let count = words_count c.args.words.now c.form_of.result c.in_ok-form_word.form_word c.form_of.ensures c.in_ok-form_word.was in
     rw c.split_at.ensures.back (omega (arith, count, length-drop 1 c.args.words.now))
 
-pub numbers_of-requires : goal.numbers_of-requires
-numbers_of-requires c =
+pub number_words-requires : goal.number_words-requires
+number_words-requires c =
     let count = words_count c.args.words.now c.form_of.result c.in_ok-form_word.form_word c.form_of.ensures c.in_ok-form_word.was in
     rw c.split_at.ensures.back (omega (arith, count, length-drop 1 c.args.words.now))

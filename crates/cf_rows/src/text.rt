@@ -136,15 +136,16 @@ fn put_number(
     columns: &[Vec<u8>],
     turn: usize,
 ) -> Result<(), Fault> {
-    if let Some(column) = column_at(columns, name) {
-        bytes.extend_from_slice(column)?;
-        return Ok(());
+    match number_at(name, turn) {
+        Some(number) => {
+            let digits = number.to_string(alloc)?;
+            bytes.extend_from_slice(digits.as_bytes())?;
+        }
+        None => {
+            let column = column_at(columns, name).ok_or(Fault::Braces)?;
+            bytes.extend_from_slice(column)?;
+        }
     }
-    let Some(number) = number_at(name, turn) else {
-        return Err(Fault::Braces);
-    };
-    let digits = number.to_string(alloc)?;
-    bytes.extend_from_slice(digits.as_bytes())?;
     Ok(())
 }
 

@@ -15,8 +15,8 @@ use Rattle.cf_syntax.specs.Lines.{lines}
 use Rattle.cf_syntax.specs.Words.{says_nothing, words}
 use Rattle.cf_syntax.specs.FormTable.{FormWord, forms_now}
 use Rattle.cf_syntax.specs.FormStatements.{Numbers, statement_by}
-use Rattle.cf_syntax.specs.FormWords.{◌>>=◌, require, needed, starts, begins, has_count, find_row, form_of, are_of, Names, With, numbers_of, no_numbers}
-use Rattle.cf_syntax.specs.Text.{Reading, Opened, start, is_word, is_handler, with_statement, end_line, statement_of, statement_line, inside, place_line, header_line, spoken_line, after_line, whole, on_line_after, read_from, thread_names, script_by, script_of}
+use Rattle.cf_syntax.specs.FormWords.{◌>>=◌, require, needed, starts, begins, find_row, form_of, are_of, Names, With, numbers_of, no_numbers}
+use Rattle.cf_syntax.specs.Text.{Reading, Opened, start, is_word, is_handler, with_statement, end_line, statement_of, statement_line, place_line, header_line, spoken_line, after_line, whole, on_line_after, read_from, thread_names, script_by, script_of}
 use Rattle.cf_syntax.proofs.RefusalLaws.{bind_ok}
 use Rattle.cf_script.proofs.TableLaws.{IsOf}
 

@@ -144,7 +144,8 @@ impl Reader {
         if let Some(block) = self.block.take() {
             let variables = self.names.take_variables(alloc);
             let names = copies(alloc, variables.as_slice())?;
-            self.blocks.push(block.close(names, self.count + 1), variables)?;
+            self.blocks
+                .push(block.close(names, self.count + 1), variables)?;
         }
         Ok(())
     }

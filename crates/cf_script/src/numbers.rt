@@ -169,7 +169,11 @@ pub(crate) fn field_count_at(words: &[&[u8]], i: usize) -> u8
     ensures { result ≡ field_count_at (lent words.now) i }
 {
     let number = index_at(words, i);
-    if number as usize <= FIELDS { number as u8 } else { 0 }
+    if number as usize <= FIELDS {
+        number as u8
+    } else {
+        0
+    }
 }
 
 /// What the word at a place says as a MASK.

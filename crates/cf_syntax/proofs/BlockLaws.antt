@@ -1,8 +1,8 @@
 -- The blocks of an owned script, each by itself.
-use Rattle.std.proofs.Common.{◌≡◌, ℕ, zero, suc, ◌+◌, ◌-◌, ◌<◌, ◌≤◌, Bool, true, false, cond, eqb, ltb, List, [], ◌∷◌, ◌++◌, map, length, drop, take, Option, Some, None, refl, ap, sym, ◌∙◌, arith, append_assoc, append-nil, inl, inr, ◌⊎◌, subst}
-use Rattle.std.specs.Prelude.{slice_get, option_and_then, ◌&&◌}
+use Rattle.std.proofs.Common.{◌≡◌, ℕ, zero, suc, ◌+◌, ◌-◌, ◌<◌, ◌≤◌, Bool, true, false, cond, eqb, ltb, List, [], ◌∷◌, ◌++◌, map, drop, take, Option, Some, None, refl, ap, sym, ◌∙◌, arith, append_assoc, append-nil, inl, inr, ◌⊎◌, subst}
+use Rattle.std.specs.Prelude.{slice_get, option_and_then}
 use Rattle.std.specs.List.{list_all}
-use Rattle.std.proofs.lemmas.Bool.{eqb-true, ltb-true, ltb-false, cases_Bool, cases_eq, and_parts, ne_eqb}
+use Rattle.std.proofs.lemmas.Bool.{eqb-true, ltb-true, ltb-false, cases_Bool, and_parts}
 use Rattle.cf_syntax.specs.declared.statement.Statement.{Statement}
 use Rattle.cf_syntax.specs.declared.mention.Ownership.{Ownership}
 use Rattle.cf_syntax.specs.declared.mention.Ownership.TheVariants.{Keeps, Binds, Retains, Releases}
@@ -10,10 +10,9 @@ use Rattle.cf_syntax.specs.declared.script.Script.{Script}
 use Rattle.cf_syntax.specs.declared.script.Block.{Block}
 use Rattle.cf_syntax.specs.declared.script.Given.{Given}
 use Rattle.cf_syntax.specs.declared.script.Handler.{Handler}
-use Rattle.cf_syntax.specs.declared.refusal.Refusal.{Refusal}
 use Rattle.cf_syntax.specs.declared.refusal.Reason.{Reason}
-use Rattle.cf_syntax.specs.BlockLines.{BlockLine, begins, claims, says, packs, line_mentions, line_ownership, claims_from, packs_from, packs_for, handler_block, block_of_handler, after_threads, statements_in, uses_in, thread_blocks, handler_blocks, thread_block, setup_lines, thread_lines, handler_lines}
-use Rattle.cf_syntax.specs.Owned.{one_of, total, bound, given, released, bound_by, given_by, released_by, or_else, unbound_fault, unowned_fault, rebound_fault, mention_fault, mentions_fault, line_fault, lines_fault, on_line, statements_fault, given_fault, uses_fault, thread_block_fault, threads_fault, handler_fault, is_left, is_settled, balance_fault, handlers_fault, setup_fault, owner_fault, Owned, IsBalanced, FitsByBlock}
+use Rattle.cf_syntax.specs.BlockLines.{BlockLine, begins, claims, says, packs, line_ownership, claims_from, packs_from, packs_for, after_threads, statements_in, uses_in, thread_blocks, handler_blocks, setup_lines, thread_lines}
+use Rattle.cf_syntax.specs.Owned.{one_of, given, released, given_by, released_by, or_else, unbound_fault, unowned_fault, rebound_fault, line_fault, lines_fault, on_line, statements_fault, given_fault, uses_fault, thread_block_fault, threads_fault, handler_fault, is_settled, balance_fault, handlers_fault, setup_fault, Owned, IsBalanced, FitsByBlock}
 
 -- ---- faults that are none
 

@@ -1,12 +1,12 @@
 -- Running counts beside the sums.
-use Rattle.std.proofs.Common.{◌≡◌, ℕ, ◌+◌, ◌<◌, ◌^◌, List, [], ◌∷◌, ◌++◌, length, get_or, replicate, ap, sym, ◌∙◌, arith}
+use Rattle.std.proofs.Common.{◌≡◌, ℕ, ◌+◌, ◌<◌, ◌^◌, List, [], ◌∷◌, ◌++◌, get_or, replicate, ap, sym, ◌∙◌, arith}
 use Rattle.std.proofs.lemmas.List.{get_or-replicate}
 use Rattle.cf_syntax.specs.declared.counts.Counts.{Counts}
 use Rattle.cf_syntax.specs.declared.mention.Ownership.{Ownership}
 use Rattle.cf_syntax.specs.Counting.{Counted, Noted, HasRoom}
 use Rattle.cf_syntax.specs.BlockLines.{BlockLine, line_ownership}
 use Rattle.cf_syntax.specs.Owned.{bound_by, given_by, released_by}
-use Rattle.cf_syntax.proofs.OwnedLaws.{total_push, total_le, bound_by_le, given_by_le, taken_by_le}
+use Rattle.cf_syntax.proofs.OwnedLaws.{total_push, bound_by_le, given_by_le, taken_by_le}
 
 abbrev none : ℕ
 none = 0

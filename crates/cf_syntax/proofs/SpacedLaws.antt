@@ -1,6 +1,6 @@
 -- The words that are found are those that the line has, and no others.
-use Rattle.std.proofs.Common.{◌≡◌, ◌⊎◌, inl, inr, ℕ, suc, ◌+◌, ◌<◌, ◌≤◌, Bool, true, false, not, cond, eqb, List, [], ◌∷◌, ◌++◌, length, Option, Some, None, refl, ap, sym, ◌∙◌, arith, append_assoc, append-nil, subst}
-use Rattle.std.specs.Prelude.{◌&&◌, ◌||◌, nat_lt, option_and_then}
+use Rattle.std.proofs.Common.{◌≡◌, ◌⊎◌, inl, inr, ℕ, Bool, true, false, not, cond, eqb, List, [], ◌∷◌, ◌++◌, Option, Some, None, refl, ap, sym, ◌∙◌, arith, append_assoc, append-nil, subst}
+use Rattle.std.specs.Prelude.{◌&&◌, nat_lt, option_and_then}
 use Rattle.cf_syntax.specs.Lines.{in_first}
 use Rattle.std.specs.List.{list_all}
 use Rattle.std.specs.Option.{option_map}
@@ -8,7 +8,7 @@ use Rattle.std.proofs.lemmas.Bool.{and_parts, and_from, eqb-true}
 use Rattle.cf_syntax.specs.declared.place.Place.{Place}
 use Rattle.cf_syntax.specs.declared.place.Place.TheVariants.{Between, Plain, Quoted, Escaped, Closed}
 use Rattle.cf_syntax.specs.Words.{is_blank, goes, with_byte, words_at_end, words_from, words}
-use Rattle.cf_syntax.specs.Spaced.{is_plain_byte, is_text_byte, is_escape, is_quoted, IsText, IsPlain, ends_word, First, Spaced}
+use Rattle.cf_syntax.specs.Spaced.{is_plain_byte, is_text_byte, is_escape, is_quoted, IsText, IsPlain, ends_word, Spaced}
 use Rattle.cf_syntax.proofs.WordLaws.{goes_on_from, behind, blank_first, word_goes, word_ends, word_closes, begins}
 
 -- ---- from the words of a line to those that are found

@@ -1,6 +1,6 @@
 -- The lines of a block as a thread meets them: what it takes over at its start, its statements, and what setup packs
 -- at its end for the threads. This project's own. Each list is a total function of the script.
-use Rattle.std.specs.Prelude.{ℕ, zero, suc, ◌+◌, List, [], ◌∷◌, ◌++◌, map, length, drop, take, Option, Some, None, slice_get, option_and_then, nat_lt, if◌then◌else◌}
+use Rattle.std.specs.Prelude.{ℕ, zero, suc, ◌+◌, List, [], ◌∷◌, ◌++◌, map, drop, take, Option, Some, None, slice_get, option_and_then, nat_lt, if◌then◌else◌}
 use Rattle.cf_syntax.specs.declared.statement.Statement.{Statement}
 use Rattle.cf_syntax.specs.declared.mention.Mention.{Mention}
 use Rattle.cf_syntax.specs.declared.mention.Mention.TheVariants as mentions

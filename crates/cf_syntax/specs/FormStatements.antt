@@ -1,6 +1,6 @@
 -- The statement that the words of a line make, where each word is of its form. This project's own; a further form adds
 -- a line.
-use Rattle.std.specs.Prelude.{ℕ, ◌+◌, ◌-◌, Bool, true, false, ℤ, pos, List, [], ◌∷◌, length, codes, Option, Some, None, unwrap_or, Result, Ok, Err, slice_index, slice_index_or, nat_lt, nat_le, if◌then◌else◌}
+use Rattle.std.specs.Prelude.{ℕ, ◌+◌, ◌-◌, Bool, ℤ, pos, List, [], length, codes, Option, Some, None, unwrap_or, Result, Ok, Err, slice_index, slice_index_or, nat_lt, nat_le, if◌then◌else◌}
 use Rattle.std.specs.List.{position_or_len}
 use Rattle.std.specs.Str.{bytes_eq, is_utf8, chars}
 use Rattle.cf_number.specs.declared.kinds.NumKind.{NumKind}
@@ -51,9 +51,9 @@ kind_at ws i = unwrap_or (kind_of (word_at ws i)) S8
 abbrev pub bytes_at : List (List ℕ) → ℕ → List ℕ
 bytes_at ws i = unwrap_or (bytes_of (word_at ws i)) []
 
--- the word `repeats` in place of `once`
-abbrev pub is_repeats : List ℕ → Bool
-is_repeats word = bytes_eq word (codes "repeats")
+-- the word `repeats` in place of `once` at a place
+abbrev pub repeats_at : List (List ℕ) → ℕ → Bool
+repeats_at ws i = bytes_eq (word_at ws i) (codes "repeats")
 
 -- a fourth word, which is `plain` or `once`
 abbrev pub has_last : List (List ℕ) → Bool
@@ -138,7 +138,7 @@ statement_by classes threads forms.MakeSource ns ws =
     Ok (MakeSource (var ns 0) (integer_at ws 3) ns.handler (info_at ns ws 5))
 statement_by classes threads forms.MakeTimer ns ws =
     Ok (MakeTimer (var ns 0) (number_at ws 3) (number_at ws 4) ns.handler (info_at ns ws 6))
-statement_by classes threads forms.MakeObserver ns ws = Ok (MakeObserver (var ns 0) (mask_at ws 3) (is_repeats (word_at ws 4)) (integer_at ws 5) ns.handler (info_at ns ws 7))
+statement_by classes threads forms.MakeObserver ns ws = Ok (MakeObserver (var ns 0) (mask_at ws 3) (repeats_at ws 4) (integer_at ws 5) ns.handler (info_at ns ws 7))
 statement_by classes threads forms.New ns ws =
     Ok (New (var ns 0) (class_named classes (word_at ws 2)) (integer_at ws 3))
 statement_by classes threads forms.Retain ns ws = Ok (Retain (var ns 0))

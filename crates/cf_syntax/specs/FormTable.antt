@@ -4,7 +4,7 @@ use Rattle.std.specs.Prelude.{ℕ, List, [], ◌∷◌, codes, Option, Some, Non
 use Rattle.cf_syntax.specs.declared.form.StatementForm.{StatementForm}
 use Rattle.cf_syntax.specs.declared.form.StatementForm.TheVariants as forms
 use Rattle.cf_syntax.specs.declared.form.Operand.{Operand}
-use Rattle.cf_syntax.specs.declared.form.Operand.TheVariants.{Found, Bound, Used, Class, Handler, Thread, Mode, ModeOrCommon, Notice, NoticeOrAny, Info, Filter, Text, Hex, Int, Fitting, Unum, Limit, Index, FieldCount, Mask, Kind, Plain, Once, Repeats, Fields, Equal, Equality, Uses}
+use Rattle.cf_syntax.specs.declared.form.Operand.TheVariants.{Found, Bound, Used, Class, Handler, Thread, Mode, ModeOrCommon, Notice, NoticeOrAny, Info, Filter, Text, Hex, Int, Fitting, Unum, Limit, Index, Mask, Kind, Plain, Once, Repeats}
 
 -- a form: its first word, the kind after `make V` where it has one, and what each word after the first has to be
 pub record FormWord : Type 0 where

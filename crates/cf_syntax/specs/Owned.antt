@@ -3,7 +3,7 @@
 -- none else; and each class, handler and thread that is named exists. After the ownership rule of the Memory
 -- Management guide: who makes or retains an object owns a reference, and releases it. A count is a sum over the
 -- earlier lines of the block.
-use Rattle.std.specs.Prelude.{◌≡◌, ℕ, ◌+◌, Bool, true, false, List, [], ◌∷◌, ◌++◌, map, drop, take, Option, Some, None, slice_get, slice_index, ◌==◌, nat_lt, if◌then◌else◌}
+use Rattle.std.specs.Prelude.{◌≡◌, ℕ, ◌+◌, Bool, true, List, [], ◌∷◌, ◌++◌, map, drop, Option, Some, None, slice_get, slice_index, ◌==◌, nat_lt, if◌then◌else◌}
 use Rattle.std.specs.List.{list_all}
 use Rattle.cf_syntax.specs.declared.statement.Statement.{Statement}
 use Rattle.cf_syntax.specs.declared.mention.Mention.{Mention}

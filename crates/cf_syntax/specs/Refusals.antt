@@ -4,7 +4,7 @@ use Rattle.std.specs.Prelude.{◌≡◌, ℕ, ◌+◌, List, [], ◌∷◌, take
 use Rattle.cf_syntax.specs.declared.refusal.Refusal.{Refusal}
 use Rattle.cf_syntax.specs.declared.refusal.Reason.{Reason}
 use Rattle.cf_syntax.specs.Lines.{lines}
-use Rattle.cf_syntax.specs.Text.{Reading, start, after_line, whole, read_from, thread_names, script_of}
+use Rattle.cf_syntax.specs.Text.{Reading, start, after_line, whole, read_from, thread_names}
 
 -- the fault of what is refused, and none of what is not
 abbrev pub fault_in : {A E : Type 0} → Result A E → Option E

@@ -1,7 +1,7 @@
 -- The script that a text is, or its refusal. This project's own: line 1 is `cf 1`, class lines follow, then the block
 -- `setup`, the blocks of threads and those of handlers, each to a line `end`, with a statement on each line between.
 -- Each step below tries the reasons of a line in their order.
-use Rattle.std.specs.Prelude.{◌≡◌, ℕ, ◌+◌, ◌-◌, ◌<◌, Bool, true, false, not, ◌&&◌, ◌||◌, List, [], ◌∷◌, ◌++◌, length, map, take, drop, replicate, codes, Result, Ok, Err, Option, Some, None, is_some, unwrap_or, slice_get, nat_lt, nat_le, ◌==◌, if◌then◌else◌}
+use Rattle.std.specs.Prelude.{◌≡◌, ℕ, ◌+◌, ◌-◌, Bool, true, false, not, ◌&&◌, List, [], ◌∷◌, ◌++◌, length, map, drop, replicate, codes, Result, Ok, Err, Option, Some, None, is_some, nat_lt, nat_le, ◌==◌, if◌then◌else◌}
 use Rattle.std.specs.Option.{option_map}
 use Rattle.std.specs.List.{list_any, position_or_len}
 use Rattle.std.specs.Str.{bytes_eq, is_utf8}

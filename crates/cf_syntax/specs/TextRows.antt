@@ -1,10 +1,10 @@
 -- Texts with their scripts or refusals, by which the definitions can be compared with what they are meant to say.
-use Rattle.std.specs.Prelude.{ℕ, List, [], ◌∷◌, ◌++◌, map, codes, true, false, Option, Some, None, Result, Ok, Err}
+use Rattle.std.specs.Prelude.{ℕ, List, [], ◌∷◌, ◌++◌, map, codes, true, Option, Some, None, Result, Ok, Err}
 use Rattle.cf_syntax.specs.declared.script.Script.{Script}
 use Rattle.cf_syntax.specs.declared.refusal.Refusal.{Refusal}
 use Rattle.cf_syntax.specs.declared.refusal.Reason.{Reason}
 use Rattle.cf_syntax.specs.declared.refusal.Reason.TheVariants.{NotUtf8, Text, Header, Word, Order, Kind, Arity, Name, Number, Hex, Twice, Open, NoSetup}
-use Rattle.cf_syntax.specs.declared.statement.Statement.TheVariants.{MakeString, MakeArray, MakeBag, Show, Retain, Release, SetTake, ArrSet}
+use Rattle.cf_syntax.specs.declared.statement.Statement.TheVariants.{MakeString, MakeBag, Retain, SetTake, ArrSet}
 use Rattle.cf_syntax.specs.Text.{script_of}
 use Rattle.cf_syntax.specs.Examples.{refused_at}
 

@@ -1,5 +1,5 @@
 -- Answers to the goals of `reader::read_script`.
-use Rattle.std.proofs.Common.{ℕ, List, ap, ◌∙◌, arith}
+use Rattle.std.proofs.Common.{ap, ◌∙◌, arith}
 use Rattle.cf_syntax.specs.Lines.{lines}
 use Rattle.cf_syntax.specs.Text.{Reading}
 use Rattle.cf_script.specs.BlockViews.{reading_of}

@@ -1,8 +1,7 @@
 -- The loop invariants of `table::any_begins`.
 use Rattle.std.proofs.Common.{◌≡◌, drop, map}
-use Rattle.std.specs.Prelude.{◌&&◌}
 use Rattle.std.specs.List.{list_any}
-use Rattle.cf_syntax.specs.FormWords.{starts, begins, has_count, find_row}
+use Rattle.cf_syntax.specs.FormWords.{begins}
 use Rattle.cf_script.specs.Views.{lent}
 use Rattle.cf_script.specs.TableViews.{form_word_of}
 use Rattle.cf_script.proofs.table.any_begins.Given as goal

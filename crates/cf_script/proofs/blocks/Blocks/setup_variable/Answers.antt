@@ -1,5 +1,5 @@
 -- Answers to the goals of `blocks::Blocks::setup_variable`.
-use Rattle.std.proofs.Common.{◌≡◌, ℕ, List, ap, sym, ◌∙◌}
+use Rattle.std.proofs.Common.{ℕ, List, ap, sym, ◌∙◌}
 use Rattle.std.specs.Global.{Vec}
 use Rattle.cf_syntax.specs.Text.{place_of, setup_variables}
 use Rattle.cf_script.proofs.NameLaws.{place_named}

@@ -93,7 +93,7 @@ below n m i e = tests (ltb n m) refl e
     tests true at e = let same : n ≡ i = cc in subst (λ (k : ℕ). k < m) same (ltb-true n m at)
     tests false at e = absurd cc
 
-not_below : (n m : ℕ) → m ≤ n → ltb n m ≡ false
+pub not_below : (n m : ℕ) → m ≤ n → ltb n m ≡ false
 not_below n m le = elim (cases_Bool (ltb n m)) [ inl t ↦ absurd (omega (arith, ltb-true n m t, le)) | inr f ↦ f ]
 
 past : (n m : ℕ) → cond (ltb n m) (Some n) None ≡ None → m ≤ n

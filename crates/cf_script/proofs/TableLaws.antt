@@ -1,5 +1,5 @@
 -- What is found among rows, and among those after them.
-use Rattle.std.proofs.Common.{◌≡◌, ℕ, ◌+◌, Bool, true, false, cond, List, [], ◌∷◌, ◌++◌, length, Option, Some, None, Result, Ok, refl, ap, sym, ◌∙◌, subst}
+use Rattle.std.proofs.Common.{◌≡◌, ℕ, ◌+◌, ◌≤◌, Bool, true, false, cond, List, [], ◌∷◌, ◌++◌, length, Option, Some, None, Result, Ok, Err, refl, ap, sym, ◌∙◌, subst}
 use Rattle.std.specs.Prelude.{◌&&◌, ◌||◌, is_some, nat_lt}
 use Rattle.std.proofs.lemmas.Bool.{eqb-true}
 use Rattle.std.proofs.lemmas.List.{length-map}
@@ -9,11 +9,12 @@ use Rattle.cf_syntax.specs.declared.refusal.Reason.{Reason}
 use Rattle.cf_syntax.specs.declared.refusal.Reason.TheVariants.{Word, Kind, Arity}
 use Rattle.cf_syntax.specs.FormTable.{FormWord, forms_now}
 use Rattle.cf_syntax.specs.FormStatements.{word_at}
-use Rattle.cf_syntax.specs.FormWords.{require, needed, starts, begins, has_count, is_kind, find_row, form_of}
+use Rattle.cf_syntax.specs.FormWords.{◌>>=◌, require, needed, starts, begins, has_count, is_kind, find_row, form_of}
 use Rattle.cf_syntax.proofs.RefusalLaws.{bind_ok}
 use Rattle.cf_script.specs.Views.{lent}
-use Rattle.cf_script.specs.TableViews.{form_word_of, found_row, Found, search_in, first_of, joined}
+use Rattle.cf_script.specs.TableViews.{form_word_of, found_row}
 use Rattle.cf_script.specs.declared.table.FormWord as Code
+use Rattle.cf_script.proofs.NameLaws.{not_below}
 use denote.Ref.{Bor}
 
 abbrev pub IsOf : List (List ℕ) → FormWord → Bool
@@ -42,51 +43,57 @@ found_begins ws (x ∷ rows) r e = tests (begins x ws) (has_count x ws) e (found
     tests true v e rest = refl
     tests false v e rest = rest e
 
-find_more : (test : FormWord → Bool) (xs ys : List FormWord)
-    → find_row test (xs ++ ys) ≡ first_of (find_row test xs) (find_row test ys)
-find_more test [] ys = refl
-find_more test (x ∷ xs) ys = tests (test x) (find_more test xs ys)
-  where
-    tests : (t : Bool) → find_row test (xs ++ ys) ≡ first_of (find_row test xs) (find_row test ys)
-        → cond t (Some x) (find_row test (xs ++ ys)) ≡ first_of (cond t (Some x) (find_row test xs)) (find_row test ys)
-    tests true rest = refl
-    tests false rest = rest
+-- the form of a line among some rows
+abbrev form_in : List FormWord → List (List ℕ) → Result FormWord Reason
+form_in rows ws =
+    require Word (list_any (λ r. starts r ws) rows)
+    >>= (λ _. require Kind (nat_lt (length ws) 3 || list_any (λ r. begins r ws) rows)
+    >>= (λ _. needed Arity (find_row (IsOf ws) rows)))
 
--- what is found among some rows and those after them
-search_more : (ws : List (List ℕ)) (xs ys : List FormWord)
-    → search_in ws (xs ++ ys) ≡ joined (search_in ws xs) (search_in ws ys)
-search_more ws xs ys =
-    rw (list_any-append (λ (r : FormWord). starts r ws) xs ys, list_any-append (λ (r : FormWord). begins r ws) xs ys, find_more (IsOf ws) xs ys) refl
+tested : (t u v : Bool) (o : Option FormWord) (r : FormWord) → t ≡ true → u ≡ true → o ≡ Some r
+    → (require Word t >>= (λ _. require Kind (v || u) >>= (λ _. needed Arity o))) ≡ Ok r
+tested t u true o r a b e = rw (a, e) refl
+tested t u false o r a b e = rw (a, b, e) refl
 
--- a form that is found needs no further search
-joined_found : (t u : Bool) (o : Option FormWord) (r : FormWord) (second : Found) → t ≡ true → u ≡ true → o ≡ Some r
-    → joined (record { is_started = t; is_begun = u; form_word = o }) second
-    ≡ (record { is_started = t; is_begun = u; form_word = o })
-joined_found t u o r second a b e = rw (a, b, e) refl
+found_in : (ws : List (List ℕ)) (rows : List FormWord) (r : FormWord) → find_row (IsOf ws) rows ≡ Some r
+    → form_in rows ws ≡ Ok r
+found_in ws rows r e =
+    tested (list_any (λ x. starts x ws) rows) (list_any (λ x. begins x ws) rows) (nat_lt (length ws) 3) (find_row (IsOf ws) rows) r
+    (found_starts ws rows r e) (found_begins ws rows r e) e
 
-search_first : (ws : List (List ℕ)) (xs ys : List FormWord) → is_some (find_row (IsOf ws) xs) ≡ true
-    → search_in ws (xs ++ ys) ≡ search_in ws xs
-search_first ws xs ys e = here (find_row (IsOf ws) xs) refl e
-  where
-    here : (o : Option FormWord) → find_row (IsOf ws) xs ≡ o → is_some o ≡ true
-        → search_in ws (xs ++ ys) ≡ search_in ws xs
-    here None at e = absurd cc
-    here (Some r) at e =
-        search_more ws xs ys
-        ∙ joined_found (list_any (λ (x : FormWord). starts x ws) xs) (list_any (λ (x : FormWord). begins x ws) xs) (find_row (IsOf ws) xs) r (search_in ws ys)
-        (found_starts ws xs r at) (found_begins ws xs r at) at
+-- a row that is found is the form of the line
+pub form_found : (ws : List (List ℕ)) (r : FormWord) → find_row (IsOf ws) forms_now ≡ Some r → form_of ws ≡ Ok r
+unfolding form_of
+form_found ws r e = found_in ws forms_now r e
 
--- what is found among some rows is what is found among them and those after them, where it is a form; and joined where
--- not
-pub search_found : (ws : List (List ℕ)) (xs ys : List FormWord) (f : Found) → f ≡ search_in ws xs
-    → is_some f.form_word ≡ true
-    → f ≡ search_in ws (xs ++ ys)
-search_found ws xs ys f at e = at ∙ sym (search_first ws xs ys (sym (ap (λ (g : Found). is_some g.form_word) at) ∙ e))
+-- and what is wanting where none is found
+no_word : (t u : Bool) (o : Option FormWord) → t ≡ false
+    → (require Word t >>= (λ _. require Kind u >>= (λ _. needed Arity o))) ≡ Err Word
+no_word t u o a = rw a refl
 
-pub search_joined : (ws : List (List ℕ)) (xs ys : List FormWord) (f g : Found) → f ≡ search_in ws xs
-    → g ≡ search_in ws ys
-    → joined f g ≡ search_in ws (xs ++ ys)
-search_joined ws xs ys f g first second = rw (first, second) (sym (search_more ws xs ys))
+no_kind : (t u : Bool) (o : Option FormWord) → t ≡ true → u ≡ false
+    → (require Word t >>= (λ _. require Kind u >>= (λ _. needed Arity o))) ≡ Err Kind
+no_kind t u o a b = rw (a, b) refl
+
+no_count : (t u : Bool) (o : Option FormWord) → t ≡ true → u ≡ true → o ≡ None
+    → (require Word t >>= (λ _. require Kind u >>= (λ _. needed Arity o))) ≡ Err Arity
+no_count t u o a b e = rw (a, b, e) refl
+
+pub form_of_no_word : (ws : List (List ℕ)) → list_any (λ r. starts r ws) forms_now ≡ false → form_of ws ≡ Err Word
+unfolding form_of
+form_of_no_word ws a = no_word (list_any (λ (r : FormWord). starts r ws) forms_now) (nat_lt (length ws) 3 || list_any (λ (r : FormWord). begins r ws) forms_now) (find_row (IsOf ws) forms_now) a
+
+pub form_of_no_kind : (ws : List (List ℕ)) → list_any (λ r. starts r ws) forms_now ≡ true
+    → (nat_lt (length ws) 3 || list_any (λ r. begins r ws) forms_now) ≡ false
+    → form_of ws ≡ Err Kind
+unfolding form_of
+form_of_no_kind ws a b = no_kind (list_any (λ (r : FormWord). starts r ws) forms_now) (nat_lt (length ws) 3 || list_any (λ (r : FormWord). begins r ws) forms_now) (find_row (IsOf ws) forms_now) a b
+
+pub form_of_no_count : (ws : List (List ℕ)) → list_any (λ r. starts r ws) forms_now ≡ true
+    → (nat_lt (length ws) 3 || list_any (λ r. begins r ws) forms_now) ≡ true → find_row (IsOf ws) forms_now ≡ None
+    → form_of ws ≡ Err Arity
+unfolding form_of
+form_of_no_count ws a b e = no_count (list_any (λ (r : FormWord). starts r ws) forms_now) (nat_lt (length ws) 3 || list_any (λ (r : FormWord). begins r ws) forms_now) (find_row (IsOf ws) forms_now) a b e
 
 -- words that are of a form are as many as the form's
 row_count : (ws : List (List ℕ)) (rows : List FormWord) (r : FormWord) → find_row (IsOf ws) rows ≡ Some r
@@ -118,3 +125,8 @@ pub words_count : (ws : List (Bor (List ℕ))) (found : Result (Bor Code.FormWor
 words_count ws found r e is =
     let count = row_count (lent ws) forms_now (form_word_of r.now) (form_row (lent ws) (form_word_of r.now) (sym e ∙ ap found_row is)) in
     sym (length-map ws (λ (w : Bor (List ℕ)). w.now)) ∙ eqb-true (length (lent ws)) (1 + length r.now.operands.now) count
+
+-- a line of three words or more has its kind where its words begin a form
+pub long_enough : (ws : List (Bor (List ℕ))) (t u : Bool) → 3 ≤ length ws → t ≡ u
+    → t ≡ (nat_lt (length (lent ws)) 3 || u)
+long_enough ws t u le e = rw (length-map ws (λ (w : Bor (List ℕ)). w.now), not_below (length ws) 3 le) e

@@ -1,16 +1,9 @@
-//! The forms that the reader takes, those that come most often first: what is done to every object, and to those
-//! without members.
-ghost use Rattle.std.specs.Prelude.{◌≡◌, drop};
-ghost use Rattle.cf_syntax.specs.FormTable.{forms_now};
-ghost use Rattle.cf_script.specs.Views.{lent};
-ghost use Rattle.cf_script.specs.TableViews.{search_of, search_in};
-
-use crate::members::search_members;
-use crate::table::{Findings, FormWord, is_found, join, search};
+//! The forms that the reader takes, those that come most often first.
+use crate::table::FormWord;
 use cf_syntax::{Operand, StatementForm};
 
-/// The forms that come most often.
-static COMMON: [FormWord; 3] = [
+/// One row a form; a form that has a last word or none has two.
+pub(crate) static FORMS: [FormWord; 50] = [
     FormWord {
         word: b"retain",
         kind: None,
@@ -29,21 +22,6 @@ static COMMON: [FormWord; 3] = [
         operands: &[Operand::Used],
         form: StatementForm::Show,
     },
-];
-
-/// What the words of a line begin among all forms.
-pub(crate) fn search_common(words: &[&[u8]]) -> Findings
-    ensures { search_of result ≡ search_in (lent words.now) forms_now }
-{
-    let found = search(&COMMON, words);
-    if is_found(&found) {
-        return found;
-    }
-    join(found, search_leaves(words))
-}
-
-/// The forms that make objects without members.
-static LEAVES: [FormWord; 5] = [
     FormWord {
         word: b"make",
         kind: Some(b"string"),
@@ -79,21 +57,6 @@ static LEAVES: [FormWord; 5] = [
         ],
         form: StatementForm::MakeNumber,
     },
-];
-
-/// What the words of a line begin among these forms and those after them.
-fn search_leaves(words: &[&[u8]]) -> Findings
-    ensures { search_of result ≡ search_in (lent words.now) (drop 3 forms_now) }
-{
-    let found = search(&LEAVES, words);
-    if is_found(&found) {
-        return found;
-    }
-    join(found, search_collections(words))
-}
-
-/// The forms that make collections.
-static COLLECTIONS: [FormWord; 10] = [
     FormWord {
         word: b"make",
         kind: Some(b"array"),
@@ -154,21 +117,6 @@ static COLLECTIONS: [FormWord; 10] = [
         operands: &[Operand::Bound, Operand::Found, Operand::Plain],
         form: StatementForm::MakeHeap,
     },
-];
-
-/// What the words of a line begin among these forms and those after them.
-fn search_collections(words: &[&[u8]]) -> Findings
-    ensures { search_of result ≡ search_in (lent words.now) (drop 8 forms_now) }
-{
-    let found = search(&COLLECTIONS, words);
-    if is_found(&found) {
-        return found;
-    }
-    join(found, search_contents(words))
-}
-
-/// The forms of instances, texts, data and numbers.
-static CONTENTS: [FormWord; 10] = [
     FormWord {
         word: b"new",
         kind: None,
@@ -234,15 +182,136 @@ static CONTENTS: [FormWord; 10] = [
         operands: &[Operand::Used, Operand::Kind],
         form: StatementForm::NumAs,
     },
+    FormWord {
+        word: b"arr.append",
+        kind: None,
+        operands: &[Operand::Used, Operand::Used],
+        form: StatementForm::ArrAppend,
+    },
+    FormWord {
+        word: b"arr.insert",
+        kind: None,
+        operands: &[Operand::Used, Operand::Index, Operand::Used],
+        form: StatementForm::ArrInsert,
+    },
+    FormWord {
+        word: b"arr.set",
+        kind: None,
+        operands: &[Operand::Used, Operand::Index, Operand::Used],
+        form: StatementForm::ArrSet,
+    },
+    FormWord {
+        word: b"arr.remove",
+        kind: None,
+        operands: &[Operand::Used, Operand::Index],
+        form: StatementForm::ArrRemove,
+    },
+    FormWord {
+        word: b"arr.take",
+        kind: None,
+        operands: &[Operand::Bound, Operand::Used, Operand::Index],
+        form: StatementForm::ArrTake,
+    },
+    FormWord {
+        word: b"dict.add",
+        kind: None,
+        operands: &[Operand::Used, Operand::Used, Operand::Used],
+        form: StatementForm::DictAdd,
+    },
+    FormWord {
+        word: b"dict.set",
+        kind: None,
+        operands: &[Operand::Used, Operand::Used, Operand::Used],
+        form: StatementForm::DictSet,
+    },
+    FormWord {
+        word: b"dict.replace",
+        kind: None,
+        operands: &[Operand::Used, Operand::Used, Operand::Used],
+        form: StatementForm::DictReplace,
+    },
+    FormWord {
+        word: b"dict.remove",
+        kind: None,
+        operands: &[Operand::Used, Operand::Used],
+        form: StatementForm::DictRemove,
+    },
+    FormWord {
+        word: b"dict.take",
+        kind: None,
+        operands: &[Operand::Bound, Operand::Used, Operand::Used],
+        form: StatementForm::DictTake,
+    },
+    FormWord {
+        word: b"set.add",
+        kind: None,
+        operands: &[Operand::Used, Operand::Used],
+        form: StatementForm::SetAdd,
+    },
+    FormWord {
+        word: b"set.set",
+        kind: None,
+        operands: &[Operand::Used, Operand::Used],
+        form: StatementForm::SetSet,
+    },
+    FormWord {
+        word: b"set.replace",
+        kind: None,
+        operands: &[Operand::Used, Operand::Used],
+        form: StatementForm::SetReplace,
+    },
+    FormWord {
+        word: b"set.remove",
+        kind: None,
+        operands: &[Operand::Used, Operand::Used],
+        form: StatementForm::SetRemove,
+    },
+    FormWord {
+        word: b"set.count",
+        kind: None,
+        operands: &[Operand::Used, Operand::Used],
+        form: StatementForm::SetCount,
+    },
+    FormWord {
+        word: b"set.take",
+        kind: None,
+        operands: &[Operand::Bound, Operand::Used, Operand::Used],
+        form: StatementForm::SetTake,
+    },
+    FormWord {
+        word: b"heap.add",
+        kind: None,
+        operands: &[Operand::Used, Operand::Used],
+        form: StatementForm::HeapAdd,
+    },
+    FormWord {
+        word: b"heap.take",
+        kind: None,
+        operands: &[Operand::Bound, Operand::Used],
+        form: StatementForm::HeapTake,
+    },
+    FormWord {
+        word: b"heap.remove",
+        kind: None,
+        operands: &[Operand::Used],
+        form: StatementForm::HeapRemove,
+    },
+    FormWord {
+        word: b"field.set",
+        kind: None,
+        operands: &[Operand::Used, Operand::Index, Operand::Used],
+        form: StatementForm::FieldSet,
+    },
+    FormWord {
+        word: b"field.clear",
+        kind: None,
+        operands: &[Operand::Used, Operand::Index],
+        form: StatementForm::FieldClear,
+    },
+    FormWord {
+        word: b"field.take",
+        kind: None,
+        operands: &[Operand::Bound, Operand::Used, Operand::Index],
+        form: StatementForm::FieldTake,
+    },
 ];
-
-/// What the words of a line begin among these forms and those after them.
-fn search_contents(words: &[&[u8]]) -> Findings
-    ensures { search_of result ≡ search_in (lent words.now) (drop 18 forms_now) }
-{
-    let found = search(&CONTENTS, words);
-    if is_found(&found) {
-        return found;
-    }
-    join(found, search_members(words))
-}

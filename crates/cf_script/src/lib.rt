@@ -7,7 +7,6 @@ mod classes;
 mod fault;
 mod forms;
 mod lines;
-mod members;
 mod names;
 mod numbers;
 mod openings;

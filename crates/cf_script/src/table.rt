@@ -1,12 +1,13 @@
 //! The table of the forms of statements, and the form of a line.
-ghost use Rattle.std.specs.Prelude.{◌≡◌, ◌&&◌, is_some, map};
+ghost use Rattle.std.specs.Prelude.{◌≡◌, ◌&&◌, ◌||◌, length, map, nat_lt};
 ghost use Rattle.std.specs.List.{list_any};
 ghost use Rattle.std.specs.Option.{option_map};
+ghost use Rattle.cf_syntax.specs.FormTable.{forms_now};
 ghost use Rattle.cf_syntax.specs.FormWords.{is_kind, starts, begins, has_count, find_row, form_of};
 ghost use Rattle.cf_script.specs.Views.{lent};
-ghost use Rattle.cf_script.specs.TableViews.{form_word_of, kind_of, found_row, search_of, search_in, joined};
+ghost use Rattle.cf_script.specs.TableViews.{form_word_of, kind_of, found_row};
 
-use crate::forms::search_common;
+use crate::forms::FORMS;
 use crate::words::{is, word_at};
 use cf_syntax::{Operand, Reason, StatementForm};
 
@@ -88,68 +89,25 @@ fn find_row(rows: &'static [FormWord], words: &[&[u8]]) -> Option<&'static FormW
     None
 }
 
-/// How far the words of a line begin some forms.
-#[derive(Drop)]
-pub(crate) struct Findings {
-    /// Whether the first word is that of a form.
-    pub starts: bool,
-    /// Whether the words begin a form, with its kind.
-    pub begins: bool,
-    /// The first form that they begin, with as many words as it has.
-    pub form_word: Option<&'static FormWord>,
-}
-
-/// What the words of a line begin among some forms. Words that are of a form are found in one pass.
-#[tactic(auto, using(crate::proofs::TableLaws::found_starts, crate::proofs::TableLaws::found_begins))]
-pub(crate) fn search(rows: &'static [FormWord], words: &[&[u8]]) -> Findings
-    ensures { search_of result ≡ search_in (lent words.now) (map form_word_of rows.now) }
+/// Whether a line is too short to have a kind, or its words begin a form with their kind.
+fn has_kind(words: &[&[u8]]) -> bool
+    ensures { result ≡ (nat_lt (length (lent words.now)) 3 || list_any (λ r. begins r (lent words.now)) forms_now) }
 {
-    match find_row(rows, words) {
-        Some(form_word) => Findings {
-            starts: true,
-            begins: true,
-            form_word: Some(form_word),
-        },
-        None => Findings {
-            starts: any_starts(rows, words),
-            begins: any_begins(rows, words),
-            form_word: None,
-        },
-    }
-}
-
-/// Whether words are of a form that was found.
-pub(crate) fn is_found(found: &Findings) -> bool
-    ensures { result ≡ is_some (search_of found.now).form_word }
-{
-    found.form_word.is_some()
-}
-
-/// What is found among some forms, and then among those after them.
-pub(crate) fn join(first: Findings, second: Findings) -> Findings
-    ensures { search_of result ≡ joined (search_of first) (search_of second) }
-{
-    Findings {
-        starts: first.starts || second.starts,
-        begins: first.begins || second.begins,
-        form_word: match first.form_word {
-            Some(form_word) => Some(form_word),
-            None => second.form_word,
-        },
-    }
+    words.len() < 3 || any_begins(&FORMS, words)
 }
 
 /// The form of a line.
-#[tactic(auto, unfolding(cf_syntax::specs::FormWords::form_of))]
 pub(crate) fn form_of(words: &[&[u8]]) -> Result<&'static FormWord, Reason>
     ensures { found_row result ≡ form_of (lent words.now) }
 {
-    let found = search_common(words);
-    if !found.starts {
+    if let Some(form_word) = find_row(&FORMS, words) {
+        return Ok(form_word);
+    }
+    if !any_starts(&FORMS, words) {
         return Err(Reason::Word);
     }
-    if 3 <= words.len() && !found.begins {
+    if !has_kind(words) {
         return Err(Reason::Kind);
     }
-    found.form_word.ok_or(Reason::Arity)
+    Err(Reason::Arity)
 }

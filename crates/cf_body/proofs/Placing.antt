@@ -6,10 +6,10 @@ use Rattle.std.specs.List.{splice, remove}
 use Rattle.std.proofs.lemmas.Bool.{cases_lt}
 use Rattle.std.proofs.lemmas.Option.{slice_get_read, slice_get_within}
 use Rattle.cf_types.specs.declared.cells.Cell.{Cell}
-use Rattle.cf_contents.specs.Contents.{Content, text_content, data_content, number_content, instance_content, array_content, dictionary_content, set_content, bag_content, heap_content, present, flat, ids_of, row_ids, id_in_row, order_of, unless_plain, slots_in, member_limit}
+use Rattle.cf_contents.specs.Contents.{Content, text_content, data_content, number_content, instance_content, array_content, dictionary_content, set_content, bag_content, heap_content, present, flat, ids_of, row_ids, id_in_row, order_of, unless_plain, slots_in, member_limit, item_content}
 use Rattle.cf_callbacks.specs.Ranking.{by_rank}
 use Rattle.cf_callbacks.proofs.RankingLaws.{length-by_rank}
-use Rattle.cf_body.specs.Bodies.{most_in}
+use Rattle.cf_body.specs.Bodies.{most_in, members_in}
 use Rattle.cf_body.specs.Changes.{DoneTo}
 use Rattle.cf_body.specs.Pairs.{numbers_in}
 use Rattle.cf_body.specs.declared.change.BodyChange.TheVariants.{Replace, Remove, Fill, Clear}
@@ -187,6 +187,7 @@ slots_twice (bag_content false rows) = omega (arith, length-row_ids rows)
 slots_twice (heap_content true adds rows) = omega arith
 slots_twice (heap_content false adds rows) =
     omega (arith, length-row_ids (by_rank (order_of false) rows), length-by_rank (order_of false) rows)
+slots_twice (item_content handler info valid item) = omega (arith, length-present (info ∷ []))
 
 pub few_slots : (c : Content) (k : ℕ) (slot : Option ℕ) → most_in c < member_limit → slot ≡ slice_get (slots_in c) k
     → OnSome slot (k + 1 < 4294967296)

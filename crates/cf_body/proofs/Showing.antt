@@ -9,7 +9,7 @@ use Rattle.std.specs.Char.Utf16.{is_high_surrogate, is_low_surrogate, lone_unit_
 use Rattle.std.specs.List.{flat_map, join_with_byte}
 use Rattle.hex.specs.Hex.{encode_lower}
 use Rattle.cf_contents.specs.Descriptions.{more_if, shown_char, shown_bytes, member_word, pair_word, cell_word, row_word}
-use Rattle.cf_contents.specs.Contents.{Content, text_content, data_content, number_content, instance_content, array_content, dictionary_content, set_content, bag_content, heap_content}
+use Rattle.cf_contents.specs.Contents.{Content, text_content, data_content, number_content, instance_content, array_content, dictionary_content, set_content, bag_content, heap_content, item_content}
 use Rattle.cf_ids.specs.Words.{number_word}
 use Rattle.cf_body.specs.Bodies.{word_at, words_of, members_in}
 
@@ -147,3 +147,4 @@ length-words (dictionary_content plain pairs) = length-map pairs pair_word
 length-words (set_content plain members) = length-map members cell_word
 length-words (bag_content plain rows) = length-map rows row_word
 length-words (heap_content plain adds rows) = refl
+length-words (item_content handler info valid item) = refl

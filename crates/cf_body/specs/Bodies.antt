@@ -1,9 +1,9 @@
 -- What bodies contain, and how their members are described.
-use Rattle.std.specs.Prelude.{ℕ, Bool, List, [], ◌++◌, codes, map, length, take, nat_lt, slice_get, unwrap_or}
+use Rattle.std.specs.Prelude.{ℕ, Bool, List, [], ◌∷◌, ◌++◌, codes, map, length, take, nat_lt, slice_get, unwrap_or}
 use Rattle.std.specs.Fmt.{decimal}
 use Rattle.std.specs.List.{join_with_byte}
 use Rattle.cf_ids.specs.Words.{number_word}
-use Rattle.cf_contents.specs.Contents.{Content, Object, text_content, data_content, number_content, instance_content, array_content, dictionary_content, set_content, bag_content, heap_content, size_of}
+use Rattle.cf_contents.specs.Contents.{Content, Object, text_content, data_content, number_content, instance_content, array_content, dictionary_content, set_content, bag_content, heap_content, size_of, item_content}
 use Rattle.cf_contents.specs.Descriptions.{more_if, member_word, pair_word, cell_word, row_word}
 use Rattle.cf_contents.specs.Stores.{Held}
 use Rattle.cf_body.specs.declared.body.Kind.{Kind}
@@ -50,7 +50,7 @@ room_of (Set set) = set.room
 room_of (Bag bag) = bag.room
 room_of (Heap heap) = heap.room
 
--- how many members there are that are listed: fields, elements, pairs or rows
+-- how many members there are that are listed: fields, elements, pairs or rows, and of an item its info
 abbrev pub members_in : Content → ℕ
 members_in (text_content mutable units) = 0
 members_in (data_content mutable bytes) = 0
@@ -61,8 +61,9 @@ members_in (dictionary_content plain pairs) = length pairs
 members_in (set_content plain members) = length members
 members_in (bag_content plain rows) = length rows
 members_in (heap_content plain adds rows) = 0
+members_in (item_content handler info valid item) = 1
 
--- what stays below the limit: of an instance how many fields it has, of others their size
+-- what stays below the limit: of an instance how many fields it has, of an item one, of others their size
 abbrev pub most_in : Content → ℕ
 most_in (text_content mutable units) = 0
 most_in (data_content mutable bytes) = 0
@@ -73,6 +74,7 @@ most_in (dictionary_content plain pairs) = size_of (dictionary_content plain pai
 most_in (set_content plain members) = size_of (set_content plain members)
 most_in (bag_content plain rows) = size_of (bag_content plain rows)
 most_in (heap_content plain adds rows) = size_of (heap_content plain adds rows)
+most_in (item_content handler info valid item) = 1
 
 -- the words of the members
 abbrev pub words_of : Content → List (List ℕ)
@@ -85,6 +87,7 @@ words_of (dictionary_content plain pairs) = map pair_word pairs
 words_of (set_content plain members) = map cell_word members
 words_of (bag_content plain rows) = map row_word rows
 words_of (heap_content plain adds rows) = []
+words_of (item_content handler info valid item) = member_word info ∷ []
 
 -- the word at a place, and nothing where there is none
 abbrev pub word_at : List (List ℕ) → ℕ → List ℕ

@@ -3,8 +3,8 @@
 use Rattle.std.proofs.Common.{◌≡◌, ℕ, zero, suc, Bool, true, List, [], ◌∷◌, length, Option, Some, None, refl, ap}
 use Rattle.std.specs.Prelude.{slice_get}
 use Rattle.std.specs.Option.{option_map}
-use Rattle.cf_contents.specs.Contents.{Content, text_content, data_content, instance_content, array_content, dictionary_content, set_content, bag_content, heap_content, Object}
-use Rattle.cf_contents.specs.Deeds.{Change, unchanged, in_text, in_data, in_places, put_pair, remove_pair, add_member, put_member, remove_member, remove_least, Splice, text_after, data_after, places_after, content_after, with_change, objects_after}
+use Rattle.cf_contents.specs.Contents.{Content, text_content, data_content, instance_content, array_content, dictionary_content, set_content, bag_content, heap_content, Object, item_content}
+use Rattle.cf_contents.specs.Deeds.{Change, unchanged, in_text, in_data, in_places, put_pair, remove_pair, add_member, put_member, remove_member, remove_least, Splice, text_after, data_after, places_after, content_after, with_change, objects_after, in_item}
 use Rattle.cf_contents.specs.Keys.{compared_by}
 
 pub length-with_change : (o : ℕ) (change : Change) (objects : List Object)
@@ -81,3 +81,5 @@ form-after keyed o (remove_member x) (bag_content plain rows) = refl
 form-after keyed o (remove_member x) _ = refl
 form-after keyed o remove_least (heap_content plain adds rows) = refl
 form-after keyed o remove_least _ = refl
+form-after keyed o (in_item valid item) (item_content handler info v i) = refl
+form-after keyed o (in_item valid item) _ = refl

@@ -15,10 +15,11 @@ use Rattle.cf_types.specs.declared.cells.Cell.{Cell}
 use Rattle.cf_syntax.specs.declared.script.ClassLine.{ClassLine}
 use Rattle.cf_syntax.specs.declared.statement.Statement.{Statement}
 use Rattle.cf_syntax.specs.declared.statement.Statement.TheVariants as forms
+use Rattle.cf_contents.specs.Contents.{Content, text_content, data_content, number_content, instance_content, array_content, dictionary_content, set_content, bag_content, heap_content, times, present, slots_in, size_of, instance_of}
+use Rattle.cf_syntax.specs.declared.mention.ThreadWord.TheVariants.{Own, Named}
 use Rattle.cf_syntax.specs.declared.mention.Ownership.{Ownership}
 use Rattle.cf_syntax.specs.declared.mention.Ownership.TheVariants.{Keeps, Binds, Retains, Releases}
 use Rattle.cf_syntax.specs.Mentions.{ownership_of, makes_object}
-use Rattle.cf_contents.specs.Contents.{Content, text_content, data_content, number_content, instance_content, array_content, dictionary_content, set_content, bag_content, heap_content, times, present, slots_in, size_of, instance_of}
 use Rattle.cf_contents.specs.Keys.{Numbered, number_of, class_line}
 use Rattle.cf_contents.specs.Deeds.{Origin, nowhere, fresh, there, Change, unchanged, Deed, answering, creating, changing, binding, with_object, with_key, text_in, mutable_text_in, mutable_data_in, number_in, fields_in, elements_in, pairs_in, heap_in, members_in, with_text, with_mutable_text, with_mutable_data, with_number, with_fields, with_elements, with_pair, with_member, with_heap, unless_split, within, text_edit, data_edit, places_edit, as_kind, fresh_if, putting, adding_pair, setting_pair, replacing_pair, removing_pair, adding_member, setting_member, replacing_member, removing_member, counting_member, object_in_row, removing_least, add_member, put_member, deed_of}
 use Rattle.cf_contents.proofs.SlotLaws.{present-empty, MakesEmpty, named_in}
@@ -392,4 +393,21 @@ form_fits classes (forms.FieldSet v at x) a b c =
 form_fits classes (forms.FieldClear v at) a b c =
     by_fields Keeps false b c a _ (λ fields. changes_within b c (nat_lt at (length fields)) at 1 _ (none b c))
 form_fits classes (forms.FieldTake v instance at) a b c = by_fields (Binds v) false b c a _ (λ fields. takes (Binds v) b c _)
-form_fits classes _ a b c = answers _ _ b c _ tt
+form_fits classes (forms.MakeSource v order handler info) a b c = answers (Binds v) true b c _ tt
+form_fits classes (forms.MakeTimer v first interval handler info) a b c = answers (Binds v) true b c _ tt
+form_fits classes (forms.MakeObserver v mask repeats order handler info) a b c = answers (Binds v) true b c _ tt
+form_fits classes (forms.Add item thread mode) a b c = answers Keeps false b c _ tt
+form_fits classes (forms.Drop item thread mode) a b c = answers Keeps false b c _ tt
+form_fits classes (forms.Common Own mode) a b c = answers Keeps false b c _ tt
+form_fits classes (forms.Common (Named t) mode) a b c = answers Keeps false b c _ tt
+form_fits classes (forms.Signal source) a b c = answers Keeps false b c _ tt
+form_fits classes (forms.Invalidate item) a b c = answers Keeps false b c _ tt
+form_fits classes (forms.Wake Own) a b c = answers Keeps false b c _ tt
+form_fits classes (forms.Wake (Named t)) a b c = answers Keeps false b c _ tt
+form_fits classes (forms.Stop Own) a b c = answers Keeps false b c _ tt
+form_fits classes (forms.Stop (Named t)) a b c = answers Keeps false b c _ tt
+form_fits classes (forms.Run mode limit once) a b c = answers Keeps false b c _ tt
+form_fits classes (forms.Observe observer handler name filter) a b c = answers Keeps false b c _ tt
+form_fits classes (forms.Forget observer name filter) a b c = answers Keeps false b c _ tt
+form_fits classes (forms.Post name None) a b c = answers Keeps false b c _ tt
+form_fits classes (forms.Post name (Some v)) a b c = answers Keeps false b c _ tt

@@ -6,9 +6,10 @@ use Rattle.std.specs.Map.{lookup, set_value, remove_entry}
 use Rattle.std.proofs.lemmas.List.{length-take, length-drop}
 use Rattle.std.proofs.lemmas.Map.{length-set_value}
 use Rattle.cf_types.specs.declared.cells.Cell.{Cell}
-use Rattle.cf_contents.specs.Contents.{Content, text_content, data_content, instance_content, array_content, dictionary_content, set_content, bag_content, heap_content, Object, order_of, size_of, size_at}
+use Rattle.cf_contents.specs.Contents.{Content, text_content, data_content, instance_content, array_content, dictionary_content, set_content, bag_content, heap_content, Object, order_of, size_of, size_at, item_content}
 use Rattle.cf_contents.specs.Keys.{equal_to}
-use Rattle.cf_contents.specs.Deeds.{Splice, Change, unchanged, in_text, in_data, in_places, put_pair, remove_pair, add_member, put_member, remove_member, remove_least, elements, text_after, data_after, places_after, put_after, removed_after, added_after, put_member_after, removed_member_after, least_after, content_after, with_change, objects_after}
+use Rattle.cf_contents.specs.Deeds.{Splice, Change, unchanged, in_text, in_data, in_places, put_pair, remove_pair, add_member, put_member, remove_member, remove_least, elements, text_after, data_after, places_after, put_after, removed_after, added_after, put_member_after, removed_member_after, least_after, content_after, with_change, objects_after, in_item, item_after}
+use Rattle.cf_contents.specs.Items.{Item}
 use Rattle.cf_contents.proofs.SlotLaws.{named_in}
 use Rattle.cf_contents.proofs.MemberLaws.{length-members_with, length-members_set, length-members_without, length-without_least, size-added_rows, size-put_rows, size-less_rows}
 
@@ -74,6 +75,10 @@ pub least_size : (c : Content) → size_of (least_after c) ≤ size_of c
 least_size (heap_content plain adds rows) = omega (arith, length-without_least (order_of plain) rows)
 least_size _ = omega arith
 
+item_size : (valid : Bool) (item : Item) (c : Content) → size_of (item_after valid item c) ≤ size_of c
+item_size valid item (item_content handler info v i) = omega arith
+item_size valid item _ = omega arith
+
 content_size : (change : Change) (c : Content)
     → size_of (content_after change c) ≤ size_of c + length (named_in change)
 content_size unchanged c = omega arith
@@ -86,6 +91,7 @@ content_size (add_member x) c = added_size x c
 content_size (put_member x) c = member_size x c
 content_size (remove_member x) c = omega (arith, gone_size x c)
 content_size remove_least c = omega (arith, least_size c)
+content_size (in_item valid item) c = omega (arith, item_size valid item c)
 
 change_size : (o : ℕ) (change : Change) (objects : List Object) (p : ℕ)
     → size_at (slice_get (with_change o change objects) p) ≤ size_at (slice_get objects p) + length (named_in change)

@@ -6,11 +6,12 @@ use Rattle.std.specs.Map.{lookup, lookup_entry, remove_entry, set_value}
 use Rattle.std.specs.Option.{option_to_list}
 use Rattle.std.proofs.lemmas.List.{take-append-drop, drop-drop}
 use Rattle.cf_types.specs.declared.cells.Cell.{Cell}
-use Rattle.cf_contents.specs.Contents.{Content, text_content, data_content, number_content, instance_content, array_content, dictionary_content, set_content, bag_content, heap_content, Object, times, present, flat, row_ids, order_of, unless_plain, slots_in, slots_at}
+use Rattle.cf_contents.specs.Contents.{Content, text_content, data_content, number_content, instance_content, array_content, dictionary_content, set_content, bag_content, heap_content, Object, times, present, flat, row_ids, order_of, unless_plain, slots_in, slots_at, item_content}
 use Rattle.cf_contents.specs.Keys.{equal_to}
-use Rattle.cf_contents.specs.Deeds.{Origin, nowhere, fresh, there, Splice, Change, unchanged, in_text, in_data, in_places, put_pair, remove_pair, add_member, put_member, remove_member, remove_least, splice_of, splice_out, elements, coming_by, text_after, data_after, places_after, entering, leaving, put_after, put_entering, put_leaving, removed_after, removed_leaving, unless_found, added_after, added_entering, put_member_after, put_member_entering, put_member_leaving, removed_member_after, removed_member_leaving, least_after, least_leaving, content_after, coming_in, going_out, taken_in, given_out, with_change}
+use Rattle.cf_contents.specs.Deeds.{Origin, nowhere, fresh, there, Splice, Change, unchanged, in_text, in_data, in_places, put_pair, remove_pair, add_member, put_member, remove_member, remove_least, splice_of, splice_out, elements, coming_by, text_after, data_after, places_after, entering, leaving, put_after, put_entering, put_leaving, removed_after, removed_leaving, unless_found, added_after, added_entering, put_member_after, put_member_entering, put_member_leaving, removed_member_after, removed_member_leaving, least_after, least_leaving, content_after, coming_in, going_out, taken_in, given_out, with_change, in_item, item_after}
 use Rattle.cf_callbacks.specs.Ranking.{by_rank, least, without_least}
 use Rattle.cf_contents.proofs.MemberLaws.{times-rows, key_most, put_members, put_rows, removed_members, removed_rows, added_members, added_rows, sorted_rows, least_rows}
+use Rattle.cf_contents.specs.Items.{Item}
 
 pub times-append : (n : ℕ) (xs ys : List ℕ) → times n (xs ++ ys) ≡ times n xs + times n ys
 times-append n [] ys = omega arith
@@ -148,6 +149,7 @@ places_law n e (dictionary_content plain pairs) = omega arith
 places_law n e (set_content plain members) = omega arith
 places_law n e (bag_content plain rows) = omega arith
 places_law n e (heap_content plain adds rows) = omega arith
+places_law n e (item_content handler info valid item) = omega arith
 
 pair_law : (n : ℕ) (key : Cell) (value : ℕ) (c : Content)
     → times n (slots_in (put_after key value c)) + times n (put_leaving key c)
@@ -162,6 +164,7 @@ pair_law n key value (array_content plain os) = omega arith
 pair_law n key value (set_content plain members) = omega arith
 pair_law n key value (bag_content plain rows) = omega arith
 pair_law n key value (heap_content plain adds rows) = omega arith
+pair_law n key value (item_content handler info valid item) = omega arith
 
 removed_law : (n : ℕ) (key : Cell) (c : Content)
     → times n (slots_in (removed_after key c)) + times n (removed_leaving key c) ≡ times n (slots_in c) + times n []
@@ -174,6 +177,7 @@ removed_law n key (array_content plain os) = omega arith
 removed_law n key (set_content plain members) = omega arith
 removed_law n key (bag_content plain rows) = omega arith
 removed_law n key (heap_content plain adds rows) = omega arith
+removed_law n key (item_content handler info valid item) = omega arith
 
 added_law : (n : ℕ) (x : Cell) (c : Content)
     → times n (slots_in (added_after x c)) + times n [] ≡ times n (slots_in c) + times n (added_entering x c)
@@ -192,6 +196,7 @@ added_law n x (number_content k) = refl
 added_law n x (instance_content k fields) = omega arith
 added_law n x (array_content plain os) = omega arith
 added_law n x (dictionary_content plain pairs) = omega arith
+added_law n x (item_content handler info valid item) = omega arith
 
 member_law : (n : ℕ) (x : Cell) (c : Content)
     → times n (slots_in (put_member_after x c)) + times n (put_member_leaving x c)
@@ -205,6 +210,7 @@ member_law n x (number_content k) = refl
 member_law n x (instance_content k fields) = omega arith
 member_law n x (array_content plain os) = omega arith
 member_law n x (dictionary_content plain pairs) = omega arith
+member_law n x (item_content handler info valid item) = omega arith
 
 gone_law : (n : ℕ) (x : Cell) (c : Content)
     → times n (slots_in (removed_member_after x c)) + times n (removed_member_leaving x c)
@@ -218,6 +224,7 @@ gone_law n x (number_content k) = refl
 gone_law n x (instance_content k fields) = omega arith
 gone_law n x (array_content plain os) = omega arith
 gone_law n x (dictionary_content plain pairs) = omega arith
+gone_law n x (item_content handler info valid item) = omega arith
 
 least_law : (n : ℕ) (c : Content)
     → times n (slots_in (least_after c)) + times n (least_leaving c) ≡ times n (slots_in c) + times n []
@@ -234,6 +241,11 @@ least_law n (number_content k) = refl
 least_law n (instance_content k fields) = omega arith
 least_law n (array_content plain os) = omega arith
 least_law n (dictionary_content plain pairs) = omega arith
+least_law n (item_content handler info valid item) = omega arith
+
+item_law : (n : ℕ) (valid : Bool) (item : Item) (c : Content) → slots_in (item_after valid item c) ≡ slots_in c
+item_law n valid item (item_content handler info v i) = refl
+item_law n valid item _ = refl
 
 -- the slots after a change, with what it gives out, are those before it with what it takes in
 content_law : (n : ℕ) (change : Change) (c : Content)
@@ -249,6 +261,7 @@ content_law n (add_member x) c = added_law n x c
 content_law n (put_member x) c = member_law n x c
 content_law n (remove_member x) c = gone_law n x c
 content_law n remove_least c = least_law n c
+content_law n (in_item valid item) c = rw (item_law n valid item c) refl
 
 pub change_law : (n o : ℕ) (change : Change) (objects : List Object)
     → times n (slots_at (slice_get (with_change o change objects) o))
@@ -297,6 +310,7 @@ out_most n (add_member x) c = omega arith
 out_most n (put_member x) c = member_most n x c
 out_most n (remove_member x) c = omega (arith, gone_law n x c)
 out_most n remove_least c = omega (arith, least_law n c)
+out_most n (in_item valid item) c = omega arith
 
 pub given_most : (n : ℕ) (change : Change) (ob : Option Object) → times n (given_out ob change) ≤ times n (slots_at ob)
 given_most n change None = omega arith
@@ -329,6 +343,7 @@ named_in (add_member element) = element.id ∷ []
 named_in (put_member element) = element.id ∷ []
 named_in (remove_member element) = []
 named_in remove_least = []
+named_in (in_item valid item) = []
 
 unless_fewer : (n : ℕ) (plain : Bool) (os : List ℕ) → times n (unless_plain plain os) ≤ times n os
 unless_fewer n true os = omega arith
@@ -380,6 +395,7 @@ in_most n (add_member x) c = adding_most n x c
 in_most n (put_member x) c = putting_most n x c
 in_most n (remove_member x) c = omega arith
 in_most n remove_least c = omega arith
+in_most n (in_item valid item) c = omega arith
 
 pub taken_most : (n : ℕ) (change : Change) (ob : Option Object)
     → times n (taken_in ob change) ≤ times n (named_in change)

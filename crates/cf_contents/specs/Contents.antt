@@ -14,11 +14,13 @@ use Rattle.cf_types.specs.declared.callbacks.CellCallbacks.TheVariants.{Typed, P
 use Rattle.cf_types.specs.Cells.{cell_order}
 use Rattle.cf_callbacks.specs.Ranking.{by_rank, least}
 use Rattle.cf_syntax.specs.declared.script.ClassLine.{ClassLine}
+use Rattle.cf_contents.specs.Items.{Item}
 
 -- what an object contains. A text or data may be mutable, a collection may be plain: such a one compares identities
 -- and holds nothing. A pair is its key, with what that is compared by, and the number of its value; a member is what
 -- it is compared by too, in a bag with how often it is there. The rows of a heap stand in order of arrival, each an
--- element with how many were added before it; `adds` is how many were added, those that are gone too
+-- element with how many were added before it; `adds` is how many were added, those that are gone too. An item of a run
+-- loop has its handler, the object with which that is called, if there is one, and whether it is valid
 pub data Content : Type 0 where
   text_content : (mutable : Bool) (units : List ℕ) → Content
   data_content : (mutable : Bool) (bytes : List ℕ) → Content
@@ -29,6 +31,7 @@ pub data Content : Type 0 where
   set_content : (plain : Bool) (members : List Cell) → Content
   bag_content : (plain : Bool) (rows : List (Cell × ℕ)) → Content
   heap_content : (plain : Bool) (adds : ℕ) (rows : List (Cell × ℕ)) → Content
+  item_content : (handler : ℕ) (info : Option ℕ) (valid : Bool) → Item → Content
 
 -- an object that was made: the number of its type, and what it contains
 pub record Object : Type 0 where
@@ -51,26 +54,29 @@ abbrev pub flat : List (Cell × ℕ) → List ℕ
 flat [] = []
 flat (p ∷ ps) = p.0.id ∷ p.1 ∷ flat ps
 
--- the objects of members, and of rows, one after another
+-- the objects of members, one after another
 abbrev pub ids_of : List Cell → List ℕ
 ids_of [] = []
 ids_of (m ∷ ms) = m.id ∷ ids_of ms
 
+-- the objects of rows, one after another
 abbrev pub row_ids : List (Cell × ℕ) → List ℕ
 row_ids [] = []
 row_ids (r ∷ rs) = r.0.id ∷ row_ids rs
 
--- a row by the number of its object: with its own number, and alone
+-- a row by the number of its object, with its own number
 abbrev pub numbered_row : Cell × ℕ → ℕ × ℕ
 numbered_row row = (row.0.id, row.1)
 
+-- the number of a row's object
 abbrev pub id_in_row : Cell × ℕ → ℕ
 id_in_row row = row.0.id
 
--- equality and order of elements: a plain collection compares identities
+-- by what elements are compared: a plain collection compares identities
 abbrev pub callbacks_of : Bool → CellCallbacks
 callbacks_of plain = if plain then Plain else Typed
 
+-- the order of a heap's rows: that of their elements
 abbrev pub order_of : Bool → Cell × ℕ → Cell × ℕ → Ordering
 order_of plain = on (λ (row : Cell × ℕ). row.0) (cell_order (callbacks_of plain))
 
@@ -99,6 +105,7 @@ slots_in (dictionary_content plain pairs) = unless_plain plain (flat pairs)
 slots_in (set_content plain members) = unless_plain plain (ids_of members)
 slots_in (bag_content plain rows) = unless_plain plain (row_ids rows)
 slots_in (heap_content plain adds rows) = unless_plain plain (row_ids (by_rank (order_of plain) rows))
+slots_in (item_content handler info valid item) = present (info ∷ [])
 
 -- the objects in the slots of an object, if there is one
 abbrev pub slots_at : Option Object → List ℕ
@@ -117,6 +124,7 @@ size_of (dictionary_content plain pairs) = length pairs
 size_of (set_content plain members) = length members
 size_of (bag_content plain rows) = max (length rows) (greatest rows)
 size_of (heap_content plain adds rows) = max (length rows) adds
+size_of (item_content handler info valid item) = 0
 
 -- how many members an object has, if there is one
 abbrev pub size_at : Option Object → ℕ
@@ -147,12 +155,15 @@ array_class = 6
 abbrev pub dictionary_class : ℕ
 dictionary_class = 7
 
+-- the type number of sets
 abbrev pub set_class : ℕ
 set_class = 8
 
+-- the type number of bags
 abbrev pub bag_class : ℕ
 bag_class = 9
 
+-- the type number of heaps
 abbrev pub heap_class : ℕ
 heap_class = 10
 

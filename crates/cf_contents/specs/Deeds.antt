@@ -19,7 +19,9 @@ use Rattle.cf_callbacks.specs.Ranking.{least, without_least}
 use Rattle.cf_syntax.specs.declared.script.ClassLine.{ClassLine}
 use Rattle.cf_syntax.specs.declared.statement.Statement.{Statement}
 use Rattle.cf_syntax.specs.declared.statement.Statement.TheVariants as forms
-use Rattle.cf_contents.specs.Contents.{Content, text_content, data_content, number_content, instance_content, array_content, dictionary_content, set_content, bag_content, heap_content, Object, present, flat, ids_of, row_ids, numbered_row, least_of, order_of, unless_plain, string_class, data_class, number_class, array_class, dictionary_class, set_class, bag_class, heap_class, instance_of}
+use Rattle.cf_contents.specs.Contents.{Content, text_content, data_content, number_content, instance_content, array_content, dictionary_content, set_content, bag_content, heap_content, Object, present, flat, ids_of, row_ids, numbered_row, least_of, order_of, unless_plain, string_class, data_class, number_class, array_class, dictionary_class, set_class, bag_class, heap_class, instance_of, item_content}
+pub use Rattle.cf_syntax.specs.Mentions.{used_at, first_of}
+use Rattle.cf_contents.specs.Items.{Item}
 use Rattle.cf_contents.specs.Keys.{Numbered, numbered, class_line, cell_of, equal_to}
 use Rattle.cf_contents.specs.Descriptions.{description}
 
@@ -39,7 +41,8 @@ pub record Splice (A : Type 0) : Type 0 where
 -- what becomes of the first object that a statement uses: nothing; an edit of its text, of its bytes, or of its fields
 -- or elements; a pair that is put in, its value alone if its key is there; a pair that is removed by its key; an
 -- element that is added to a set, a bag or a heap; a member that is put in place of its equal; one of the members
--- equal to an element that is removed; or the least element of a heap that is removed
+-- equal to an element that is removed; the least element of a heap that is removed; or an item of a run loop that is
+-- valid or not from now on, and is as this one
 pub data Change : Type 0 where
   unchanged : Change
   in_text : Splice ℕ → Change
@@ -51,6 +54,7 @@ pub data Change : Type 0 where
   put_member : (element : Cell) → Change
   remove_member : (element : Cell) → Change
   remove_least : Change
+  in_item : (valid : Bool) → Item → Change
 
 -- what a statement answers if nothing else decides its answer, what it binds, and what it changes
 pub record Deed : Type 0 where
@@ -126,17 +130,20 @@ abbrev pub pairs_in : Content → (Bool → List (Cell × ℕ) → Deed) → Dee
 pairs_in (dictionary_content plain pairs) deed = deed plain pairs
 pairs_in _ deed = skipping
 
+-- a deed by the rows of a heap, and by whether it is plain
 abbrev pub heap_in : Content → (Bool → List (Cell × ℕ) → Deed) → Deed
 heap_in (heap_content plain adds rows) deed = deed plain rows
 heap_in _ deed = skipping
 
--- the member that is equal to an element, and how often it is there: once in a set
+-- a member as a row: it is there once
 abbrev pub once : Cell → ℕ × ℕ
 once member = (member.id, 1)
 
+-- the row of the member that is equal to an element, in a set
 abbrev pub row_in_set : Bool → List Cell → Cell → Option (ℕ × ℕ)
 row_in_set plain members element = option_map once (find (equal_to plain element) members)
 
+-- the row of the member that is equal to an element, in a bag
 abbrev pub row_in_bag : Bool → List (Cell × ℕ) → Cell → Option (ℕ × ℕ)
 row_in_bag plain rows element = option_map numbered_row (lookup_entry (equal_to plain element) rows)
 
@@ -252,28 +259,33 @@ abbrev pub removing_pair : Cell → Option ℕ → Deed
 removing_pair key None = answering answers.Absent
 removing_pair key (Some old) = changing answers.Ok (remove_pair key)
 
--- an element of a set or a bag, by its row there: it is added, set, replaced, removed, counted or bound
+-- an element is added to a set or a bag, by its row there: a set takes no second one
 abbrev pub adding_member : Bool → Cell → Option (ℕ × ℕ) → Deed
 adding_member counts element None = changing answers.Ok (add_member element)
 adding_member counts element (Some row) =
     if counts then changing answers.Ok (add_member element) else answering answers.Present
 
+-- a member is set: the answer says whether an equal one was there
 abbrev pub setting_member : Cell → Option (ℕ × ℕ) → Deed
 setting_member element None = changing answers.Added (put_member element)
 setting_member element (Some row) = changing answers.Changed (put_member element)
 
+-- the member that is equal is replaced, if there is one
 abbrev pub replacing_member : Cell → Option (ℕ × ℕ) → Deed
 replacing_member element None = answering answers.Absent
 replacing_member element (Some row) = changing answers.Ok (put_member element)
 
+-- one of the members that are equal is removed, if there is one
 abbrev pub removing_member : Cell → Option (ℕ × ℕ) → Deed
 removing_member element None = answering answers.Absent
 removing_member element (Some row) = changing answers.Ok (remove_member element)
 
+-- how many of the members are equal
 abbrev pub counting_member : Option (ℕ × ℕ) → Deed
 counting_member None = answering (answers.Number (pos 0))
 counting_member (Some row) = answering (answers.Number (pos row.1))
 
+-- the object of a row, if there is one
 abbrev pub object_in_row : Option (ℕ × ℕ) → Option ℕ
 object_in_row None = None
 object_in_row (Some row) = Some row.0
@@ -288,8 +300,8 @@ abbrev pub in_field : Option (Option ℕ) → Option ℕ
 in_field None = None
 in_field (Some field) = field
 
--- the deed of a statement, by the classes of the script and by the objects that it uses. The forms of run loops and of
--- notices, of which no script that the reader takes has one yet, do nothing here
+-- the deed of a statement, by the classes of the script and by the objects that it uses. Forms over run loops and
+-- notices do nothing to bodies but what a step says
 abbrev pub deed_of : List ClassLine → Statement → (first second third : Option Numbered) → Deed
 deed_of classes (forms.MakeString v text) a b c = creating string_class (text_content false text)
 deed_of classes (forms.MakeMstring v text) a b c = creating string_class (text_content true text)
@@ -355,20 +367,10 @@ deed_of classes (forms.FieldTake v instance at) a b c =
     with_fields a (λ fields. binding (in_field (slice_get fields at)))
 deed_of classes _ a b c = skipping
 
--- one of the objects that are used, by its number among them
-abbrev pub used_at : List (Option ℕ) → ℕ → Option ℕ
-used_at [] i = None
-used_at (o ∷ os) zero = o
-used_at (o ∷ os) (suc i) = used_at os i
-
 -- an object by its number, if there is one
 abbrev pub object_of : List Object → Option ℕ → Option Object
 object_of objects None = None
 object_of objects (Some o) = slice_get objects o
-
--- the first of the objects that are used
-abbrev pub first_of : List (Option ℕ) → Option ℕ
-first_of used = used_at used 0
 
 -- the deed of a statement among objects, by the numbers of those that it uses
 abbrev pub deed_at : List ClassLine → List Object → Statement → List (Option ℕ) → Deed
@@ -456,6 +458,7 @@ abbrev pub rows_with_one_more : (Cell → Bool) → List (Cell × ℕ) → Cell 
 rows_with_one_more test rows element None = rows ++ (element, 1) ∷ []
 rows_with_one_more test rows element (Some n) = set_value test rows (n + 1)
 
+-- a set, a bag or a heap after an element is added
 abbrev pub added_after : Cell → Content → Content
 added_after element (set_content plain members) =
     set_content plain (members_with (equal_to plain element) members element)
@@ -468,6 +471,7 @@ added_after element c = c
 abbrev pub unless_found : Bool → Cell → List ℕ
 unless_found found element = if found then [] else element.id ∷ []
 
+-- the objects that an element which is added takes in
 abbrev pub added_entering : Cell → Content → List ℕ
 added_entering element (set_content plain members) =
     unless_plain plain (unless_found (list_any (equal_to plain element) members) element)
@@ -476,17 +480,20 @@ added_entering element (bag_content plain rows) =
 added_entering element (heap_content plain adds rows) = unless_plain plain (element.id ∷ [])
 added_entering element _ = []
 
+-- a set or a bag after a member is put in the place of its equal
 abbrev pub put_member_after : Cell → Content → Content
 put_member_after element (set_content plain members) =
     set_content plain (members_set (equal_to plain element) members element)
 put_member_after element (bag_content plain rows) = bag_content plain (rows_set (equal_to plain element) rows element)
 put_member_after element c = c
 
+-- the objects that a member which is put in takes in
 abbrev pub put_member_entering : Cell → Content → List ℕ
 put_member_entering element (set_content plain members) = unless_plain plain (element.id ∷ [])
 put_member_entering element (bag_content plain rows) = unless_plain plain (element.id ∷ [])
 put_member_entering element _ = []
 
+-- the objects that a member which is put in gives out: its equal, if there is one
 abbrev pub put_member_leaving : Cell → Content → List ℕ
 put_member_leaving element (set_content plain members) =
     unless_plain plain (ids_of (option_to_list (find (equal_to plain element) members)))
@@ -494,6 +501,7 @@ put_member_leaving element (bag_content plain rows) =
     unless_plain plain (ids_of (option_to_list (lookup_key (equal_to plain element) rows)))
 put_member_leaving element _ = []
 
+-- a set or a bag after one of the members that are equal is removed
 abbrev pub removed_member_after : Cell → Content → Content
 removed_member_after element (set_content plain members) =
     set_content plain (members_without (equal_to plain element) members)
@@ -505,6 +513,7 @@ abbrev pub if_last : Option (Cell × ℕ) → List ℕ
 if_last None = []
 if_last (Some row) = if row.1 == 1 then row.0.id ∷ [] else []
 
+-- the objects that a member which is removed gives out
 abbrev pub removed_member_leaving : Cell → Content → List ℕ
 removed_member_leaving element (set_content plain members) =
     unless_plain plain (ids_of (option_to_list (find (equal_to plain element) members)))
@@ -512,14 +521,21 @@ removed_member_leaving element (bag_content plain rows) =
     unless_plain plain (if_last (lookup_entry (equal_to plain element) rows))
 removed_member_leaving element _ = []
 
+-- a heap after its least element is removed
 abbrev pub least_after : Content → Content
 least_after (heap_content plain adds rows) = heap_content plain adds (without_least (order_of plain) rows)
 least_after c = c
 
+-- the objects that the least element gives out as it is removed
 abbrev pub least_leaving : Content → List ℕ
 least_leaving (heap_content plain adds rows) =
     unless_plain plain (row_ids (option_to_list (least (order_of plain) rows)))
 least_leaving _ = []
+
+-- an item that is valid or not from now on, and is as this one
+abbrev pub item_after : Bool → Item → Content → Content
+item_after valid item (item_content handler info v i) = item_content handler info valid item
+item_after valid item c = c
 
 -- a content after a change
 abbrev pub content_after : Change → Content → Content
@@ -533,6 +549,7 @@ content_after (add_member element) c = added_after element c
 content_after (put_member element) c = put_member_after element c
 content_after (remove_member element) c = removed_member_after element c
 content_after remove_least c = least_after c
+content_after (in_item valid item) c = item_after valid item c
 
 -- the objects that a change of a content takes in, in order
 abbrev pub coming_in : Change → Content → List ℕ
@@ -546,6 +563,7 @@ coming_in (add_member element) c = added_entering element c
 coming_in (put_member element) c = put_member_entering element c
 coming_in (remove_member element) c = []
 coming_in remove_least c = []
+coming_in (in_item valid item) c = []
 
 -- the objects that a change of a content gives out, in order
 abbrev pub going_out : Change → Content → List ℕ
@@ -559,6 +577,7 @@ going_out (add_member element) c = []
 going_out (put_member element) c = put_member_leaving element c
 going_out (remove_member element) c = removed_member_leaving element c
 going_out remove_least c = least_leaving c
+going_out (in_item valid item) c = []
 
 -- the objects that a change of an object takes in; none if there is no object
 abbrev pub taken_in : Option Object → Change → List ℕ

@@ -10,7 +10,8 @@ use Rattle.cf_number.specs.declared.kinds.NumKind.TheVariants.{S8, S16, S32, S64
 use Rattle.cf_types.specs.Registry.{built_in_names}
 use Rattle.cf_types.specs.declared.cells.Cell.{Cell}
 use Rattle.cf_syntax.specs.declared.script.ClassLine.{ClassLine}
-use Rattle.cf_contents.specs.Contents.{Content, text_content, data_content, number_content, instance_content, array_content, dictionary_content, set_content, bag_content, heap_content, Object, least_of, first_class}
+use Rattle.cf_contents.specs.Contents.{Content, text_content, data_content, number_content, instance_content, array_content, dictionary_content, set_content, bag_content, heap_content, Object, least_of, first_class, item_content}
+use Rattle.cf_contents.specs.Items.{Item, source_item, timer_item, observer_item}
 
 -- the name of a class of the script, by its type number, if it has one
 abbrev pub name_in : Option ClassLine → List ℕ
@@ -56,7 +57,7 @@ kind_word S16 = codes "s16"
 kind_word S32 = codes "s32"
 kind_word S64 = codes "s64"
 
--- the word of a member, of a pair, of a bag's row, and of the least element of a heap, where it has one
+-- the word of a member, if it is there
 abbrev pub member_word : Option ℕ → List ℕ
 member_word None = codes "nil"
 member_word (Some o) = number_word o
@@ -65,12 +66,15 @@ member_word (Some o) = number_word o
 abbrev pub pair_word : Cell × ℕ → List ℕ
 pair_word p = number_word p.0.id ++ codes ":" ++ number_word p.1
 
+-- the word of a member of a set
 abbrev pub cell_word : Cell → List ℕ
 cell_word cell = number_word cell.id
 
+-- the word of a bag's row: its member, and how often that is there
 abbrev pub row_word : Cell × ℕ → List ℕ
 row_word row = number_word row.0.id ++ codes "x" ++ decimal row.1
 
+-- the word of the least element of a heap, if it has one
 abbrev pub least_word : Option ℕ → List ℕ
 least_word None = []
 least_word (Some o) = codes " min " ++ number_word o
@@ -84,6 +88,21 @@ in_brackets word members =
 abbrev pub counted_members : {A : Type 0} → (A → List ℕ) → List A → List ℕ
 counted_members word members = decimal (length members) ++ codes " " ++ in_brackets word members
 
+-- the word of whether an item is valid
+abbrev pub valid_word : Bool → List ℕ
+valid_word valid = if valid then codes "valid" else codes "invalid"
+
+-- the word of a timer's next date
+abbrev pub date_word : Option ℕ → List ℕ
+date_word None = codes " none"
+date_word (Some n) = codes " " ++ decimal n
+
+-- the words of an item: whether it is valid, and what else is shown of its kind
+abbrev pub item_words : Bool → Item → List ℕ
+item_words valid (source_item order signalled) = valid_word valid ++ (if signalled then codes " signalled" else [])
+item_words valid (timer_item first interval date) = valid_word valid ++ (if valid then date_word date else [])
+item_words valid (observer_item mask repeats order) = valid_word valid
+
 -- a content as a description shows it
 abbrev pub shown_content : Content → List ℕ
 shown_content (text_content mutable units) = shown_text units
@@ -95,6 +114,7 @@ shown_content (dictionary_content plain pairs) = counted_members pair_word pairs
 shown_content (set_content plain members) = counted_members cell_word members
 shown_content (bag_content plain rows) = counted_members row_word rows
 shown_content (heap_content plain adds rows) = decimal (length rows) ++ least_word (least_of plain rows)
+shown_content (item_content handler info valid item) = item_words valid item
 
 -- the description of an object: the name of its type, and what it contains
 abbrev pub description : List ClassLine → Object → List ℕ

@@ -53,17 +53,19 @@ a_dictionary = record { class = 7; content = dictionary_content false ((key_of 0
 abbrev pub a_plain_one : Object
 a_plain_one = record { class = 7; content = dictionary_content true ((key_of 0 (codes "k"), 3) ∷ []) }
 
--- a set and a bag with a member of that key, which is there twice in the bag, and a heap of the values 2, 1 and 1, of
--- which 1 is the least and came second and third
+-- a set with a member of that key
 abbrev pub a_set : Object
 a_set = record { class = 8; content = set_content false (key_of 0 (codes "k") ∷ []) }
 
+-- a bag in which that member is twice
 abbrev pub a_bag : Object
 a_bag = record { class = 9; content = bag_content false ((key_of 0 (codes "k"), 2) ∷ []) }
 
+-- a number as an element
 abbrev pub value_of : ℕ → ℤ → Cell
 value_of o value = record { id = o; leaf = record { class = 5; form = whole_form value } }
 
+-- a heap of the values 2, 1 and 1, of which 1 is the least and came second and third
 abbrev pub a_heap : Object
 a_heap = record {
   class = 10;

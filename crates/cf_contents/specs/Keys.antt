@@ -1,12 +1,12 @@
 -- What objects are compared by: an immutable string by its text, immutable data by its bytes, a number by its value,
--- an instance of a class with keys by its key, and every other object by its identity. No change of an object changes
--- that. This project's own, after the type callbacks of the Collections guide.
+-- an instance of a class with keys by its key, and every other object by its identity. No change of an object
+-- changes that. This project's own, after the type callbacks of the Collections guide.
 use Rattle.std.specs.Prelude.{ℕ, ◌-◌, Bool, true, false, List, Option, Some, None, slice_get, nat_lt, if◌then◌else◌}
 use Rattle.cf_types.specs.Views.{FormView, text_form, data_form, whole_form, same_form}
 use Rattle.cf_types.specs.Cells.{cells_equal}
 use Rattle.cf_types.specs.declared.cells.Cell.{Cell}
 use Rattle.cf_syntax.specs.declared.script.ClassLine.{ClassLine}
-use Rattle.cf_contents.specs.Contents.{Content, text_content, data_content, number_content, instance_content, array_content, dictionary_content, set_content, bag_content, heap_content, Object, callbacks_of, first_class}
+use Rattle.cf_contents.specs.Contents.{Content, text_content, data_content, number_content, instance_content, array_content, dictionary_content, set_content, bag_content, heap_content, Object, callbacks_of, first_class, item_content}
 
 -- an object with its number
 pub record Numbered : Type 0 where
@@ -50,6 +50,7 @@ compared_by keyed o (dictionary_content plain pairs) = same_form o
 compared_by keyed o (set_content plain members) = same_form o
 compared_by keyed o (bag_content plain rows) = same_form o
 compared_by keyed o (heap_content plain adds rows) = same_form o
+compared_by keyed o (item_content handler info valid item) = same_form o
 
 -- an object as an element of a collection
 abbrev pub cell_of : List ClassLine → Numbered → Cell

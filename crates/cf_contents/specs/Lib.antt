@@ -1,4 +1,5 @@
 -- The files of definitions of cf_contents.
+pub mod Items
 pub mod Contents
 pub mod Keys
 pub mod Deeds

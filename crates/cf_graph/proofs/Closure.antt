@@ -8,7 +8,7 @@ use Rattle.std.proofs.lemmas.List.Elements.{Contains-get_or, Contains-append_lef
 use Rattle.cf_graph.specs.declared.edge.Edge.{Edge}
 use Rattle.cf_graph.specs.declared.edge.Owner.{Owner}
 use Rattle.cf_graph.specs.declared.edge.Owner.TheVariants.{Thread, Parcel, Slot, Mode, Common}
-use Rattle.cf_graph.specs.Holders.{is_owning}
+use Rattle.cf_graph.specs.Owners.{is_owning}
 use Rattle.cf_graph.specs.Paths.{Reaches, owned, inside}
 use Rattle.cf_graph.specs.Walks.{source, sources, targets, Marked, Leads, Grows}
 

@@ -1,6 +1,7 @@
 -- What owns an object and what holds it are together what leads to it.
 use Rattle.std.proofs.Common.{◌≡◌, ℕ, ◌+◌, Bool, true, false, ◌&&◌, not, List, [], ◌∷◌, refl, arith, eqb}
-use Rattle.cf_graph.specs.Holders.{owner_of, is_owning}
+use Rattle.cf_graph.specs.Holders.{owner_of}
+use Rattle.cf_graph.specs.Owners.{is_owning}
 use Rattle.cf_graph.specs.Edges.{Reference, weigh, counted, owning, holding, leading_to}
 
 either : (a b : Bool) → counted (a && b) + counted (a && not b) ≡ counted a

@@ -1,7 +1,7 @@
 -- Which references count for an object. This project's own.
 use Rattle.std.specs.Prelude.{ℕ, Bool, ◌&&◌, not, ◌==◌}
 use Rattle.cf_graph.specs.declared.edge.Edge.{Edge}
-use Rattle.cf_graph.specs.Holders.{is_owning}
+use Rattle.cf_graph.specs.Owners.{is_owning}
 
 -- the reference leads to the object
 abbrev pub leads_to : ℕ → Edge → Bool

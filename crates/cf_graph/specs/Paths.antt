@@ -2,7 +2,7 @@
 use Rattle.std.specs.Prelude.{◌≡◌, ℕ, true, List, Contains}
 use Rattle.cf_graph.specs.declared.edge.Edge.{Edge}
 use Rattle.cf_graph.specs.declared.edge.Owner.TheVariants.{Slot}
-use Rattle.cf_graph.specs.Holders.{is_owning}
+use Rattle.cf_graph.specs.Owners.{is_owning}
 
 -- a path leads to an object from a thread or a parcel: such an owner has a reference to it, or the body of an
 -- object to which a path leads has one in a slot; modes and common items give no path

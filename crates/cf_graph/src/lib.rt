@@ -4,10 +4,11 @@
 mod degree;
 mod edge;
 mod laws;
+pub mod one_thread;
 mod reach;
 
 pub use degree::{in_degree, owners};
 pub use edge::{Edge, Owner};
-pub use laws::counts_of_operations;
+pub use laws::{counts_of_flows, references_of_flows};
 pub use reach::reached;
 pub use std::alloc::AllocError as NoMemory;

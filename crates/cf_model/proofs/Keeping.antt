@@ -1,272 +1,171 @@
--- Each step that a legal journal takes keeps what journals keep.
-use Rattle.std.proofs.Common.{◌≡◌, ℕ, ◌+◌, ◌<◌, Bool, true, false, cond, ltb, List, [], ◌∷◌, ◌++◌, length, drop, map, Option, Some, None, eqb, refl, sym, ap, ◌∙◌, subst, arith, inl, inr, append-nil, length-append}
-use Rattle.std.specs.Prelude.{slice_get}
-use Rattle.std.proofs.lemmas.List.{drop-drop}
-use Rattle.std.proofs.lemmas.Bool.{eq-eqb, and_parts, eqb-true, ltb-true}
-use Rattle.std.proofs.lemmas.Bool.Decides.{eqb_tells}
+-- The step of each line keeps what its thread's holders hold.
+use Rattle.std.proofs.Common.{◌++◌, ◌+◌, ◌∷◌, ◌≡◌, Bool, List, None, Option, Some, [], arith, cond, eqb, false, length, refl, take, true, ℕ}
 use Rattle.cf_ids.specs.declared.answer.Answer.{Answer}
-use Rattle.cf_graph.specs.Holders.{Holder, owed, slot, code_of}
-use Rattle.cf_graph.specs.Edges.{Reference, weigh, one, counted}
-use Rattle.cf_graph.specs.Operations.{add, without, run, CanRun}
-use Rattle.cf_graph.proofs.Counts.{weigh-without}
+use Rattle.cf_syntax.specs.BlockLines.{BlockLine, line_ownership}
 use Rattle.cf_syntax.specs.declared.mention.Ownership.{Ownership}
-use Rattle.cf_syntax.specs.declared.mention.Ownership.TheVariants.{Keeps, Binds, Retains, Releases}
-use Rattle.cf_contents.specs.Contents.{Object, times, slots_at}
-use Rattle.cf_contents.specs.Deeds.{Origin, nowhere, fresh, there, Change, object_of, taken_in, given_out, with_change}
-use Rattle.cf_contents.proofs.ContentLaws.{length-with_change}
-use Rattle.cf_contents.proofs.SlotLaws.{MakesEmpty, slots-more, change_law, others_keep, given_most}
-use Rattle.cf_model.specs.State.{State, Work, release_of, slots_of, left_of, is_live}
-use Rattle.cf_model.specs.Steps.{Step, reference, owed_reference, slot_reference, found, operations_of, cut_by, reference_step, change_step, done_step, owed_step, drop_step, state_after, rest_of}
-use Rattle.cf_model.proofs.Balance.{IsBalanced, CutsNothing, added, Adds, grows_balance, shrinks_balance}
-use Rattle.cf_model.proofs.Slots.{kinds_apart, one_of_kinds, operations_in, one_apart, one_own, weigh-without-other, own_weigh, other_weigh, adds_to, moves_from, can_change, weigh-change}
-use Rattle.cf_model.proofs.Kept.{AllFinal, IsKept, KeepsStep, times_own}
+use Rattle.cf_syntax.specs.declared.mention.Ownership.TheVariants.{Binds, Keeps, Releases, Retains}
+use Rattle.cf_syntax.specs.declared.script.Script.{Script}
+use Rattle.cf_contents.specs.Contents.{slots_in}
+use Rattle.cf_contents.specs.Deeds.{Origin, fresh, nowhere, there}
+use Rattle.cf_graph.proofs.Counts.{weigh-append}
+use Rattle.cf_graph.proofs.Flows.{other_weigh}
+use Rattle.cf_graph.specs.Edges.{Reference, held_by, held_if, one, weigh}
+use Rattle.cf_graph.specs.Flows.{Flow, flow_lost, flow_won, grows, shrinks, still}
+use Rattle.cf_graph.specs.Holders.{Holder, callout, owed, parcel, slot, variable}
+use Rattle.cf_next.specs.Advance.{advanced, bindings_by, bound_object, is_entered, line_done, owed_by}
+use Rattle.cf_next.specs.Demands.{Demand, does, frame_lines}
+use Rattle.cf_next.specs.Facts.{Facts}
+use Rattle.cf_next.specs.Stands.{Binding, Frame, Stand, Work, look}
+use Rattle.cf_model.proofs.Fitting.{StepFits}
+use Rattle.cf_model.proofs.Lifting.{Balanced, held_after}
+use Rattle.cf_model.proofs.Owning.{OwnsAfter, count_of, loses, wins}
+use Rattle.cf_model.proofs.Places.{AllPlaces, kinds_apart, moves_lost, moves_other, places_weigh}
+use Rattle.cf_model.proofs.Stepping.{at_depth, held_if_apart, owed-bodies, run_frames_call, run_frames_hold, top_holds}
+use Rattle.cf_model.specs.Tokens.{HeldAsTold, callouts_hold, frame_holds, frames_hold, lines_done, owed_in}
+use Rattle.cf_model.specs.Own.{moves_to}
+use Rattle.cf_model.specs.State.{State, stand_at}
+use Rattle.cf_model.specs.Steps.{Step, new_slots, stand_after, state_after}
 
--- an object is live, as numbers, and an object that is used is
-abbrev pub IsLive : State → ℕ → Type 0
-IsLive st o = (times o st.finalised ≡ 0) × (o < length st.objects)
+-- what a thread's own holders hold
+pub record OwnHeld (c : Script) (t : ℕ) (es : List Reference) (s : Stand) : Type 0 where
+  pub variables : (d v o : ℕ) → weigh (one (held_by (variable t d v) o)) es ≡ frames_hold c s.frames d v o
+  pub callouts : (d o : ℕ) → weigh (one (held_by (callout t d) o)) es ≡ callouts_hold s.frames d o
+  pub owed : (o : ℕ) → weigh (one (held_by (owed t) o)) es ≡ owed_in o s.work
 
-abbrev pub IsLiveIf : State → Option ℕ → Type 0
-IsLiveIf st None = Unit {0}
-IsLiveIf st (Some o) = IsLive st o
+abbrev pub stand : Frame → List Frame → List Work → Bool → Stand
+stand f fs work done = record { frames = f ∷ fs; work = work; is_done = done }
 
-pub live_numbers : (st : State) (o : ℕ) → is_live st o ≡ true → IsLive st o
-live_numbers st o h =
-    let p = and_parts (ltb o (length st.objects)) (eqb (times o st.finalised) 0) h in
-    (eqb-true (times o st.finalised) 0 p.1, ltb-true o (length st.objects) p.0)
+-- a step keeps what its thread's own holders hold: each has afterwards what the flow says
+pub record KeepsOwn (c : Script) (t : ℕ) (old : Stand) (f : Flow) (new : Stand) : Type 0 where
+  pub variables : (d v o : ℕ) → Balanced f (variable t d v) o (frames_hold c old.frames d v o) (frames_hold c new.frames d v o)
+  pub callouts : (d o : ℕ) → Balanced f (callout t d) o (callouts_hold old.frames d o) (callouts_hold new.frames d o)
+  pub owed : (o : ℕ) → Balanced f (owed t) o (owed_in o old.work) (owed_in o new.work)
 
--- an object that a origin gives: none, the next one, or one that is live
-abbrev pub IsFound : State → Origin → Option ℕ → Type 0
-IsFound st nowhere object = object ≡ None
-IsFound st (fresh ob) object = object ≡ Some (length st.objects)
-IsFound st (there o) object = IsLiveIf st object
+-- with a step that fits, all holders hold what they are said to hold
+pub all_held : (c : Script) (t : ℕ) (st : State) (d : Demand) (step : Step) → HeldAsTold c st → StepFits t st step
+    → KeepsOwn c t (stand_at t st.stands) step.flow (stand_after t d step st) → HeldAsTold c (state_after t d step st)
+all_held c t st d step held fits keeps = held_after c t st d step held (record {
+  own = fits.own;
+  there = fits.there;
+  variables = keeps.variables;
+  callouts = keeps.callouts;
+  owed = keeps.owed;
+  slots = fits.slots;
+})
 
-pub found_is : (st : State) (origin : Origin) → IsFound st origin (found st origin)
-found_is st nowhere = refl
-found_is st (fresh ob) = refl
-found_is st (there o) = there_is (is_live st o) refl
-  where
-    there_is : (b : Bool) → is_live st o ≡ b → IsLiveIf st (cond b (Some o) None)
-    there_is true h = live_numbers st o h
-    there_is false h = tt
+-- a flow that has nothing to do with what a thread's callouts hold
+abbrev pub NoCallouts : ℕ → Flow → Type 0
+NoCallouts t fl = (d o : ℕ) → flow_won (one (held_by (callout t d) o)) fl ≡ flow_lost (one (held_by (callout t d) o)) fl
 
--- an object to which an ownership may take or bind a reference
-abbrev pub Reaches : State → Ownership → Origin → Option ℕ → Type 0
-Reaches st Keeps origin object = Unit {0}
-Reaches st (Binds v) origin object = IsFound st origin object
-Reaches st (Retains v) origin object = IsLiveIf st object
-Reaches st (Releases v) origin object = IsLiveIf st object
+-- ---- lines
 
--- ---- a step that changes no slot
+-- the flow of a line: what it wins and loses by the variables of its frame
+pub record LineFlow (t depth : ℕ) (bs : List Binding) (ownership : Ownership) (object : Option ℕ) (fl : Flow) : Type 0 where
+  pub won : (d v o : ℕ) → flow_won (one (held_by (variable t d v) o)) fl ≡ cond (eqb depth d) (wins bs ownership object v o) 0
+  pub lost : (d v o : ℕ) → flow_lost (one (held_by (variable t d v) o)) fl ≡ cond (eqb depth d) (loses bs ownership v o) 0
+  pub callouts : NoCallouts t fl
 
--- a balance that is kept, where slots and work stay as they are
-quiet_kept : (st : State) (step : Step) → IsKept st → IsBalanced (state_after step st) → ((b o : ℕ) → weigh (one (slot_reference b o)) (run step.operations st.edges) ≡ weigh (one (slot_reference b o)) st.edges) → ((b : ℕ) → slots_at (slice_get step.objects b) ≡ slots_at (slice_get st.objects b)) → step.drops ≡ [] → AllFinal st.finalised step.work → KeepsStep st step
-quiet_kept st step h balance same keep none work = record {
-  balance = balance;
-  slots = λ b o. rw (none, keep b) (same b o ∙ h.slots b o);
-  drops = λ b p. absurd (let q : times b step.drops ≡ 0 = rw none refl in omega arith);
-  work = work;
-}
+line_after : (c : Script) (facts : Facts) (t : ℕ) (x : BlockLine) (answer : Answer) (list : List ℕ) (f : Frame) (ownership : Ownership) (object : Option ℕ) → take (f.number + 1) (frame_lines c f.kind f.block) ≡ lines_done c f ++ x ∷ [] → line_ownership x ≡ ownership → bound_object facts t answer x ≡ object → (v o : ℕ) → frame_holds c (line_done facts t x answer list f) v o ≡ count_of (lines_done c f ++ x ∷ []) (bindings_by ownership object ++ f.bindings) v o
+line_after c facts t x answer list f ownership object e k b v o = rw (e, k, b) refl
 
--- nothing changes in references and objects
-same_balance : (st : State) (step : Step) → IsBalanced st → step.operations ≡ [] → step.cuts ≡ None → length step.objects ≡ length st.objects → IsBalanced (state_after step st)
-same_balance st step h ops cuts size = λ o. rw (ops, cuts, size) (h o)
-
-nil_kept : (st : State) (step : Step) → IsKept st → step.operations ≡ [] → step.cuts ≡ None → step.objects ≡ st.objects → step.drops ≡ [] → AllFinal st.finalised step.work → KeepsStep st step
-nil_kept st step h ops cuts objects none work =
-    quiet_kept st step h (same_balance st step h.balance ops cuts (ap length objects)) (λ b o. rw ops refl) (λ b. rw objects refl) none work
-
--- ---- statements that take or bind a reference
-
-bound_adds : (st : State) (t v : ℕ) (ob : Object) → Adds st.finalised (length st.objects) (length (st.objects ++ ob ∷ [])) (add (reference t v (length st.objects)) ∷ [])
-bound_adds st t v ob =
-    let made = length st.objects in
-    let size : length (st.objects ++ ob ∷ []) ≡ made + 1 = length-append st.objects (ob ∷ []) in
+pub line_keeps : (c : Script) (facts : Facts) (t : ℕ) (f : Frame) (fs : List Frame) (work : List Work) (done : Bool) (x : BlockLine) (answer : Answer) (finals list : List ℕ) (fl : Flow) (ownership : Ownership) (object : Option ℕ)
+    → take (f.number + 1) (frame_lines c f.kind f.block) ≡ lines_done c f ++ x ∷ []
+    → line_ownership x ≡ ownership
+    → bound_object facts t answer x ≡ object
+    → OwnsAfter x (lines_done c f) f.bindings ownership object
+    → LineFlow t (length fs) f.bindings ownership object fl
+    → ((o : ℕ) → owed_in o work ≡ 0)
+    → ((o : ℕ) → owed_in o (owed_by x list) + flow_lost (one (held_by (owed t) o)) fl ≡ flow_won (one (held_by (owed t) o)) fl)
+    → KeepsOwn c t (stand f fs work done) fl (advanced facts t (does x) answer finals list (stand f fs work done))
+line_keeps c facts t f fs work done x answer finals list fl ownership object after k b next flow idle gives =
+    let g = line_done facts t x answer list f in
     record {
-      nothing = tt;
-      live = λ o some. elim (eqb_tells made o) [
-        | inl e ↦ inr (sym e.1, size)
-        | inr e ↦ absurd (let none : counted (eqb made o) ≡ 0 = ap counted e.0 in omega arith)
-      ];
-      new = λ e. let one : counted (eqb made made) ≡ 1 = ap counted (eq-eqb made made refl) in omega arith;
-      sizes = inr size;
+      variables = λ d v o.
+          omega (
+            arith,
+            run_frames_hold c facts.time x (is_entered answer) (g ∷ fs) d v o,
+            top_holds c f g fs (wins f.bindings ownership object) (loses f.bindings ownership) (λ w q. rw (line_after c facts t x answer list f ownership object after k b w q) (next.count w q)) d v o,
+            flow.won d v o,
+            flow.lost d v o,
+          );
+      callouts = λ d o. omega (arith, run_frames_call facts.time x (is_entered answer) (g ∷ fs) d o, flow.callouts d o);
+      owed = λ o. omega (arith, idle o, gives o, owed-bodies o finals (owed_by x list));
     }
 
-plus_adds : (st : State) (t v p : ℕ) (objects : List Object) → length objects ≡ length st.objects → IsLive st p → Adds st.finalised (length st.objects) (length objects) (add (reference t v p) ∷ [])
-plus_adds st t v p objects size live = record {
-  nothing = tt;
-  live = λ o some. elim (eqb_tells p o) [
-    | inl e ↦ inl (subst (λ (n : ℕ). times n st.finalised ≡ 0) e.1 live.0, subst (λ (n : ℕ). n < length st.objects) e.1 live.1)
-    | inr e ↦ absurd (let none : counted (eqb p o) ≡ 0 = ap counted e.0 in omega arith)
-  ];
-  new = λ e. absurd (omega (arith, size));
-  sizes = inl size;
+-- ---- the flows of lines
+
+no_slots : (t d v o n : ℕ) (origin : Origin) → weigh (one (held_by (variable t d v) o)) (new_slots n origin) ≡ 0
+no_slots t d v o n nowhere = refl
+no_slots t d v o n (fresh ob) = other_weigh (held_by (variable t d v) o) (slot n) (slots_in ob.content) (kinds_apart (variable t d v) (slot n) refl)
+no_slots t d v o n (there x) = refl
+
+no_slots_called : (t d o n : ℕ) (origin : Origin) → weigh (one (held_by (callout t d) o)) (new_slots n origin) ≡ 0
+no_slots_called t d o n nowhere = refl
+no_slots_called t d o n (fresh ob) = other_weigh (held_by (callout t d) o) (slot n) (slots_in ob.content) (kinds_apart (callout t d) (slot n) refl)
+no_slots_called t d o n (there x) = refl
+
+pub no_slots_owed : (t o n : ℕ) (origin : Origin) → weigh (one (held_by (owed t) o)) (new_slots n origin) ≡ 0
+no_slots_owed t o n nowhere = refl
+no_slots_owed t o n (fresh ob) = other_weigh (held_by (owed t) o) (slot n) (slots_in ob.content) (kinds_apart (owed t) (slot n) refl)
+no_slots_owed t o n (there x) = refl
+
+cond_zero : (b : Bool) → ◌≡◌ {A = ℕ} 0 (cond b 0 0)
+cond_zero true = refl
+cond_zero false = refl
+
+pub bind_flow : (t depth w n : ℕ) (bs : List Binding) (object : Option ℕ) (origin : Origin) → LineFlow t depth bs (Binds w) object (grows (held_if (variable t depth w) object ++ new_slots n origin) [])
+bind_flow t depth w n bs object origin = record {
+  won = λ d v o. omega (arith, weigh-append (one (held_by (variable t d v) o)) (held_if (variable t depth w) object) (new_slots n origin), at_depth t d depth v w o object, no_slots t d v o n origin);
+  lost = λ d v o. cond_zero (eqb depth d);
+  callouts = λ d o. omega (arith, weigh-append (one (held_by (callout t d) o)) (held_if (variable t depth w) object) (new_slots n origin), held_if_apart (held_by (callout t d) o) (variable t depth w) object (kinds_apart (callout t d) (variable t depth w) refl), no_slots_called t d o n origin);
 }
 
--- one more reference to a live object
-module _ (t v : ℕ) (ownership : Ownership) (answer : Answer) (origin : Origin) (p : ℕ) (st : State) (h : IsKept st) (live : IsLive st p) where
-  abbrev more_step : Step
-  more_step = reference_step t ownership answer origin (Some p) st
-
-  more_kept : more_step.operations ≡ add (reference t v p) ∷ [] → more_step.cuts ≡ None → more_step.objects ≡ st.objects → KeepsStep st more_step
-  more_kept ops cuts objects =
-      quiet_kept st more_step h
-      (grows_balance st more_step (record { cuts = cuts; can = rw ops (tt, tt); adds = rw ops (plus_adds st t v p more_step.objects (ap length objects) live) }) h.balance)
-      (λ b o. rw ops (omega (arith, one_of_kinds (slot_reference b o) (reference t v p) refl)))
-      (λ b. rw objects refl) refl h.waiting
-
--- none at all
-none_kept : (t : ℕ) (ownership : Ownership) (answer : Answer) (origin : Origin) (st : State) → IsKept st → let step = reference_step t ownership answer origin None st in step.cuts ≡ None → step.objects ≡ st.objects → KeepsStep st step
-none_kept t ownership answer origin st h cuts objects = nil_kept st (reference_step t ownership answer origin None st) h refl cuts objects refl h.waiting
-
-new_kept : (t v : ℕ) (answer : Answer) (ob : Object) (st : State) → IsKept st → MakesEmpty (fresh ob) → KeepsStep st (reference_step t (Binds v) answer (fresh ob) (Some (length st.objects)) st)
-new_kept t v answer ob st h e =
-    let step = reference_step t (Binds v) answer (fresh ob) (Some (length st.objects)) st in
-    quiet_kept st step h
-    (grows_balance st step (record { cuts = refl; can = (tt, tt); adds = bound_adds st t v ob }) h.balance)
-    (λ b o. omega (arith, one_of_kinds (slot_reference b o) (reference t v (length st.objects)) refl))
-    (λ b. slots-more st.objects ob b e) refl h.waiting
-
-pub reference_kept : (t : ℕ) (ownership : Ownership) (answer : Answer) (origin : Origin) (object : Option ℕ) (st : State) → IsKept st → MakesEmpty origin → Reaches st ownership origin object → KeepsStep st (reference_step t ownership answer origin object st)
-reference_kept t Keeps answer origin object st h e live =
-    nil_kept st (reference_step t Keeps answer origin object st) h (nothing_done object) (nothing_cut object) (append-nil st.objects) refl h.waiting
-  where
-    nothing_done : (o : Option ℕ) → operations_of t Keeps o ≡ []
-    nothing_done None = refl
-    nothing_done (Some p) = refl
-
-    nothing_cut : (o : Option ℕ) → cut_by Keeps o ≡ None
-    nothing_cut None = refl
-    nothing_cut (Some p) = refl
-reference_kept t (Binds v) answer nowhere object st h e live =
-    subst (λ (o : Option ℕ). KeepsStep st (reference_step t (Binds v) answer nowhere o st)) (sym live) (none_kept t (Binds v) answer nowhere st h refl (append-nil st.objects))
-reference_kept t (Binds v) answer (fresh ob) object st h e live =
-    subst (λ (o : Option ℕ). KeepsStep st (reference_step t (Binds v) answer (fresh ob) o st)) (sym live) (new_kept t v answer ob st h e)
-reference_kept t (Binds v) answer (there o) None st h e live = none_kept t (Binds v) answer (there o) st h refl (append-nil st.objects)
-reference_kept t (Binds v) answer (there o) (Some p) st h e live = more_kept t v (Binds v) answer (there o) p st h live refl refl (append-nil st.objects)
-reference_kept t (Retains v) answer origin None st h e live = none_kept t (Retains v) answer origin st h refl (append-nil st.objects)
-reference_kept t (Retains v) answer origin (Some p) st h e live = more_kept t v (Retains v) answer origin p st h live refl refl (append-nil st.objects)
-reference_kept t (Releases v) answer origin None st h e live = none_kept t (Releases v) answer origin st h refl (append-nil st.objects)
-reference_kept t (Releases v) answer origin (Some p) st h e live =
-    let step = reference_step t (Releases v) answer origin (Some p) st in
-    quiet_kept st step h
-    (shrinks_balance st step (record { reference = reference t v p; operations = refl; cuts = refl; size = ap length (append-nil st.objects); live = live.0; made = live.1 }) h.balance)
-    (λ b o. weigh-without-other (one (slot_reference b o)) (reference t v p) st.edges (one_of_kinds (slot_reference b o) (reference t v p) refl))
-    (λ b. rw (append-nil st.objects) refl) refl h.waiting
-
--- ---- steps that no statement writes
-
-pub done_kept : (st : State) → IsKept st → KeepsStep st (done_step st)
-done_kept st h = nil_kept st (done_step st) h refl refl refl refl h.waiting
-
-rest_final : (finalised : List ℕ) (work : List Work) → AllFinal finalised work → AllFinal finalised (rest_of work)
-rest_final finalised [] h = tt
-rest_final finalised (release_of o ∷ work) h = h
-rest_final finalised (slots_of b ∷ work) h = h.1
-
-pub owed_kept : (t o : ℕ) (st : State) → IsKept st → IsLive st o → KeepsStep st (owed_step t o st)
-owed_kept t o st h live =
-    let step = owed_step t o st in
-    quiet_kept st step h
-    (shrinks_balance st step (record { reference = owed_reference t o; operations = refl; cuts = refl; size = refl; live = live.0; made = live.1 }) h.balance)
-    (λ b p. weigh-without-other (one (slot_reference b p)) (owed_reference t o) st.edges (one_of_kinds (slot_reference b p) (owed_reference t o) refl))
-    (λ b. refl) refl (rest_final st.finalised st.frame.work h.waiting)
-
-drop_more : (n o : ℕ) (xs os : List ℕ) → drop n xs ≡ o ∷ os → drop (1 + n) xs ≡ os
-drop_more n o xs os e =
-    let more : 1 + n ≡ n + 1 = omega arith in
-    ap (λ (k : ℕ). drop k xs) more ∙ sym (drop-drop 1 n xs) ∙ ap (drop 1) e
-
-slot_apart : (b c o p : ℕ) → (b ≡ c → ⊥) → one (slot_reference c p) (slot_reference b o) ≡ 0
-slot_apart b c o p h = one_apart (slot_reference c p) (slot_reference b o) (λ q. h (sym (ap (λ (r : Reference). (code_of r.holder).first) q)))
-
-dropped_own : (b o : ℕ) (os : List ℕ) (st : State) → IsKept st → left_of st.objects st.dropped b ≡ o ∷ os → (p : ℕ) → weigh (one (slot_reference b p)) (without (slot_reference b o) st.edges) ≡ times p (left_of st.objects (b ∷ st.dropped) b)
-dropped_own b o os st h left p =
-    let slots = slots_at (slice_get st.objects b) in
-    let after : left_of st.objects (b ∷ st.dropped) b ≡ os = ap (λ (n : ℕ). drop n slots) (times_own b st.dropped) ∙ drop_more (times b st.dropped) o slots os left in
-    let before : (q : ℕ) → weigh (one (slot_reference b q)) st.edges ≡ times q (o ∷ os) = λ q. h.slots b q ∙ ap (times q) left in
-    let there : 0 < weigh (one (slot_reference b o)) st.edges = omega (arith, before o, times_own o os) in
-    rw after (omega (arith, weigh-without (one (slot_reference b p)) (slot_reference b o) st.edges there, before p, one_own (slot b) p o))
-
-dropped_other : (b c o : ℕ) (st : State) → IsKept st → (b ≡ c → ⊥) → eqb b c ≡ false → (p : ℕ) → weigh (one (slot_reference c p)) (without (slot_reference b o) st.edges) ≡ times p (left_of st.objects (b ∷ st.dropped) c)
-dropped_other b c o st h apart e p =
-    let none : counted (eqb b c) ≡ 0 = ap counted e in
-    let same : times c (b ∷ st.dropped) ≡ times c st.dropped = omega (arith, none) in
-    rw same (weigh-without-other (one (slot_reference c p)) (slot_reference b o) st.edges (slot_apart b c o p apart) ∙ h.slots c p)
-
-pub drop_kept : (b o : ℕ) (os : List ℕ) (st : State) → IsKept st → left_of st.objects st.dropped b ≡ o ∷ os → 0 < times b st.finalised → IsLive st o → KeepsStep st (drop_step b o st)
-drop_kept b o os st h left final live = record {
-  balance = shrinks_balance st (drop_step b o st) (record { reference = slot_reference b o; operations = refl; cuts = refl; size = refl; live = live.0; made = live.1 }) h.balance;
-  slots = λ c p. elim (eqb_tells b c) [
-    | inl e ↦ subst (λ (d : ℕ). weigh (one (slot_reference d p)) (without (slot_reference b o) st.edges) ≡ times p (left_of st.objects (b ∷ st.dropped) d)) e.1 (dropped_own b o os st h left p)
-    | inr e ↦ dropped_other b c o st h e.1 e.0 p
-  ];
-  drops = λ c p. elim (eqb_tells b c) [
-    | inl e ↦ subst (λ (d : ℕ). 0 < times d st.finalised) e.1 final
-    | inr e ↦ absurd (let none : counted (eqb b c) ≡ 0 = ap counted e.0 in omega arith)
-  ];
-  work = h.waiting;
+pub retain_flow : (t depth w : ℕ) (bs : List Binding) (object bound : Option ℕ) → look w bs ≡ object → LineFlow t depth bs (Retains w) bound (grows (held_if (variable t depth w) object) [])
+retain_flow t depth w bs object bound e = record {
+  won = λ d v o. rw e (omega (arith, at_depth t d depth v w o object));
+  lost = λ d v o. cond_zero (eqb depth d);
+  callouts = λ d o. omega (arith, held_if_apart (held_by (callout t d) o) (variable t depth w) object (kinds_apart (callout t d) (variable t depth w) refl));
 }
 
--- ---- a statement that may change an object
+pub release_flow : (t depth w x : ℕ) (bs : List Binding) (bound : Option ℕ) → look w bs ≡ Some x → LineFlow t depth bs (Releases w) bound (shrinks (held_by (variable t depth w) x))
+release_flow t depth w x bs bound e = record {
+  won = λ d v o. cond_zero (eqb depth d);
+  lost = λ d v o. rw e (omega (arith, at_depth t d depth v w o (Some x)));
+  callouts = λ d o. refl;
+}
 
-cuts_nothing : (t b : ℕ) (ts gs : List ℕ) → CutsNothing (adds_to b ts ++ moves_from t b gs)
-cuts_nothing t b [] [] = tt
-cuts_nothing t b [] (g ∷ gs) = cuts_nothing t b [] gs
-cuts_nothing t b (o ∷ ts) gs = cuts_nothing t b ts gs
+-- an empty variable has nothing to lose
+pub skip_flow : (t depth w : ℕ) (bs : List Binding) (bound : Option ℕ) → look w bs ≡ None → LineFlow t depth bs (Releases w) bound still
+skip_flow t depth w bs bound e = record {
+  won = λ d v o. cond_zero (eqb depth d);
+  lost = λ d v o. rw e (cond_zero (eqb depth d));
+  callouts = λ d o. refl;
+}
 
-added-change : (o t b : ℕ) (ts gs : List ℕ) → added o (adds_to b ts ++ moves_from t b gs) ≡ times o ts
-added-change o t b [] [] = refl
-added-change o t b [] (g ∷ gs) = added-change o t b [] gs
-added-change o t b (p ∷ ts) gs = ap (λ (n : ℕ). counted (eqb p o) + n) (added-change o t b ts gs)
+-- a claim moves a reference to a variable, and a pack takes one from it
+abbrev pub claim_by : Holder → Option ℕ → Holder → Flow
+claim_by h None k = still
+claim_by h (Some o) k = grows [] (moves_to k (held_by h o ∷ []))
 
-released_final : (finalised gs : List ℕ) (work : List Work) → AllFinal finalised work → AllFinal finalised (map release_of gs ++ work)
-released_final finalised [] work h = h
-released_final finalised (g ∷ gs) work h = released_final finalised gs work h
+pub claim_flow : (t depth w k : ℕ) (bs : List Binding) (object : Option ℕ) → LineFlow t depth bs (Binds w) object (claim_by (parcel t k) object (variable t depth w))
+claim_flow t depth w k bs None = record { won = λ d v o. cond_zero (eqb depth d); lost = λ d v o. cond_zero (eqb depth d); callouts = λ d o. refl }
+claim_flow t depth w k bs (Some x) = record {
+  won = λ d v o. omega (arith, at_depth t d depth v w o (Some x));
+  lost = λ d v o. cond_zero (eqb depth d);
+  callouts = λ d o. refl;
+}
 
-module _ (t b : ℕ) (answer : Answer) (change : Change) (st : State) (h : IsKept st) (live : IsLive st b) (enters : (o : ℕ) → 0 < times o (taken_in (slice_get st.objects b) change) → IsLive st o) where
-  -- the references of the body are its slots
-  body_slots : (o : ℕ) → weigh (one (slot_reference b o)) st.edges ≡ times o (slots_at (slice_get st.objects b))
-  body_slots o = h.slots b o ∙ ap (λ (n : ℕ). times o (drop n (slots_at (slice_get st.objects b)))) (h.undropped b live.0)
+pub pack_flow : (t depth w u k x : ℕ) (bs : List Binding) (bound : Option ℕ) → look w bs ≡ Some x → LineFlow t depth bs (Releases w) bound (grows [] (moves_to (parcel u k) (held_by (variable t depth w) x ∷ [])))
+pack_flow t depth w u k x bs bound e = record {
+  won = λ d v o. cond_zero (eqb depth d);
+  lost = λ d v o. rw e (omega (arith, at_depth t d depth v w o (Some x)));
+  callouts = λ d o. refl;
+}
 
-  pub change_can : CanRun (operations_in t b (slice_get st.objects b) change) st.edges
-  change_can = can_change t b (taken_in (slice_get st.objects b) change) (given_out (slice_get st.objects b) change) st.edges (λ o. omega (arith, given_most o change (slice_get st.objects b), body_slots o))
-
-  change_adds : Adds st.finalised (length st.objects) (length (with_change b change st.objects)) (operations_in t b (slice_get st.objects b) change)
-  change_adds =
-      let ts = taken_in (slice_get st.objects b) change in
-      let gs = given_out (slice_get st.objects b) change in
-      record {
-        nothing = cuts_nothing t b ts gs;
-        live = λ o some. inl (enters o (omega (arith, some, added-change o t b ts gs)));
-        new = λ e. absurd (omega (arith, e, length-with_change b change st.objects));
-        sizes = inl (length-with_change b change st.objects);
-      }
-
-  own_slots : (o : ℕ) → weigh (one (slot_reference b o)) (run (operations_in t b (slice_get st.objects b) change) st.edges) ≡ times o (left_of (with_change b change st.objects) st.dropped b)
-  own_slots o =
-      let ts = taken_in (slice_get st.objects b) change in
-      let gs = given_out (slice_get st.objects b) change in
-      let undropped = h.undropped b live.0 in
-      rw undropped (omega (arith, weigh-change (one (slot_reference b o)) t b ts gs st.edges change_can, own_weigh (slot b) o gs, own_weigh (slot b) o ts, other_weigh (slot_reference b o) (owed t) gs (kinds_apart (slot b) (owed t) refl), body_slots o, change_law o b change st.objects))
-
-  other_slots : (c o : ℕ) → (b ≡ c → ⊥) → weigh (one (slot_reference c o)) (run (operations_in t b (slice_get st.objects b) change) st.edges) ≡ times o (left_of (with_change b change st.objects) st.dropped c)
-  other_slots c o apart =
-      let ts = taken_in (slice_get st.objects b) change in
-      let gs = given_out (slice_get st.objects b) change in
-      let other : slot c ≡ slot b → ⊥ = λ q. apart (sym (ap (λ (k : Holder). (code_of k).first) q)) in
-      rw (others_keep b c change st.objects apart) (omega (arith, weigh-change (one (slot_reference c o)) t b ts gs st.edges change_can, other_weigh (slot_reference c o) (slot b) gs other, other_weigh (slot_reference c o) (slot b) ts other, other_weigh (slot_reference c o) (owed t) gs (kinds_apart (slot c) (owed t) refl), h.slots c o))
-
-  pub body_kept : KeepsStep st (change_step t answer (Some b) change st)
-  body_kept = record {
-    balance = grows_balance st (change_step t answer (Some b) change st) (record { cuts = refl; can = change_can; adds = change_adds }) h.balance;
-    slots = λ c o. elim (eqb_tells b c) [
-      | inl e ↦ subst (λ (d : ℕ). weigh (one (slot_reference d o)) (run (operations_in t b (slice_get st.objects b) change) st.edges) ≡ times o (left_of (with_change b change st.objects) st.dropped d)) e.1 (own_slots o)
-      | inr e ↦ other_slots c o e.1
-    ];
-    drops = λ c p. absurd (omega (arith, p));
-    work = released_final st.finalised (given_out (slice_get st.objects b) change) st.frame.work h.waiting;
-  }
-
-pub change_kept : (t : ℕ) (answer : Answer) (used : Option ℕ) (change : Change) (st : State) → IsKept st → IsLiveIf st used → ((o : ℕ) → 0 < times o (taken_in (object_of st.objects used) change) → IsLive st o) → KeepsStep st (change_step t answer used change st)
-change_kept t answer None change st h live enters = nil_kept st (change_step t answer None change st) h refl refl refl refl h.waiting
-change_kept t answer (Some b) change st h live enters = body_kept t b answer change st h live enters
+-- what a deal does to bodies and loops does nothing to variables and callouts
+pub deal_flow : (t depth : ℕ) (bs : List Binding) (bound : Option ℕ) (ins outs : List Reference) → AllPlaces ins → AllPlaces outs → LineFlow t depth bs Keeps bound (grows ins (moves_to (owed t) outs))
+deal_flow t depth bs bound ins outs i o = record {
+  won = λ d v q. omega (arith, places_weigh (held_by (variable t d v) q) ins (λ x. x) i, moves_other (owed t) (held_by (variable t d v) q) outs (kinds_apart (variable t d v) (owed t) refl), cond_zero (eqb depth d));
+  lost = λ d v q. omega (arith, moves_lost (owed t) (one (held_by (variable t d v) q)) outs, places_weigh (held_by (variable t d v) q) outs (λ x. x) o, cond_zero (eqb depth d));
+  callouts = λ d q. omega (arith, places_weigh (held_by (callout t d) q) ins (λ x. x) i, moves_other (owed t) (held_by (callout t d) q) outs (kinds_apart (callout t d) (owed t) refl), moves_lost (owed t) (one (held_by (callout t d) q)) outs, places_weigh (held_by (callout t d) q) outs (λ x. x) o);
+}

@@ -1,26 +1,24 @@
 -- How journals end. This project's own.
-use Rattle.std.specs.Prelude.{◌≡◌, ℕ, ◌<◌, false, List, length, IsTrue, Some}
+use Rattle.std.specs.Prelude.{◌≡◌, ℕ, ◌<◌, List, length, IsTrue, false}
 use Rattle.cf_syntax.specs.declared.script.Script.{Script}
-use Rattle.cf_model.specs.declared.action.Action.{Action}
-use Rattle.cf_model.specs.declared.action.Entry.{Entry}
+use Rattle.cf_model.specs.declared.entry.Entry.{Entry}
 use Rattle.cf_model.specs.declared.ending.Ending.{Ending}
 use Rattle.cf_model.specs.declared.ending.Ending.TheVariants as endings
 use Rattle.cf_model.specs.State.{State}
-use Rattle.cf_model.specs.Steps.{makes}
-use Rattle.cf_model.specs.Journals.{Next, After, IsWhole}
+use Rattle.cf_model.specs.Journals.{can_go, makes, After, all_done, has_stalled, IsWhole}
 
 -- as many objects were made as one run may make, and the next action of a thread makes another
 pub record IsFull (s : Script) (st : State) : Type 0 where
   pub thread : ℕ
-  pub action : Action
-  pub next : Next s st thread ≡ Some action
-  pub making : IsTrue (makes s action)
-  pub made : length st.objects ≡ 65536
+  pub going : IsTrue (can_go st thread)
+  pub making : IsTrue (makes s st thread)
+  pub made : length st.parts.objects ≡ 65536
 
--- a journal that is whole; one at its limit whose thread is not done; and one below it that can go no further, since
--- its next action makes an object too many. No form so far stalls
+-- a journal that ends with a stall; one that is whole; one at its limit of which some thread is not done; and one
+-- below it that can go no further, since a next action makes an object too many
 abbrev pub Ends : Script → (limit : ℕ) → List Entry → Ending → Type 0
+Ends s limit es endings.Stalled = IsTrue (has_stalled es)
 Ends s limit es endings.Done = IsWhole s es
-Ends s limit es endings.Limit = (length es ≡ limit) × ((After s es).frame.is_done ≡ false)
-Ends s limit es endings.Full = (length es < limit) × IsFull s (After s es)
-Ends s limit es endings.Stalled = ⊥
+Ends s limit es endings.Limit =
+    (has_stalled es ≡ false) × (length es ≡ limit) × (all_done s (After s es) ≡ false)
+Ends s limit es endings.Full = (has_stalled es ≡ false) × (length es < limit) × IsFull s (After s es)

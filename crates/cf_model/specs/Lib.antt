@@ -1,11 +1,21 @@
 -- The files of definitions of cf_model.
 pub mod State
-pub mod Actions
+pub mod Things
+pub mod Known
+pub mod Own
+pub mod Deals
 pub mod Steps
 pub mod Journals
 pub mod Finals
-pub mod Serial
 pub mod Changes
-pub mod Rendering
+pub mod Serial
 pub mod Endings
+pub mod Coming
+pub mod Sharing
+pub mod Tokens
+pub mod Owned
+pub mod Flowing
+pub mod Choices
+pub mod Runs
 pub mod Examples
+pub mod OneThread

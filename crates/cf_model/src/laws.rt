@@ -1,25 +1,137 @@
-//! Laws of the model, which hold of every script and every journal.
-ghost use Rattle.std.specs.Prelude.{◌≡◌, ◌+◌, ℕ, List, Some, map, take};
+//! Laws of journals, which hold of every script.
+ghost use Rattle.std.specs.Prelude.{◌≡◌, ℕ, List, ◌∷◌, ◌++◌};
 ghost use Rattle.cf_syntax.specs.declared.script.Script.{Script};
-ghost use Rattle.cf_syntax.specs.BlockLines.{says};
-ghost use Rattle.cf_syntax.specs.Owned.{Owned, given, released};
-ghost use Rattle.cf_graph.specs.Edges.{weigh, one};
-ghost use Rattle.cf_model.specs.declared.action.Entry.{Entry};
-ghost use Rattle.cf_model.specs.State.{look};
-ghost use Rattle.cf_model.specs.Steps.{reference};
-ghost use Rattle.cf_model.specs.Journals.{IsLegal, After, setup};
+ghost use Rattle.cf_model.specs.declared.entry.Entry.{Entry};
+ghost use Rattle.cf_model.specs.Choices.{IsDetermined};
+ghost use Rattle.cf_model.specs.Changes.{ChangesCount, IsOneWay};
+ghost use Rattle.cf_model.specs.Flowing.{ChangesGrow, GainsFew, GainsFit, HeldChanges};
+ghost use Rattle.cf_model.specs.Coming.{ComingIsHad, ComingStays, FirstIsNext, OwnStays};
 ghost use Rattle.cf_model.specs.Finals.{FinalsFit};
+ghost use Rattle.cf_model.specs.Journals.{After, IsLegal};
+ghost use Rattle.cf_model.specs.Owned.{GivesUp, NextIsLegal, ReleaseIsOwn, UsesFit};
+ghost use Rattle.cf_model.specs.Sharing.{AllInView, IsEmpty, MadeWhereChanged, TimesByLead};
+ghost use Rattle.cf_model.specs.Tokens.{HeldAsTold};
+ghost use Rattle.cf_graph.specs.Edges.{Reference};
+ghost use Rattle.cf_syntax.specs.Owned.{Owned};
 
-/// Every legal journal finalises each object at most once and uses none that is finalised, and after
-/// it exactly those are unfinalised to which a reference leads.
+/// Two legal journals of a script with the same threads, and the same ticks and stalls of the lead, are equal: the
+/// answer and the effect of a legal entry are functions of the state.
+pub fn journals_are_determined()
+    ensures { (s : Script) (es fs : List Entry) → IsDetermined s es fs }
+{}
+
+/// If a retain comes first of what comes next of a thread, it is the thread's next action, and the rest comes after
+/// it.
+pub fn first_is_next()
+    ensures { (s : Script) (journal : List Entry) (t : ℕ) → FirstIsNext s journal t }
+{}
+
+/// Every legal journal of every script, owned or not, finalises each object at most once, uses none that is finalised
+/// and adds no reference to one, and after it exactly those are unfinalised to which a reference leads.
 pub fn finals_of_legal_journals()
     ensures { (s : Script) (es : List Entry) → IsLegal s es → FinalsFit s es }
 {}
 
-/// After every legal journal of an owned script, a variable of setup holds as many references to its object as the
-/// statements so far gave to it, less those that they took from it.
-pub fn variables_hold_what_they_own()
-    ensures { (s : Script) (es : List Entry) (v o : ℕ) → Owned s → IsLegal s es → look v (After s es).frame.bindings ≡ Some o
-        → let earlier = map says (take (After s es).frame.number (setup s)) in
-        weigh (one (reference 0 v o)) (After s es).edges + released v earlier ≡ given v earlier }
+/// Of every legal journal of every script: entries of other threads, and ticks and stalls, change no reference of a
+/// thread.
+pub fn own_references_stay()
+    ensures { (s : Script) (journal more : List Entry) (t : ℕ) → IsLegal s (journal ++ more)
+        → OwnStays s journal more t }
+{}
+
+/// Of every legal journal of every script: each entry raises numbers of references or lowers them, and never does
+/// both.
+pub fn entries_go_one_way()
+    ensures { (s : Script) (journal more : List Entry) (e : Entry) → IsLegal s (journal ++ e ∷ more)
+        → IsOneWay s journal e }
+{}
+
+/// No more references lead to an object than it has changes, and the changes of a longer journal are those of its
+/// beginning and those after it.
+pub fn changes_count_references()
+    ensures { (s : Script) (es : List Entry) (o : ℕ) → ChangesCount s es o }
+{}
+
+/// Of every legal journal of every script: the changes of an object grow in each entry by the references to it that
+/// the entry adds, and by the one that it takes away.
+pub fn changes_grow_by_flows()
+    ensures { (s : Script) (journal more : List Entry) (e : Entry) → IsLegal s (journal ++ e ∷ more)
+        → ChangesGrow s journal e }
+{}
+
+/// Of every legal journal of every script, for one who answers for some threads: after an entry of one of these, the
+/// references to an object but those from other threads are those before it, with what it adds and without what it
+/// takes away.
+pub fn held_references_change_by_flows()
+    ensures { (s : Script) (journal more : List Entry) (e : Entry) (ts : List ℕ) → IsLegal s (journal ++ e ∷ more)
+        → HeldChanges s journal e ts }
+{}
+
+/// Of every legal journal of every script: what an entry adds references to is live, or it is the next object.
+pub fn gains_are_live_or_new()
+    ensures { (s : Script) (journal more : List Entry) (e : Entry) → IsLegal s (journal ++ e ∷ more)
+        → GainsFit s journal e }
+{}
+
+/// No entry adds more than 1,025 references to one object.
+pub fn entries_add_few_references()
+    ensures { (s : Script) (journal : List Entry) (e : Entry) → GainsFew s journal e }
+{}
+
+/// After every list of entries of an owned script each holder holds what the state tells beside its references: a
+/// variable what its lines gave it and did not take, a callout its item, a thread what its work owes, and a body
+/// what is left of its slots.
+pub fn held_along_journals()
+    ensures { (s : Script) (es : List Entry) → Owned s → HeldAsTold s (After s es) }
+{}
+
+/// After every list of entries of an owned script, whatever a thread does next uses only what is live and at hand,
+/// with a reference from the thread, its parcel or its loop, or from the body that the action names; so the next
+/// action of a thread is legal with the answer that the state gives, where it makes no object too many.
+pub fn next_actions_of_owned_scripts()
+    ensures uses { (s : Script) (es : List Entry) → Owned s → UsesFit s es }
+    ensures legal { (s : Script) (es : List Entry) → Owned s → NextIsLegal s es }
+{}
+
+/// After every list of entries of an owned script, where no thread has work left each finalised body has given up its
+/// slots.
+pub fn finalised_bodies_give_up()
+    ensures { (s : Script) (es : List Entry) → Owned s → GivesUp s es }
+{}
+
+/// After every list of entries of an owned script, the release of a variable takes away that variable's reference.
+pub fn releases_take_their_own()
+    ensures { (s : Script) (es : List Entry) → Owned s → ReleaseIsOwn s es }
+{}
+
+/// After every list of entries of an owned script: entries of other threads, ticks and stalls take none of a thread's
+/// next retains away; they may add some.
+pub fn next_retains_stay()
+    ensures { (s : Script) (journal more : List Entry) (t : ℕ) → Owned s → ComingStays s journal more t }
+{}
+
+/// After every list of entries of an owned script, a thread has a reference to each object that it retains next.
+pub fn next_retains_are_had()
+    ensures { (s : Script) (journal : List Entry) (t : ℕ) → Owned s → ComingIsHad s journal t }
+{}
+
+/// All references to an object are those that one who answers for some threads has in view, and those of other
+/// threads.
+pub fn references_in_view_and_of_others()
+    ensures { (ts : List ℕ) (o : ℕ) (es : List Reference) → AllInView ts o es }
+{}
+
+/// After every legal journal of every script an object was made exactly if its changes are above 0.
+pub fn made_objects_have_changes()
+    ensures { (s : Script) (es : List Entry) → IsLegal s es → MadeWhereChanged s es }
+{}
+
+/// The times of the ticks of a legal journal are read off the entries of the lead alone.
+pub fn lead_tells_the_times()
+    ensures { (s : Script) (es : List Entry) → IsLegal s es → TimesByLead es }
+{}
+
+/// A script without threads has no reference and no next action.
+pub fn nothing_without_threads()
+    ensures { (s : Script) (es : List Entry) → s.thread_count ≡ 0 → IsEmpty s es }
 {}

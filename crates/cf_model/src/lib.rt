@@ -2,12 +2,27 @@
 //! legal, and what is written of one. Bodies elsewhere are proved against these definitions.
 #![tactic(auto)]
 
-mod action;
 mod ending;
+mod entry;
 mod examples;
 mod laws;
+pub mod one_thread;
 
-pub use action::{Action, Entry};
+pub use cf_next::Action;
 pub use ending::Ending;
-pub use examples::a_script_and_its_lines;
-pub use laws::{finals_of_legal_journals, variables_hold_what_they_own};
+pub use entry::Entry;
+pub use examples::{
+    a_callout_takes_another_out, a_late_timer_fires_once, a_notice_with_a_finalised_observer,
+    a_release_that_is_not_owned, a_run_without_a_date_stalls, a_shared_string_changes_six_times,
+    a_signal_wakes_nobody, a_wake_is_kept, a_worker_a_bell_and_an_observer,
+    an_item_of_the_common_modes, one_signal_for_three, two_threads_release_one_string,
+};
+pub use laws::{
+    changes_count_references, changes_grow_by_flows, entries_add_few_references,
+    entries_go_one_way, finalised_bodies_give_up, finals_of_legal_journals, first_is_next,
+    gains_are_live_or_new, held_along_journals, held_references_change_by_flows,
+    journals_are_determined, lead_tells_the_times, made_objects_have_changes,
+    next_actions_of_owned_scripts, next_retains_are_had, next_retains_stay,
+    nothing_without_threads, own_references_stay, references_in_view_and_of_others,
+    releases_take_their_own,
+};

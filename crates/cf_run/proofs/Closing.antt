@@ -4,21 +4,21 @@ use Rattle.std.specs.Prelude.{nat_le}
 use Rattle.std.proofs.lemmas.Bool.Decides.{nat_tests}
 use Rattle.cf_syntax.specs.declared.script.Script.{Script}
 use Rattle.cf_graph.specs.declared.edge.Edge.{Edge}
-use Rattle.cf_graph.specs.Edges.{edges_of}
+use Rattle.cf_graph.specs.OneThread.Edges.{edges_of}
 use Rattle.cf_graph.specs.Degrees.{owns, holds}
-use Rattle.cf_graph.proofs.Degrees.{count_by-owns, count_by-holds}
+use Rattle.cf_graph.proofs.OneThread.Degrees.{count_by-owns, count_by-holds}
 use Rattle.std.specs.Prelude.{count_by, slice_index_or}
 use Rattle.cf_contents.specs.Contents.{Object}
-use Rattle.cf_model.specs.declared.action.Action.{Action}
+use Rattle.cf_next.specs.declared.action.Action.{Action}
 use Rattle.cf_model.specs.declared.ending.Ending.{Ending}
-use Rattle.cf_model.specs.State.{State, Work, release_of, slots_of, left_of, trimmed}
-use Rattle.cf_model.specs.Steps.{makes}
-use Rattle.cf_model.specs.Journals.{Next as next_action, worked, drop_of, After}
-use Rattle.cf_model.specs.Endings.{Ends}
-use Rattle.cf_model.specs.Finals.{cut_of}
-use Rattle.cf_model.proofs.Proceeding.{whole}
-use Rattle.cf_model.proofs.Sizes.{few_made}
-use Rattle.cf_model.proofs.Soundness.{sound}
+use Rattle.cf_model.specs.OneThread.State.{State, Work, release_of, slots_of, left_of, trimmed}
+use Rattle.cf_model.specs.OneThread.Steps.{makes}
+use Rattle.cf_model.specs.OneThread.Journals.{Next as next_action, worked, drop_of, After}
+use Rattle.cf_model.specs.OneThread.Endings.{Ends}
+use Rattle.cf_model.specs.OneThread.Finals.{cut_of}
+use Rattle.cf_model.proofs.OneThread.Proceeding.{whole}
+use Rattle.cf_model.proofs.OneThread.Sizes.{few_made}
+use Rattle.cf_model.proofs.OneThread.Soundness.{sound}
 use Rattle.cf_world.specs.declared.next.Next.{Next}
 use Rattle.cf_world.specs.declared.next.Next.TheVariants.{Act, Limit, Full}
 use Rattle.cf_world.specs.Worlds.{WorldView, state_of, state_in, next_in, next_by, next_of}

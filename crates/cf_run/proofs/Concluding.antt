@@ -9,12 +9,12 @@ use Rattle.cf_syntax.specs.declared.refusal.Refusal.{Refusal}
 use Rattle.cf_syntax.specs.Text.{Text}
 use Rattle.cf_syntax.specs.Owned.{Owned, owner_fault}
 use Rattle.cf_syntax.proofs.RefusalLaws.{one_refusal, not_both as read_and_refused}
-use Rattle.cf_model.specs.declared.action.Entry.{Entry}
+use Rattle.cf_model.specs.declared.entry.Entry.{Entry}
 use Rattle.cf_model.specs.declared.ending.Ending.{Ending}
 use Rattle.cf_model.specs.declared.ending.Ending.TheVariants as endings
-use Rattle.cf_model.specs.Serial.{IsSerial}
-use Rattle.cf_model.proofs.Finality.{finals_fit}
-use Rattle.cf_model.proofs.Sizes.{few_made}
+use Rattle.cf_model.specs.OneThread.Serial.{IsSerial}
+use Rattle.cf_model.proofs.OneThread.Finality.{finals_fit}
+use Rattle.cf_model.proofs.OneThread.Sizes.{few_made}
 use Rattle.cf_run.specs.declared.serial.Over.{Over}
 use Rattle.cf_run.specs.declared.output.Unwritten.{Unwritten as WriteError}
 use Rattle.cf_run.specs.declared.output.Unwritten.TheVariants.{Fault, NoMemory}
@@ -27,7 +27,7 @@ use Rattle.cf_run.specs.Outcomes.{script_bytes, IsContent, IsRead, has_one_block
 use Rattle.cf_run.specs.Settled.{Accepted, Settles, HasFew, due_of, entries_of, status_by, status_after}
 use Rattle.cf_run.specs.Tally.{IsOver}
 use Rattle.cf_run.specs.Lines.{entries_in, run_text}
-use Rattle.cf_model.specs.Journals.{After, IsWhole}
+use Rattle.cf_model.specs.OneThread.Journals.{After, IsWhole}
 use Rattle.cf_run.proofs.Rendered.{run_text-rendering}
 use Rattle.cf_run.proofs.Stops.{run_stops, full_going}
 use Rattle.cf_ids.specs.declared.limits.TheConstants.{OBJECTS}

@@ -12,23 +12,23 @@ use Rattle.cf_syntax.specs.declared.mention.Ownership.TheVariants.{Keeps, Binds,
 use Rattle.cf_syntax.specs.Mentions.{ownership_of}
 use Rattle.cf_syntax.specs.Owned.{Owned}
 use Rattle.cf_ids.specs.declared.answer.Answer.{Answer}
-use Rattle.cf_graph.specs.Edges.{counted}
+use Rattle.cf_graph.specs.OneThread.Edges.{counted}
 use Rattle.cf_contents.specs.Contents.{times}
 use Rattle.cf_contents.specs.Deeds.{Origin, Change, first_of, deed_at}
-use Rattle.cf_model.specs.declared.action.Action.{Action}
-use Rattle.cf_model.specs.declared.action.Entry.{Entry}
-use Rattle.cf_model.specs.State.{State, start, degree}
-use Rattle.cf_model.specs.Steps.{Step, cut_by, finals_of, statement_in, touch_step, step_for, effect, gained, gained_by, makes}
-use Rattle.cf_model.specs.Journals.{Next as next_action, IsLegalEntry, IsLegal, After}
-use Rattle.cf_model.specs.Finals.{cut_of, one_at}
-use Rattle.cf_model.proofs.Along.{kept}
-use Rattle.cf_model.proofs.Degrees.{degree_after}
-use Rattle.cf_model.proofs.Demands.{Demand, of_frame, of_owed, of_slot, IsDemanded, legal_is_demanded}
-use Rattle.cf_model.proofs.FrameSteps.{frame_step, site_in, step_for-demanded}
-use Rattle.cf_model.proofs.Growth.{state_from-append, legal_more, pointer_after-more, serial_more}
-use Rattle.cf_model.proofs.Legality.{legal_demanded, legal_owed, legal_drop}
-use Rattle.cf_model.proofs.Proceeding.{cut_same, touch_cut, grows_one}
-use Rattle.cf_model.proofs.Soundness.{IsSound, sound}
+use Rattle.cf_next.specs.declared.action.Action.{Action}
+use Rattle.cf_model.specs.declared.entry.Entry.{Entry}
+use Rattle.cf_model.specs.OneThread.State.{State, start, degree}
+use Rattle.cf_model.specs.OneThread.Steps.{Step, cut_by, finals_of, statement_in, touch_step, step_for, effect, gained, gained_by, makes}
+use Rattle.cf_model.specs.OneThread.Journals.{Next as next_action, IsLegalEntry, IsLegal, After}
+use Rattle.cf_model.specs.OneThread.Finals.{cut_of, one_at}
+use Rattle.cf_model.proofs.OneThread.Along.{kept}
+use Rattle.cf_model.proofs.OneThread.Degrees.{degree_after}
+use Rattle.cf_model.proofs.OneThread.Demands.{Demand, of_frame, of_owed, of_slot, IsDemanded, legal_is_demanded}
+use Rattle.cf_model.proofs.OneThread.FrameSteps.{frame_step, site_in, step_for-demanded}
+use Rattle.cf_model.proofs.OneThread.Growth.{state_from-append, legal_more, pointer_after-more, serial_more}
+use Rattle.cf_model.proofs.OneThread.Legality.{legal_demanded, legal_owed, legal_drop}
+use Rattle.cf_model.proofs.OneThread.Proceeding.{cut_same, touch_cut, grows_one}
+use Rattle.cf_model.proofs.OneThread.Soundness.{IsSound, sound}
 use Rattle.cf_world.specs.Worlds.{WorldView, state_of, state_in, next_by, act_in, acting, entry_of, entered, ended_at}
 use Rattle.cf_world.proofs.Acting.{acts_next, entered_is}
 use Rattle.cf_run.specs.Tally.{grown, lowered, finals_by, AreDegrees, IsRun}

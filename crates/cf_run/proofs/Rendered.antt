@@ -5,17 +5,17 @@ use Rattle.std.proofs.lemmas.Bool.Decides.{nat_tests}
 use Rattle.std.proofs.lemmas.List.{take_more, length-take, take_all}
 use Rattle.cf_syntax.specs.declared.script.Script.{Script}
 use Rattle.cf_syntax.specs.declared.script.ClassLine.{ClassLine}
-use Rattle.cf_graph.specs.Edges.{Reference, weigh, counted, owning, holding}
-use Rattle.cf_graph.proofs.Sides.{weigh-sides}
-use Rattle.cf_model.specs.declared.action.Entry.{Entry}
+use Rattle.cf_graph.specs.OneThread.Edges.{Reference, weigh, counted, owning, holding}
+use Rattle.cf_graph.proofs.OneThread.Sides.{weigh-sides}
+use Rattle.cf_model.specs.declared.entry.Entry.{Entry}
 use Rattle.cf_model.specs.declared.ending.Ending.{Ending}
 use Rattle.cf_contents.specs.Contents.{text_content, Object}
-use Rattle.cf_model.specs.State.{State, times, degree}
-use Rattle.cf_model.specs.Journals.{After}
-use Rattle.cf_model.specs.Rendering.{joined, entry_lines, text_of_lines, alive_line, alive_from, alive_lines, end_line, rendering}
-use Rattle.cf_model.proofs.Growth.{text_of_lines-append}
-use Rattle.cf_model.proofs.Balance.{IsBalanced}
-use Rattle.cf_model.proofs.Along.{kept}
+use Rattle.cf_model.specs.OneThread.State.{State, times, degree}
+use Rattle.cf_model.specs.OneThread.Journals.{After}
+use Rattle.cf_model.specs.OneThread.Rendering.{joined, entry_lines, text_of_lines, alive_line, alive_from, alive_lines, end_line, rendering}
+use Rattle.cf_model.proofs.OneThread.Growth.{text_of_lines-append}
+use Rattle.cf_model.proofs.OneThread.Balance.{IsBalanced}
+use Rattle.cf_model.proofs.OneThread.Along.{kept}
 use Rattle.cf_world.specs.Worlds.{WorldView, state_in}
 use Rattle.cf_run.specs.declared.tally.Tally.{Tally}
 use Rattle.cf_run.specs.Tally.{nothing, Tallied, IsOver}

@@ -3,15 +3,15 @@ use Rattle.std.proofs.Common.{◌≡◌, ℕ, zero, suc, ◌≤◌, Bool, true, 
 use Rattle.std.specs.Prelude.{IsSomeAnd, IsTrue}
 use Rattle.std.proofs.lemmas.Bool.{eqb-true}
 use Rattle.cf_syntax.specs.declared.script.Script.{Script}
-use Rattle.cf_model.specs.declared.action.Action.{Action}
-use Rattle.cf_model.specs.declared.action.Entry.{Entry}
+use Rattle.cf_next.specs.declared.action.Action.{Action}
+use Rattle.cf_model.specs.declared.entry.Entry.{Entry}
 use Rattle.cf_model.specs.declared.ending.Ending.{Ending}
 use Rattle.cf_model.specs.declared.ending.Ending.TheVariants.{Done, Limit, Full, Stalled}
-use Rattle.cf_model.specs.State.{State}
-use Rattle.cf_model.specs.Steps.{makes}
-use Rattle.cf_model.specs.Journals.{Next, After, worked}
-use Rattle.cf_model.specs.Endings.{IsFull}
-use Rattle.cf_model.specs.Serial.{picked, pointer_after}
+use Rattle.cf_model.specs.OneThread.State.{State}
+use Rattle.cf_model.specs.OneThread.Steps.{makes}
+use Rattle.cf_model.specs.OneThread.Journals.{Next, After, worked}
+use Rattle.cf_model.specs.OneThread.Endings.{IsFull}
+use Rattle.cf_model.specs.OneThread.Serial.{picked, pointer_after}
 use Rattle.cf_world.specs.Worlds.{WorldView}
 use Rattle.cf_run.specs.declared.tally.Tally.{Tally}
 use Rattle.cf_run.specs.Tally.{IsOver}

@@ -2,7 +2,7 @@
 use Rattle.std.proofs.Common.{◌≡◌, ℕ, zero, suc, ◌+◌, ◌<◌, ◌≤◌, List, [], ◌∷◌, ◌++◌, length, drop, refl, sym, ap, ◌∙◌, append_assoc, append-nil, arith}
 use Rattle.std.proofs.lemmas.List.{drop_all}
 use Rattle.std.specs.Prelude.{slice_index_or}
-use Rattle.cf_model.specs.Rendering.{joined}
+use Rattle.cf_model.specs.OneThread.Rendering.{joined}
 use Rattle.cf_run.specs.Lines.{gap}
 
 -- words after others

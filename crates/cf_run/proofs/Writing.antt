@@ -6,10 +6,10 @@ use Rattle.std.specs.Prelude.{slice_index_or, Result, Ok, Err}
 use Rattle.cf_io.specs.Bytes.{then_bytes}
 use Rattle.cf_contents.specs.Contents.{Object}
 use Rattle.cf_syntax.specs.declared.script.ClassLine.{ClassLine}
-use Rattle.cf_model.specs.declared.action.Entry.{Entry}
+use Rattle.cf_model.specs.declared.entry.Entry.{Entry}
 use Rattle.cf_model.specs.declared.ending.Ending.{Ending}
-use Rattle.cf_model.specs.Rendering.{joined, entry_lines, lines_if, line_of, text_of_lines}
-use Rattle.cf_model.proofs.Growth.{entry_lines-append, text_of_lines-append}
+use Rattle.cf_model.specs.OneThread.Rendering.{joined, entry_lines, lines_if, line_of, text_of_lines}
+use Rattle.cf_model.proofs.OneThread.Growth.{entry_lines-append, text_of_lines-append}
 use Rattle.cf_run.specs.Lines.{class_at, alive_if, alive_below, end_words, ends_of}
 use Rattle.cf_run.specs.declared.output.Unwritten.{Unwritten}
 use Rattle.cf_run.specs.declared.tally.Tally.{Tally}

@@ -3,7 +3,7 @@ use Rattle.std.specs.Prelude.{◌≡◌, ℕ, List, map, Option}
 use Rattle.cf_fault.specs.Fault.{HasRisen}
 use Rattle.cf_io.specs.Bytes.{then_bytes}
 use Rattle.cf_io.specs.Files.{File}
-use Rattle.cf_model.specs.declared.action.Entry.{Entry}
+use Rattle.cf_model.specs.declared.entry.Entry.{Entry}
 use Rattle.cf_run.specs.declared.report.Report.{Report}
 use denote.Ref.{Bor}
 

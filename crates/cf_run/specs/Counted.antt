@@ -1,7 +1,7 @@
 -- References, counted one by one.
 use Rattle.std.specs.Prelude.{ℕ, ◌+◌, ◌^◌, ◌<◌, List, length, nat_lt, count_by, slice_index_or, slice_set, if◌then◌else◌}
 use Rattle.cf_graph.specs.declared.edge.Edge.{Edge}
-use Rattle.cf_graph.specs.Holders.{is_owning}
+use Rattle.cf_graph.specs.Owners.{is_owning}
 use Rattle.cf_graph.specs.Degrees.{owns, holds}
 use Rattle.cf_run.specs.declared.tally.Tally.{Tally}
 use Rattle.cf_run.specs.Tally.{nothing}

@@ -8,8 +8,8 @@ use Rattle.cf_contents.specs.Contents.{Object}
 use Rattle.cf_contents.specs.Descriptions.{class_name}
 use Rattle.cf_syntax.specs.declared.script.Script.{Script}
 use Rattle.cf_syntax.specs.declared.script.ClassLine.{ClassLine}
-use Rattle.cf_model.specs.Rendering.{joined, ending_word, entry_lines, text_of_lines}
-use Rattle.cf_model.specs.declared.action.Entry.{Entry}
+use Rattle.cf_model.specs.OneThread.Rendering.{joined, ending_word, entry_lines, text_of_lines}
+use Rattle.cf_model.specs.declared.entry.Entry.{Entry}
 use Rattle.cf_model.specs.declared.ending.Ending.{Ending}
 use Rattle.cf_world.specs.Worlds.{WorldView, state_of}
 use Rattle.cf_run.specs.declared.tally.Tally.{Tally}

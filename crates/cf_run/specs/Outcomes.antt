@@ -11,15 +11,15 @@ use Rattle.cf_syntax.specs.declared.script.Script.{Script}
 use Rattle.cf_syntax.specs.Text.{Text}
 use Rattle.cf_syntax.specs.Refusals.{Refused}
 use Rattle.cf_syntax.specs.Owned.{Owned, Unfit}
-use Rattle.cf_model.specs.declared.action.Entry.{Entry}
+use Rattle.cf_model.specs.declared.entry.Entry.{Entry}
 use Rattle.cf_model.specs.declared.ending.Ending.{Ending}
 use Rattle.cf_model.specs.declared.ending.Ending.TheVariants.{Done, Limit, Full}
-use Rattle.cf_model.specs.Steps.{makes}
-use Rattle.cf_model.specs.Journals.{Next, After, IsLegal, IsWhole}
-use Rattle.cf_model.specs.Endings.{Ends}
-use Rattle.cf_model.specs.Finals.{FinalsFit}
-use Rattle.cf_model.specs.Serial.{picked, IsSerial, pointer_after}
-use Rattle.cf_model.specs.Rendering.{rendering}
+use Rattle.cf_model.specs.OneThread.Steps.{makes}
+use Rattle.cf_model.specs.OneThread.Journals.{Next, After, IsLegal, IsWhole}
+use Rattle.cf_model.specs.OneThread.Endings.{Ends}
+use Rattle.cf_model.specs.OneThread.Finals.{FinalsFit}
+use Rattle.cf_model.specs.OneThread.Serial.{picked, IsSerial, pointer_after}
+use Rattle.cf_model.specs.OneThread.Rendering.{rendering}
 use Rattle.cf_run.specs.Calls.{Call, status_is, SourceFailed, SinkFailed, Wrote}
 use Rattle.cf_run.specs.Commands.{file_of, TakesWords}
 use Rattle.cf_run.specs.Tally.{default_limit}

@@ -8,7 +8,7 @@ use Rattle.cf_syntax.specs.Owned.{Owned}
 use Rattle.cf_owncheck.specs.declared.checked.Checked.{Checked}
 use Rattle.cf_script.specs.declared.fault.ScriptFault.{ScriptFault}
 use Rattle.cf_script.specs.declared.fault.ScriptFault.TheVariants as faults
-use Rattle.cf_model.specs.declared.action.Entry.{Entry}
+use Rattle.cf_model.specs.declared.entry.Entry.{Entry}
 use Rattle.cf_model.specs.declared.ending.Ending.{Ending}
 use Rattle.cf_model.specs.declared.ending.Ending.TheVariants as endings
 use Rattle.cf_run.specs.declared.output.Unwritten.{Unwritten}

@@ -5,14 +5,14 @@ use Rattle.cf_ids.specs.declared.answer.Ended.{Ended}
 use Rattle.cf_ids.specs.declared.answer.Ended.TheVariants.{More, Last}
 use Rattle.cf_syntax.specs.declared.script.Script.{Script}
 use Rattle.cf_syntax.specs.Owned.{Owned}
-use Rattle.cf_graph.specs.Edges.{Reference, weigh, owning, holding}
+use Rattle.cf_graph.specs.OneThread.Edges.{Reference, weigh, owning, holding}
 use Rattle.cf_model.specs.declared.ending.Ending.{Ending}
 use Rattle.cf_model.specs.declared.ending.Ending.TheVariants as endings
-use Rattle.cf_model.specs.State.{start, degree}
-use Rattle.cf_model.specs.Journals.{After, IsLegal}
-use Rattle.cf_model.specs.Endings.{Ends}
-use Rattle.cf_model.specs.Finals.{cut_of}
-use Rattle.cf_model.specs.Serial.{IsSerialFrom, pointer_after}
+use Rattle.cf_model.specs.OneThread.State.{start, degree}
+use Rattle.cf_model.specs.OneThread.Journals.{After, IsLegal}
+use Rattle.cf_model.specs.OneThread.Endings.{Ends}
+use Rattle.cf_model.specs.OneThread.Finals.{cut_of}
+use Rattle.cf_model.specs.OneThread.Serial.{IsSerialFrom, pointer_after}
 use Rattle.cf_world.specs.Worlds.{WorldView}
 use Rattle.cf_world.specs.declared.next.Next.{Next}
 use Rattle.cf_world.specs.declared.next.Next.TheVariants as next

@@ -2,7 +2,7 @@
 ghost use Rattle.std.specs.Prelude.{◌≡◌, ◌<◌, ◌++◌, ◌∷◌, [], codes, length, slice_index_or, IfOk, OnOk};
 ghost use Rattle.std.specs.Option.{option_to_list};
 ghost use Rattle.std.specs.String.{string_bytes};
-ghost use Rattle.cf_model.specs.Rendering.{joined, ending_word as word_of_ending, object_line, drop_words, line_of, lines_if, text_of_lines};
+ghost use Rattle.cf_model.specs.OneThread.Rendering.{joined, ending_word as word_of_ending, object_line, drop_words, line_of, lines_if, text_of_lines};
 ghost use Rattle.cf_world.specs.Worlds.{state_of};
 ghost use Rattle.cf_run.specs.Outcomes.{reason_word as word_of, refusal_text};
 ghost use Rattle.cf_script.specs.Views.{lent};

@@ -1,7 +1,7 @@
 //! Lines go out, each by one `write_all`.
 ghost use Rattle.std.specs.Prelude.{◌≡◌, ◌≤◌, length, IfOk};
 ghost use Rattle.cf_ids.specs.declared.limits.TheConstants.{OBJECTS};
-ghost use Rattle.cf_model.specs.Rendering.{line_of, lines_if, entry_lines, text_of_lines};
+ghost use Rattle.cf_model.specs.OneThread.Rendering.{line_of, lines_if, entry_lines, text_of_lines};
 ghost use Rattle.cf_world.specs.Worlds.{state_of};
 ghost use Rattle.cf_run.specs.Lines.{class_at, alive_if, alive_below, ends_of, classes_in, run_text};
 ghost use Rattle.cf_run.specs.declared.output.Unwritten.TheVariants.{NoMemory};

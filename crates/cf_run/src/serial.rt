@@ -2,7 +2,7 @@
 //! references that lead to it.
 ghost use Rattle.std.specs.Prelude.{◌≡◌, ◌==◌, if◌then◌else◌, ℕ, ◌+◌, ◌*◌, ◌^◌, ◌<◌, ◌≤◌, length, vec_len, vec_capacity, OnOk, OnErr, IfOk, IsSomeAnd, IsTrue, Some, None, slice_index, Contains};
 ghost use Rattle.cf_contents.specs.Contents.{times};
-ghost use Rattle.cf_model.specs.Finals.{cut_of};
+ghost use Rattle.cf_model.specs.OneThread.Finals.{cut_of};
 ghost use Rattle.cf_world.specs.Worlds.{next_in, acting, ended_at};
 ghost use Rattle.cf_run.specs.Tally.{grown, raised, lowered, finals_by, turn_by, turn_of, goes_on, ending_at, IsRun, IsOver};
 

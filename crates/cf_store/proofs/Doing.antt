@@ -4,7 +4,7 @@ use Rattle.std.specs.Option.{option_map}
 use Rattle.cf_ids.specs.declared.answer.Answer.{Answer}
 use Rattle.cf_ids.specs.declared.answer.Answer.TheVariants as answers
 use Rattle.cf_types.specs.declared.cells.Cell.{Cell}
-use Rattle.cf_contents.specs.Contents.{Content, text_content, data_content, number_content, instance_content, array_content, dictionary_content, set_content, bag_content, heap_content}
+use Rattle.cf_contents.specs.Contents.{Content, text_content, data_content, number_content, instance_content, array_content, dictionary_content, set_content, bag_content, heap_content, item_content}
 use Rattle.cf_contents.specs.Keys.{Numbered, number_of, numbered, with_number_of}
 use Rattle.cf_contents.specs.Deeds as deeds
 use Rattle.cf_body.specs.Bodies.{BodyView, object_in, held_of}
@@ -31,6 +31,7 @@ more_in (dictionary_content plain pairs) more deed is = absurd cc
 more_in (set_content plain members) more deed is = absurd cc
 more_in (bag_content plain rows) more deed is = absurd cc
 more_in (heap_content plain adds rows) more deed is = absurd cc
+more_in (item_content handler info valid item) more deed is = absurd cc
 
 more_of : (b : Option Numbered) (more : List ℕ) (deed : List ℕ → deeds.Deed) → Some more ≡ read_in units_in b
     → deeds.with_text b deed ≡ deed more
@@ -50,6 +51,7 @@ units_of (dictionary_content plain pairs) units deed other is same = absurd cc
 units_of (set_content plain members) units deed other is same = absurd cc
 units_of (bag_content plain rows) units deed other is same = absurd cc
 units_of (heap_content plain adds rows) units deed other is same = absurd cc
+units_of (item_content handler info valid item) units deed other is same = absurd cc
 
 text_of : (a : Option Numbered) (units : List ℕ) (deed other : List ℕ → deeds.Deed)
     → Some units ≡ read_in mutable_units_in a → deed units ≡ other units

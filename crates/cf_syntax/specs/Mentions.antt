@@ -1,6 +1,6 @@
 -- What each form of statement names, uses, makes and does to the counts of variables. This project's own; a further
 -- form adds a line to `mentions_of`.
-use Rattle.std.specs.Prelude.{ℕ, ◌-◌, Bool, true, false, List, [], ◌∷◌, ◌++◌, length, map, replicate, Option, Some, None}
+use Rattle.std.specs.Prelude.{ℕ, zero, suc, ◌-◌, Bool, true, false, List, [], ◌∷◌, ◌++◌, length, map, replicate, Option, Some, None}
 use Rattle.cf_syntax.specs.declared.statement.Statement.{Statement}
 use Rattle.cf_syntax.specs.declared.statement.Statement.TheVariants.{MakeString, MakeMstring, MakeData, MakeMdata, MakeNumber, MakeArray, MakeDict, MakeSet, MakeBag, MakeHeap, MakeSource, MakeTimer, MakeObserver, New, Retain, Release, Show, StrAppend, StrInsert, StrDelete, StrReplace, StrSub, DataAppend, DataReplace, DataDelete, NumAs, ArrAppend, ArrInsert, ArrSet, ArrRemove, ArrTake, DictAdd, DictSet, DictReplace, DictRemove, DictTake, SetAdd, SetSet, SetReplace, SetRemove, SetCount, SetTake, HeapAdd, HeapTake, HeapRemove, FieldSet, FieldClear, FieldTake, Add, Drop, Common, Signal, Invalidate, Wake, Stop, Run, Observe, Forget, Post}
 use Rattle.cf_syntax.specs.declared.mention.ThreadWord.{ThreadWord}
@@ -149,3 +149,12 @@ makes_object _ = false
 -- a list of at most three, as three places
 abbrev pub pad : {A : Type 0} → List A → List (Option A)
 pad xs = map Some xs ++ replicate (3 - length xs) None
+
+-- one of the objects of the variables that a statement uses, by its place among them, and the first one
+abbrev pub used_at : List (Option ℕ) → ℕ → Option ℕ
+used_at [] i = None
+used_at (o ∷ os) zero = o
+used_at (o ∷ os) (suc i) = used_at os i
+
+abbrev pub first_of : List (Option ℕ) → Option ℕ
+first_of used = used_at used 0

@@ -7,15 +7,15 @@ use Rattle.cf_syntax.specs.declared.script.Script.{Script}
 use Rattle.cf_syntax.specs.declared.statement.Statement.{Statement}
 use Rattle.cf_contents.specs.Stores.{Held, given_up_in, left_in}
 use Rattle.cf_contents.proofs.BodyLaws.{length-objects}
-use Rattle.cf_model.specs.declared.action.Action.{Action}
-use Rattle.cf_model.specs.declared.action.Action.TheVariants as actions
-use Rattle.cf_model.specs.declared.action.Entry.{Entry}
-use Rattle.cf_model.specs.State.{State, Work, release_of, slots_of}
-use Rattle.cf_model.specs.Steps.{makes, makes_at, makes_if}
-use Rattle.cf_model.specs.Journals.{setup, worked, Next as next_action, After}
-use Rattle.cf_model.specs.Finals.{cut_of}
-use Rattle.cf_model.proofs.FrameSteps.{cut_of-action_of, site_of-action_of}
-use Rattle.cf_model.proofs.Soundness.{sound, setup_statement}
+use Rattle.cf_next.specs.declared.action.Action.{Action}
+use Rattle.cf_next.specs.declared.action.Action.TheVariants as actions
+use Rattle.cf_model.specs.declared.entry.Entry.{Entry}
+use Rattle.cf_model.specs.OneThread.State.{State, Work, release_of, slots_of}
+use Rattle.cf_model.specs.OneThread.Steps.{makes, makes_at, makes_if}
+use Rattle.cf_model.specs.OneThread.Journals.{setup, worked, Next as next_action, After}
+use Rattle.cf_model.specs.OneThread.Finals.{cut_of}
+use Rattle.cf_model.proofs.OneThread.FrameSteps.{cut_of-action_of, site_of-action_of}
+use Rattle.cf_model.proofs.OneThread.Soundness.{sound, setup_statement}
 use Rattle.cf_world.specs.declared.next.Next.{Next}
 use Rattle.cf_world.specs.declared.next.Next.TheVariants.{Act, Waiting, Done, Limit, Full}
 use Rattle.cf_world.specs.declared.work.Item.{Item}

@@ -3,12 +3,12 @@ use Rattle.std.proofs.Common.{◌≡◌, ℕ, ◌+◌, ◌^◌, ◌<◌, ◌≤�
 use Rattle.std.specs.Prelude.{slice_get, vec_len, vec_capacity, IfSome, IsSomeAnd}
 use Rattle.cf_ids.specs.declared.answer.Ended.{Ended}
 use Rattle.cf_syntax.specs.declared.script.Script.{Script}
-use Rattle.cf_model.specs.declared.action.Action.{Action}
-use Rattle.cf_model.specs.declared.action.Entry.{Entry}
-use Rattle.cf_model.specs.State.{State, Work, degree}
-use Rattle.cf_model.specs.Steps.{gained}
-use Rattle.cf_model.specs.Journals.{setup, After}
-use Rattle.cf_model.specs.Finals.{cut_of}
+use Rattle.cf_next.specs.declared.action.Action.{Action}
+use Rattle.cf_model.specs.declared.entry.Entry.{Entry}
+use Rattle.cf_model.specs.OneThread.State.{State, Work, degree}
+use Rattle.cf_model.specs.OneThread.Steps.{gained}
+use Rattle.cf_model.specs.OneThread.Journals.{setup, After}
+use Rattle.cf_model.specs.OneThread.Finals.{cut_of}
 use Rattle.cf_world.specs.Mirrors.{statement_action, first_work, action_by}
 use Rattle.cf_world.specs.Works.{works}
 use Rattle.cf_world.specs.Running.{IsAt, IsReadyFor, IsPlainNext}

@@ -8,8 +8,8 @@ use Rattle.cf_ids.specs.declared.answer.Ended.{Ended}
 use Rattle.cf_ids.specs.declared.answer.Ended.TheVariants.{More, Last}
 use Rattle.cf_contents.specs.Contents.{Object}
 use Rattle.cf_contents.specs.Stores.{Held}
-use Rattle.cf_model.specs.State.{State, Work, slots_of, look, degree}
-use Rattle.cf_model.specs.Steps.{Step, finals_of, edges_after, cut_answer, type_of, type_in, state_after, step_answer}
+use Rattle.cf_model.specs.OneThread.State.{State, Work, slots_of, look, degree}
+use Rattle.cf_model.specs.OneThread.Steps.{Step, finals_of, edges_after, cut_answer, type_of, type_in, state_after, step_answer}
 use Rattle.cf_world.specs.Mirrors.{Mirrors, MirrorsState, Follows, held_at, trimmed_by, finalised_if, waits_if, answer_if}
 use Rattle.cf_world.specs.Worlds.{ended_at}
 use Rattle.cf_world.proofs.Mirroring.{mirrors_finalised}

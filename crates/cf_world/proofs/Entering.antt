@@ -2,7 +2,7 @@
 use Rattle.std.proofs.Common.{◌≡◌, ℕ, ◌+◌, ◌<◌, Bool, true, false, List, [], ◌∷◌, ◌++◌, length, map, Option, Some, None, ltb, refl, sym, ap, ◌∙◌, arith}
 use Rattle.std.specs.Prelude.{slice_get, IsTrue}
 use Rattle.std.proofs.lemmas.Bool.Decides.{nat_tests}
-use Rattle.cf_graph.specs.Edges.{counted}
+use Rattle.cf_graph.specs.OneThread.Edges.{counted}
 use Rattle.cf_syntax.specs.declared.script.Script.{Script}
 use Rattle.cf_syntax.specs.declared.statement.Statement.{Statement}
 use Rattle.cf_syntax.specs.Mentions.{ownership_of, used_by, pad}
@@ -11,18 +11,18 @@ use Rattle.cf_contents.specs.Contents.{Object, times}
 use Rattle.cf_contents.specs.Deeds.{first_of, object_of, deed_at, taken_in, given_out}
 use Rattle.cf_contents.specs.Stores.{Held, Ready, objects_of, ready_deed, given_up_in, left_in}
 use Rattle.cf_contents.proofs.FormLaws.{form_fits}
-use Rattle.cf_model.specs.declared.action.Action.{Action}
-use Rattle.cf_model.specs.declared.action.Action.TheVariants as actions
-use Rattle.cf_model.specs.declared.action.Entry.{Entry}
+use Rattle.cf_next.specs.declared.action.Action.{Action}
+use Rattle.cf_next.specs.declared.action.Action.TheVariants as actions
+use Rattle.cf_model.specs.declared.entry.Entry.{Entry}
 use Rattle.cf_ids.specs.declared.answer.Answer.{Answer}
 use Rattle.cf_ids.specs.declared.answer.Answer.TheVariants as answers
-use Rattle.cf_model.specs.State.{State, Work, release_of, slots_of, trimmed, start, degree}
-use Rattle.cf_model.specs.Actions.{action_of}
-use Rattle.cf_model.specs.Steps.{Step, cut_by, answer_of, touch_step, statement_step, state_after, step_answer, gained_by, effect, answer_to, gained, makes}
-use Rattle.cf_model.specs.Journals.{setup, used_objects, demanded, drop_of, worked, After, IsLegal, IsLegalEntry}
-use Rattle.cf_model.proofs.Growth.{state_from-append}
-use Rattle.cf_model.proofs.Soundness.{IsSound, sound}
-use Rattle.cf_model.proofs.Legality.{legal_demanded, effect-demanded, answer-demanded, demanded-statement, demanded-done, effect-done, answer-done, step-demanded}
+use Rattle.cf_model.specs.OneThread.State.{State, Work, release_of, slots_of, trimmed, start, degree}
+use Rattle.cf_next.specs.Actions.{action_of}
+use Rattle.cf_model.specs.OneThread.Steps.{Step, cut_by, answer_of, touch_step, statement_step, state_after, step_answer, gained_by, effect, answer_to, gained, makes}
+use Rattle.cf_model.specs.OneThread.Journals.{setup, used_objects, demanded, drop_of, worked, After, IsLegal, IsLegalEntry}
+use Rattle.cf_model.proofs.OneThread.Growth.{state_from-append}
+use Rattle.cf_model.proofs.OneThread.Soundness.{IsSound, sound}
+use Rattle.cf_model.proofs.OneThread.Legality.{legal_demanded, effect-demanded, answer-demanded, demanded-statement, demanded-done, effect-done, answer-done, step-demanded}
 use Rattle.cf_world.specs.Mirrors.{Follows, used_in, trimmed_by, object_bound, bodies_after, table_after, BindsWithin, gained_after, statement_action, slot_action, first_work, action_by}
 use Rattle.cf_world.specs.Worlds.{entry_of}
 use Rattle.cf_world.proofs.Mirroring.{left-mirrors}

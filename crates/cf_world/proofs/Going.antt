@@ -15,19 +15,19 @@ use Rattle.cf_contents.specs.Deeds.{Origin, nowhere, fresh, there, first_of, dee
 use Rattle.cf_contents.proofs.FormLaws.{MakesOnly, form_fits}
 use Rattle.cf_contents.specs.Stores.{Held, Ready, objects_of, ready_deed, with_body, body_dropped, is_live_in, given_up_in, left_to, left_in}
 use Rattle.cf_contents.proofs.BodyLaws.{length-objects, length-with_body, objects-kept}
-use Rattle.cf_model.specs.declared.action.Action.{Action}
-use Rattle.cf_model.specs.declared.action.Action.TheVariants as actions
-use Rattle.cf_model.specs.declared.action.Entry.{Entry}
-use Rattle.cf_model.specs.State.{State, Work, release_of, slots_of, start, is_live, degree}
-use Rattle.cf_model.specs.Steps.{cut_by, type_of, statement_in, answer_to, gained, makes}
-use Rattle.cf_model.specs.Journals.{setup, next_of, After, IsLegalEntry}
-use Rattle.cf_model.specs.Finals.{cut_of}
-use Rattle.cf_model.proofs.Growth.{legal_more}
-use Rattle.cf_model.proofs.FrameSteps.{cut_of-action_of}
-use Rattle.cf_model.proofs.Kept.{AllFinal}
-use Rattle.cf_model.proofs.Holding.{some_is}
-use Rattle.cf_model.proofs.Sizes.{makes-demanded}
-use Rattle.cf_model.proofs.Soundness.{sound, frame_statement}
+use Rattle.cf_next.specs.declared.action.Action.{Action}
+use Rattle.cf_next.specs.declared.action.Action.TheVariants as actions
+use Rattle.cf_model.specs.declared.entry.Entry.{Entry}
+use Rattle.cf_model.specs.OneThread.State.{State, Work, release_of, slots_of, start, is_live, degree}
+use Rattle.cf_model.specs.OneThread.Steps.{cut_by, type_of, statement_in, answer_to, gained, makes}
+use Rattle.cf_model.specs.OneThread.Journals.{setup, next_of, After, IsLegalEntry}
+use Rattle.cf_model.specs.OneThread.Finals.{cut_of}
+use Rattle.cf_model.proofs.OneThread.Growth.{legal_more}
+use Rattle.cf_model.proofs.OneThread.FrameSteps.{cut_of-action_of}
+use Rattle.cf_model.proofs.OneThread.Kept.{AllFinal}
+use Rattle.cf_model.proofs.OneThread.Holding.{some_is}
+use Rattle.cf_model.proofs.OneThread.Sizes.{makes-demanded}
+use Rattle.cf_model.proofs.OneThread.Soundness.{sound, frame_statement}
 use Rattle.cf_world.specs.Mirrors.{is_fresh, MirrorsState, used_in, trimmed_by, BindsWithin, statement_action, slot_action, first_work, action_by, finalised_if, waits_if, answer_if}
 use Rattle.cf_world.specs.declared.work.Item.{Item}
 use Rattle.cf_world.specs.Works.{works, IsStated}

@@ -4,13 +4,13 @@ use Rattle.std.specs.Prelude.{slice_get}
 use Rattle.std.specs.Option.{option_map}
 use Rattle.std.proofs.lemmas.Bool.{eq-eqb, cases_lt}
 use Rattle.std.proofs.lemmas.Bool.Decides.{nat_tests, eqb_tells}
-use Rattle.cf_graph.specs.Edges.{counted}
+use Rattle.cf_graph.specs.OneThread.Edges.{counted}
 use Rattle.cf_contents.specs.Contents.{Object, times, slots_in, slots_at}
 use Rattle.cf_contents.specs.Deeds.{Change, objects_after}
 use Rattle.cf_contents.specs.Stores.{Held, live, with_body, body_changed, body_finalised, body_dropped, bodies_changed, is_live_body, is_live_in, given_up_by, given_up_in, left_to, left_in}
 use Rattle.cf_contents.proofs.BodyLaws.{get-map, get-own, get-other, length-objects, objects-changed, objects-kept, objects-append}
 use Rattle.cf_contents.proofs.ContentLaws.{length-objects_after}
-use Rattle.cf_model.specs.State.{Work, release_of, slots_of, left_of, trimmed}
+use Rattle.cf_model.specs.OneThread.State.{Work, release_of, slots_of, left_of, trimmed}
 use Rattle.cf_world.specs.Mirrors.{Mirrors, trimmed_by}
 
 -- ---- the slots that are left

@@ -3,11 +3,11 @@ use Rattle.std.proofs.Common.{◌≡◌, ℕ, zero, suc, ◌+◌, ◌-◌, ◌<�
 use Rattle.std.specs.Prelude.{slice_get, count_by}
 use Rattle.std.proofs.lemmas.List.{map-append}
 use Rattle.std.proofs.lemmas.Bool.Decides.{eqb_tells}
-use Rattle.cf_graph.specs.Holders.{Holder, variable, owed, slot, code_of}
+use Rattle.cf_graph.specs.OneThread.Holders.{Holder, variable, owed, slot, code_of}
 use Rattle.cf_graph.specs.declared.edge.Edge.{Edge}
-use Rattle.cf_graph.specs.Edges.{Reference, edge_of, edges_of, weigh, one, counted}
-use Rattle.cf_graph.proofs.Counts.{weigh-append}
-use Rattle.cf_graph.proofs.Degrees.{same_counts}
+use Rattle.cf_graph.specs.OneThread.Edges.{Reference, edge_of, edges_of, weigh, one, counted}
+use Rattle.cf_graph.proofs.OneThread.Counts.{weigh-append}
+use Rattle.cf_graph.proofs.OneThread.Degrees.{same_counts}
 use Rattle.cf_syntax.specs.declared.counts.Counts.{Counts}
 use Rattle.cf_syntax.specs.declared.script.Script.{Script}
 use Rattle.cf_syntax.specs.declared.statement.Statement.{Statement}
@@ -18,15 +18,15 @@ use Rattle.cf_syntax.proofs.OwnedLaws.{total_le, bound_by_le, given_by_le, taken
 use Rattle.cf_contents.specs.Contents.{times}
 use Rattle.cf_contents.specs.Stores.{Held, MayGrow, left_in, left_to}
 use Rattle.cf_contents.proofs.BodyLaws.{length-objects}
-use Rattle.cf_model.specs.State.{State, Work, release_of, slots_of, look}
-use Rattle.cf_model.specs.Steps.{held_by, reference, owed_reference, slot_reference}
-use Rattle.cf_model.specs.declared.action.Entry.{Entry}
-use Rattle.cf_model.specs.Journals.{setup, After}
-use Rattle.cf_model.proofs.Slots.{kinds_apart, one_apart, one_own, own_weigh, other_weigh}
-use Rattle.cf_model.proofs.Holding.{some_is}
-use Rattle.cf_model.proofs.Working.{owed_in}
-use Rattle.cf_model.proofs.Sizes.{few_made, few_members}
-use Rattle.cf_model.proofs.Soundness.{IsForeign, IsSound, sound}
+use Rattle.cf_model.specs.OneThread.State.{State, Work, release_of, slots_of, look}
+use Rattle.cf_model.specs.OneThread.Steps.{held_by, reference, owed_reference, slot_reference}
+use Rattle.cf_model.specs.declared.entry.Entry.{Entry}
+use Rattle.cf_model.specs.OneThread.Journals.{setup, After}
+use Rattle.cf_model.proofs.OneThread.Slots.{kinds_apart, one_apart, one_own, own_weigh, other_weigh}
+use Rattle.cf_model.proofs.OneThread.Holding.{some_is}
+use Rattle.cf_model.proofs.OneThread.Working.{owed_in}
+use Rattle.cf_model.proofs.OneThread.Sizes.{few_made, few_members}
+use Rattle.cf_model.proofs.OneThread.Soundness.{IsForeign, IsSound, sound}
 use Rattle.cf_world.specs.declared.work.Item.{Item}
 use Rattle.cf_world.specs.declared.work.Item.TheVariants.{Release, Slots}
 use Rattle.cf_world.specs.Mirrors.{Follows, held_at}

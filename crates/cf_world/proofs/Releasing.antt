@@ -3,7 +3,7 @@ use Rattle.std.proofs.Common.{◌≡◌, ℕ, ◌+◌, ◌<◌, Bool, true, fals
 use Rattle.std.specs.Prelude.{slice_get}
 use Rattle.std.proofs.lemmas.Bool.{eq-eqb}
 use Rattle.cf_ids.specs.declared.answer.Ended.{Ended}
-use Rattle.cf_graph.specs.Edges.{counted}
+use Rattle.cf_graph.specs.OneThread.Edges.{counted}
 use Rattle.cf_syntax.specs.declared.script.Script.{Script}
 use Rattle.cf_syntax.specs.declared.statement.Statement.{Statement}
 use Rattle.cf_syntax.specs.declared.statement.Statement.TheVariants as forms
@@ -13,22 +13,22 @@ use Rattle.cf_syntax.specs.Mentions.{ownership_of, makes_object}
 use Rattle.cf_syntax.specs.Owned.{Owned}
 use Rattle.cf_contents.specs.Contents.{times}
 use Rattle.cf_contents.specs.Stores.{Held, with_body, body_dropped, left_in, given_up_in}
-use Rattle.cf_model.specs.declared.action.Action.{Action}
-use Rattle.cf_model.specs.declared.action.Action.TheVariants as actions
-use Rattle.cf_model.specs.declared.action.Entry.{Entry}
-use Rattle.cf_model.specs.State.{State, Work, release_of, slots_of, left_of, degree}
+use Rattle.cf_next.specs.declared.action.Action.{Action}
+use Rattle.cf_next.specs.declared.action.Action.TheVariants as actions
+use Rattle.cf_model.specs.declared.entry.Entry.{Entry}
+use Rattle.cf_model.specs.OneThread.State.{State, Work, release_of, slots_of, left_of, degree}
 use Rattle.cf_contents.specs.Deeds.{first_of, deed_at}
-use Rattle.cf_model.specs.State.{look, is_live}
-use Rattle.cf_model.specs.Steps.{Step, gained_by, rest_of, reference_step, touch_step, type_of, owed_step, drop_step, edges_after, step_answer, step_for, answer_to, gained, makes}
-use Rattle.cf_model.specs.Journals.{setup, used_objects, used_of, named_of, next_of, demanded, After, IsLegal, IsLegalEntry, MayUse, MayUseAll}
-use Rattle.cf_model.proofs.Holding.{some_is}
-use Rattle.cf_model.proofs.FrameSteps.{site_in, used_of-action_of}
-use Rattle.cf_model.proofs.Sizes.{makes-demanded}
-use Rattle.cf_model.specs.Finals.{one_at}
-use Rattle.cf_model.proofs.Soundness.{IsSound, sound, frame_statement}
-use Rattle.cf_model.proofs.Along.{live_parts}
-use Rattle.cf_model.proofs.Degrees.{degree_after}
-use Rattle.cf_model.proofs.Legality.{legal_demanded, legal_owed, legal_drop, step-demanded}
+use Rattle.cf_model.specs.OneThread.State.{look, is_live}
+use Rattle.cf_model.specs.OneThread.Steps.{Step, gained_by, rest_of, reference_step, touch_step, type_of, owed_step, drop_step, edges_after, step_answer, step_for, answer_to, gained, makes}
+use Rattle.cf_model.specs.OneThread.Journals.{setup, used_objects, used_of, named_of, next_of, demanded, After, IsLegal, IsLegalEntry, MayUse, MayUseAll}
+use Rattle.cf_model.proofs.OneThread.Holding.{some_is}
+use Rattle.cf_model.proofs.OneThread.FrameSteps.{site_in, used_of-action_of}
+use Rattle.cf_model.proofs.OneThread.Sizes.{makes-demanded}
+use Rattle.cf_model.specs.OneThread.Finals.{one_at}
+use Rattle.cf_model.proofs.OneThread.Soundness.{IsSound, sound, frame_statement}
+use Rattle.cf_model.proofs.OneThread.Along.{live_parts}
+use Rattle.cf_model.proofs.OneThread.Degrees.{degree_after}
+use Rattle.cf_model.proofs.OneThread.Legality.{legal_demanded, legal_owed, legal_drop, step-demanded}
 use Rattle.cf_world.specs.Mirrors.{Mirrors, Follows, held_at, used_in, trimmed_by, statement_action, finalised_if, waits_if, answer_if}
 use Rattle.cf_world.specs.Worlds.{entry_of, ended_at}
 use Rattle.cf_world.proofs.Mirroring.{left-mirrors, mirrors_dropped}

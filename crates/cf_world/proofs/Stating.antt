@@ -12,10 +12,10 @@ use Rattle.cf_contents.specs.Stores.{Held, Ready, live, objects_of, body_changed
 use Rattle.cf_contents.proofs.BodyLaws.{length-with_body}
 use Rattle.cf_store.specs.Applies.{IsNew, origin_of, IsDeed}
 use Rattle.cf_store.specs.declared.store.Edited.{Edited}
-use Rattle.cf_model.specs.declared.action.Action.{Action}
-use Rattle.cf_model.specs.Actions.{action_of}
-use Rattle.cf_model.specs.State.{Work, release_of}
-use Rattle.cf_model.specs.Steps.{made_by, answer_of}
+use Rattle.cf_next.specs.declared.action.Action.{Action}
+use Rattle.cf_next.specs.Actions.{action_of}
+use Rattle.cf_model.specs.OneThread.State.{Work, release_of}
+use Rattle.cf_model.specs.OneThread.Steps.{made_by, answer_of}
 use Rattle.cf_world.specs.Mirrors.{used_in, trimmed_by, is_fresh, found_in, object_bound, bodies_after, table_after, gained_after, statement_action}
 use Rattle.cf_world.specs.Works.{IsStated}
 use Rattle.cf_world.proofs.Mirroring.{live-changed}

@@ -9,9 +9,9 @@ use Rattle.cf_contents.specs.Deeds.{Origin, nowhere, fresh, there, Change, uncha
 use Rattle.cf_contents.specs.Stores.{Held, live, objects_of, with_body, body_changed, bodies_changed}
 use Rattle.cf_contents.proofs.BodyLaws.{length-objects}
 use Rattle.cf_contents.proofs.FormLaws.{ChangesFor}
-use Rattle.cf_model.specs.State.{State, Binding, Work, release_of, slots_of, look, trimmed}
-use Rattle.cf_model.specs.Steps.{Step, found, made_from, made_by, answer_of, bindings_by, operations_of, gained_by, cut_by, finals_of, edges_after, reference_step, change_step, touch_step, state_after, step_answer}
-use Rattle.cf_model.proofs.Slots.{adds_to, moves_from}
+use Rattle.cf_model.specs.OneThread.State.{State, Binding, Work, release_of, slots_of, look, trimmed}
+use Rattle.cf_model.specs.OneThread.Steps.{Step, found, made_from, made_by, answer_of, bindings_by, operations_of, gained_by, cut_by, finals_of, edges_after, reference_step, change_step, touch_step, state_after, step_answer}
+use Rattle.cf_model.proofs.OneThread.Slots.{adds_to, moves_from}
 use Rattle.cf_world.specs.Mirrors.{Mirrors, MirrorsState, Follows, held_at, trimmed_by, found_in, object_bound, table_after, BindsWithin, gained_after}
 use Rattle.cf_world.proofs.Mirroring.{trimmed-mirrors, mirrors_changed, mirrors_made}
 use Rattle.cf_world.proofs.Tables.{table-after, size-after}

@@ -6,9 +6,9 @@ use Rattle.std.proofs.lemmas.List.{get_or-set_same, get_or-set_other}
 use Rattle.std.proofs.Math.ListN.{length-set}
 use Rattle.cf_syntax.specs.declared.mention.Ownership.{Ownership}
 use Rattle.cf_syntax.specs.declared.mention.Ownership.TheVariants.{Keeps, Binds, Retains, Releases}
-use Rattle.cf_model.specs.State.{Binding, look}
-use Rattle.cf_model.specs.Steps.{bindings_by}
-use Rattle.cf_model.specs.Journals.{object_at}
+use Rattle.cf_model.specs.OneThread.State.{Binding, look}
+use Rattle.cf_model.specs.OneThread.Steps.{bindings_by}
+use Rattle.cf_model.specs.OneThread.Journals.{object_at}
 use Rattle.cf_world.specs.Mirrors.{held_at, object_held, table_after, BindsWithin}
 
 binds_at : (v w : ℕ) (object : Option ℕ) (bindings : List Binding) (table : List (Option ℕ)) → v < length table → ((u : ℕ) → held_at table u ≡ look u bindings) → held_at (slice_set table v object) w ≡ look w (record { variable = v; object = object } ∷ bindings)

@@ -6,7 +6,7 @@ use denote.Ref.{Bor}
 use Rattle.std.proofs.lemmas.List.{length-append}
 use Rattle.std.proofs.lemmas.Bool.Decides.{nat_tests}
 use Rattle.cf_contents.specs.Stores.{Held, with_body, body_dropped, left_in}
-use Rattle.cf_model.specs.State.{Work, release_of, slots_of}
+use Rattle.cf_model.specs.OneThread.State.{Work, release_of, slots_of}
 use Rattle.cf_world.specs.declared.work.Item.{Item}
 use Rattle.cf_world.specs.Mirrors.{first_work, trimmed_by}
 use Rattle.cf_world.specs.Works.{work_item, works, is_over}

@@ -2,7 +2,7 @@
 use Rattle.std.specs.Prelude.{List}
 use Rattle.std.specs.Global.{Vec}
 use Rattle.cf_syntax.specs.declared.script.Script.{Script}
-use Rattle.cf_model.specs.declared.action.Entry.{Entry}
+use Rattle.cf_model.specs.declared.entry.Entry.{Entry}
 
 -- what a world gives back at its end: its script and its journal
 pub record Given : Type 0 where

@@ -1,7 +1,7 @@
 -- What the fields of a world keep.
 use Rattle.std.specs.Prelude.{◌≡◌, ℕ, ◌+◌, ◌≤◌, false, [], length, Option, None, Some, slice_get, vec_len, vec_capacity}
 use Rattle.cf_syntax.specs.declared.script.Script.{Script}
-use Rattle.cf_model.specs.Journals.{setup}
+use Rattle.cf_model.specs.OneThread.Journals.{setup}
 use Rattle.cf_world.specs.Mirrors.{held_at}
 use Rattle.cf_world.specs.Works.{works}
 use Rattle.cf_world.specs.Worlds.{WorldView}

@@ -11,11 +11,11 @@ use Rattle.cf_syntax.specs.Mentions.{used_by, pad}
 use Rattle.cf_contents.specs.Contents.{Object, times, present}
 use Rattle.cf_contents.specs.Deeds.{Origin, nowhere, fresh, there}
 use Rattle.cf_contents.specs.Stores.{Held, Ready, live, objects_of, with_body, body_finalised, bodies_changed, is_live_in, given_up_in, left_in}
-use Rattle.cf_model.specs.State.{State, Frame, Work, release_of, slots_of, look}
-use Rattle.cf_model.specs.declared.action.Action.{Action}
-use Rattle.cf_model.specs.declared.action.Action.TheVariants as actions
-use Rattle.cf_model.specs.Actions.{action_of}
-use Rattle.cf_model.specs.Steps.{made_by}
+use Rattle.cf_model.specs.OneThread.State.{State, Frame, Work, release_of, slots_of, look}
+use Rattle.cf_next.specs.declared.action.Action.{Action}
+use Rattle.cf_next.specs.declared.action.Action.TheVariants as actions
+use Rattle.cf_next.specs.Actions.{action_of}
+use Rattle.cf_model.specs.OneThread.Steps.{made_by}
 
 -- the bodies have the objects, know which are finalised, and how many slots each has given up
 pub record Mirrors (objects : List Object) (finalised dropped : List ℕ) (bodies : List Held) : Type 0 where

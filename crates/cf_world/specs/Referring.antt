@@ -5,9 +5,9 @@ use Rattle.cf_syntax.specs.declared.statement.Statement.{Statement}
 use Rattle.cf_syntax.specs.BlockLines.{says}
 use Rattle.cf_syntax.specs.Owned as owned
 use Rattle.cf_graph.specs.declared.edge.Edge.{Edge}
-use Rattle.cf_graph.specs.Edges.{Reference, edge_of}
+use Rattle.cf_graph.specs.OneThread.Edges.{Reference, edge_of}
 use Rattle.cf_contents.specs.Stores.{Held, left_in}
-use Rattle.cf_model.specs.Steps.{reference, owed_reference, slot_reference}
+use Rattle.cf_model.specs.OneThread.Steps.{reference, owed_reference, slot_reference}
 use Rattle.cf_world.specs.declared.work.Item.{Item}
 use Rattle.cf_world.specs.declared.work.Item.TheVariants.{Release, Slots}
 use Rattle.cf_world.specs.Mirrors.{held_at}

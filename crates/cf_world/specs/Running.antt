@@ -6,11 +6,11 @@ use Rattle.cf_syntax.specs.Mentions.{ownership_of, makes_object}
 use Rattle.cf_syntax.specs.Owned.{Owned}
 use Rattle.cf_contents.specs.Deeds.{first_of}
 use Rattle.cf_contents.specs.Stores.{Held, Ready, ready_deed, with_body, body_dropped, is_live_in, left_in}
-use Rattle.cf_model.specs.declared.action.Action.{Action}
-use Rattle.cf_model.specs.declared.action.Entry.{Entry}
-use Rattle.cf_model.specs.State.{Work, release_of, slots_of}
-use Rattle.cf_model.specs.Steps.{cut_by, makes}
-use Rattle.cf_model.specs.Journals.{After, IsLegal}
+use Rattle.cf_next.specs.declared.action.Action.{Action}
+use Rattle.cf_model.specs.declared.entry.Entry.{Entry}
+use Rattle.cf_model.specs.OneThread.State.{Work, release_of, slots_of}
+use Rattle.cf_model.specs.OneThread.Steps.{cut_by, makes}
+use Rattle.cf_model.specs.OneThread.Journals.{After, IsLegal}
 use Rattle.cf_world.specs.declared.next.Next.{Next}
 use Rattle.cf_world.specs.declared.next.Next.TheVariants.{Act, Done, Limit, Full}
 use Rattle.cf_world.specs.Mirrors.{Follows, used_in, statement_action, action_by}

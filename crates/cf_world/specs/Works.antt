@@ -4,9 +4,9 @@ use Rattle.cf_syntax.specs.declared.statement.Statement.{Statement}
 use Rattle.cf_syntax.specs.Mentions.{ownership_of}
 use Rattle.cf_contents.specs.Deeds.{object_of, taken_in, given_out}
 use Rattle.cf_contents.specs.Stores.{Held, Ready, objects_of, left_in}
-use Rattle.cf_model.specs.State.{Work, release_of, slots_of}
-use Rattle.cf_model.specs.Steps.{answer_of}
-use Rattle.cf_model.specs.declared.action.Entry.{Entry}
+use Rattle.cf_model.specs.OneThread.State.{Work, release_of, slots_of}
+use Rattle.cf_model.specs.OneThread.Steps.{answer_of}
+use Rattle.cf_model.specs.declared.entry.Entry.{Entry}
 use Rattle.cf_world.specs.declared.work.Item.{Item}
 use Rattle.cf_world.specs.declared.work.Item.TheVariants.{Release, Slots}
 use Rattle.cf_world.specs.Mirrors.{trimmed_by, object_bound, bodies_after, table_after, gained_after, statement_action}

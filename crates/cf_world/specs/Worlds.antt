@@ -5,11 +5,11 @@ use Rattle.cf_ids.specs.declared.answer.Ended.{Ended}
 use Rattle.cf_ids.specs.declared.answer.Ended.TheVariants.{More, Last}
 use Rattle.cf_syntax.specs.declared.script.Script.{Script}
 use Rattle.cf_syntax.specs.Owned.{Owned}
-use Rattle.cf_model.specs.declared.action.Action.{Action}
-use Rattle.cf_model.specs.declared.action.Entry.{Entry}
-use Rattle.cf_model.specs.State.{State, start, degree}
-use Rattle.cf_model.specs.Steps.{answer_to, gained as gained_in, makes}
-use Rattle.cf_model.specs.Journals.{Next as next_action, After, IsLegal}
+use Rattle.cf_next.specs.declared.action.Action.{Action}
+use Rattle.cf_model.specs.declared.entry.Entry.{Entry}
+use Rattle.cf_model.specs.OneThread.State.{State, start, degree}
+use Rattle.cf_model.specs.OneThread.Steps.{answer_to, gained as gained_in, makes}
+use Rattle.cf_model.specs.OneThread.Journals.{Next as next_action, After, IsLegal}
 use Rattle.cf_world.specs.declared.next.Next.{Next}
 use Rattle.cf_world.specs.declared.next.Next.TheVariants.{Act, Waiting, Done, Limit, Full}
 

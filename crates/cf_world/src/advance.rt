@@ -1,9 +1,9 @@
 //! A world goes on by one entry.
 ghost use Rattle.std.specs.Prelude.{◌≡◌, ◌+◌, ◌<◌, ◌≤◌, ◌^◌, ◌++◌, ◌∷◌, [], false, None, Some, IfSome, IsSomeAnd, slice_get, vec_len, vec_capacity};
-ghost use Rattle.cf_model.specs.State.{degree};
-ghost use Rattle.cf_model.specs.Steps.{gained as gained_in};
-ghost use Rattle.cf_model.specs.Journals.{setup, After};
-ghost use Rattle.cf_model.specs.Finals.{cut_of};
+ghost use Rattle.cf_model.specs.OneThread.State.{degree};
+ghost use Rattle.cf_model.specs.OneThread.Steps.{gained as gained_in};
+ghost use Rattle.cf_model.specs.OneThread.Journals.{setup, After};
+ghost use Rattle.cf_model.specs.OneThread.Finals.{cut_of};
 ghost use Rattle.cf_world.specs.Mirrors.{statement_action, first_work, action_by};
 ghost use Rattle.cf_world.specs.Works.{works};
 ghost use Rattle.cf_world.specs.Worlds.{entry_of, ended_at};

@@ -1,7 +1,7 @@
 //! What the one thread does next, and the room for it.
 ghost use Rattle.std.specs.Prelude.{◌≡◌, ◌≤◌, [], slice_get, OnOk, OnErr};
 ghost use Rattle.cf_contents.specs.Stores.{MayGrow};
-ghost use Rattle.cf_model.specs.Journals.{setup};
+ghost use Rattle.cf_model.specs.OneThread.Journals.{setup};
 ghost use Rattle.cf_world.specs.Mirrors.{first_work, action_by};
 ghost use Rattle.cf_world.specs.Works.{works};
 ghost use Rattle.cf_world.specs.Running.{makes_by, next_for, IsReadyFor};

@@ -2,9 +2,9 @@
 ghost use Rattle.std.specs.Prelude.{◌≡◌, ℕ, ◌<◌, ◌≤◌, [], ◌∷◌, ◌++◌, length, map, take, replicate, slice_index, OnOk, IfOk};
 ghost use Rattle.cf_syntax.specs.BlockLines.{says};
 ghost use Rattle.cf_syntax.specs.Counting.{Counted};
-ghost use Rattle.cf_graph.specs.Edges.{edge_of, edges_of};
-ghost use Rattle.cf_model.specs.Steps.{owed_reference};
-ghost use Rattle.cf_model.specs.Journals.{setup};
+ghost use Rattle.cf_graph.specs.OneThread.Edges.{edge_of, edges_of};
+ghost use Rattle.cf_model.specs.OneThread.Steps.{owed_reference};
+ghost use Rattle.cf_model.specs.OneThread.Journals.{setup};
 ghost use Rattle.cf_world.specs.Referring.{OwnsAll, below, copies, counted_references, variable_references, owed_references, slot_references};
 
 use crate::frame::{Frame, Table};

@@ -5,7 +5,7 @@ ghost use Rattle.cf_contents.specs.Contents.{present};
 ghost use Rattle.cf_contents.specs.Deeds.{first_of};
 ghost use Rattle.cf_contents.specs.Stores.{live};
 ghost use Rattle.cf_store.specs.Applies.{IsNew, origin_of};
-ghost use Rattle.cf_model.specs.Steps.{answer_of, made_from, made_by};
+ghost use Rattle.cf_model.specs.OneThread.Steps.{answer_of, made_from, made_by};
 ghost use Rattle.cf_world.specs.Mirrors.{used_in, BindsWithin, is_fresh, found_in, object_bound, gained_after};
 ghost use Rattle.cf_world.specs.Works.{works, IsStated};
 

@@ -2,7 +2,7 @@
 ghost use Rattle.std.specs.Prelude.{◌≡◌, ◌+◌, ◌<◌, ◌≤◌, ◌^◌, [], length, map, slice_get, Some};
 ghost use Rattle.std.specs.Option.{option_copied};
 ghost use Rattle.cf_syntax.specs.Mentions.{pad, used_by};
-ghost use Rattle.cf_model.specs.Journals.{setup};
+ghost use Rattle.cf_model.specs.OneThread.Journals.{setup};
 ghost use Rattle.cf_world.specs.Mirrors.{object_held, used_in, table_after, BindsWithin, statement_action, slot_action, first_work, action_by};
 ghost use Rattle.cf_contents.specs.Stores.{given_up_in, left_in};
 ghost use Rattle.cf_world.specs.Works.{works};

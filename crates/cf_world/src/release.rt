@@ -1,7 +1,7 @@
 //! The entry that takes a reference away, and what it does to the parts of a world.
 ghost use Rattle.std.specs.Prelude.{◌≡◌, ◌+◌, ◌<◌, ◌≤◌, ◌^◌, ◌++◌, true, false, length, slice_get, vec_len, vec_capacity};
 ghost use Rattle.cf_contents.specs.Stores.{objects_of, is_live_in};
-ghost use Rattle.cf_model.specs.Steps.{type_of};
+ghost use Rattle.cf_model.specs.OneThread.Steps.{type_of};
 ghost use Rattle.cf_world.specs.Mirrors.{first_work, trimmed_by, finalised_if, waits_if, answer_if};
 ghost use Rattle.cf_world.specs.Works.{works};
 ghost use Rattle.cf_world.specs.Running.{CanTake, bodies_taken, work_taken, number_taken};

@@ -2,7 +2,7 @@
 ghost use Rattle.std.specs.Prelude.{◌≡◌, ◌+◌, ◌<◌, ◌≤◌, ◌++◌, ◌∷◌, [], map, vec_len, vec_capacity, slice_get};
 ghost use Rattle.cf_contents.specs.Contents.{present};
 ghost use Rattle.cf_contents.specs.Stores.{left_in};
-ghost use Rattle.cf_model.specs.State.{release_of};
+ghost use Rattle.cf_model.specs.OneThread.State.{release_of};
 ghost use Rattle.std.specs.Option.{option_map};
 ghost use Rattle.cf_world.specs.Mirrors.{first_work, trimmed_by};
 ghost use Rattle.cf_world.specs.Works.{works, work_item, is_over};

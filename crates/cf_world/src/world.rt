@@ -3,8 +3,8 @@ ghost use Rattle.std.specs.Prelude.{◌≡◌, ◌-◌, ◌≤◌, [], ◌∷◌
 ghost use Rattle.std.specs.Option.{option_map, option_copied};
 ghost use Rattle.cf_contents.specs.Contents.{Object};
 ghost use Rattle.cf_graph.specs.declared.edge.Edge.{Edge};
-ghost use Rattle.cf_graph.specs.Edges.{edges_of};
-ghost use Rattle.cf_model.specs.Finals.{cut_of};
+ghost use Rattle.cf_graph.specs.OneThread.Edges.{edges_of};
+ghost use Rattle.cf_model.specs.OneThread.Finals.{cut_of};
 ghost use Rattle.cf_world.specs.Worlds.{nowhere, state_of, next_in, acting, entered, ended_in, IsLegalWorld};
 ghost use Rattle.cf_world.specs.Ends.{given_back};
 

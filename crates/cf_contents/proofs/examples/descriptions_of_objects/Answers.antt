@@ -1,4 +1,4 @@
--- Answers to the goals of `rows::descriptions_of_objects`.
+-- Answers to the goals of `examples::descriptions_of_objects`.
 use Rattle.std.proofs.Common.{refl}
 use Rattle.cf_contents.proofs.OnLiterals.{description_on_literals}
 use Rattle.cf_contents.proofs.examples.descriptions_of_objects.Goals as goal

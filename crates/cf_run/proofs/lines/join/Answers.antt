@@ -1,7 +1,7 @@
 -- Answers to the goals of `lines::join`.
 use Rattle.std.proofs.Common.{◌≤◌, ◌<◌, length, arith}
 use Rattle.std.proofs.lemmas.List.{length-map}
-use Rattle.cf_model.specs.Rendering.{joined}
+use Rattle.cf_model.specs.OneThread.Rendering.{joined}
 use Rattle.cf_script.specs.Views.{lent}
 use Rattle.cf_run.proofs.Words.{word_written, words_written}
 use Rattle.cf_run.proofs.lines.join.Goals as goal

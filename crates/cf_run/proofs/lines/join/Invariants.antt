@@ -1,6 +1,6 @@
 -- The loop invariants of `lines::join`.
 use Rattle.std.proofs.Common.{◌≡◌, ◌++◌, drop}
-use Rattle.cf_model.specs.Rendering.{joined}
+use Rattle.cf_model.specs.OneThread.Rendering.{joined}
 use Rattle.cf_script.specs.Views.{lent}
 use Rattle.cf_run.proofs.Words.{rest_of}
 use Rattle.cf_run.proofs.lines.join.Given as goal

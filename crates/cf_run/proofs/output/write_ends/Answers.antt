@@ -1,7 +1,7 @@
 -- Answers to the goals of `output::write_ends`.
 use Rattle.std.proofs.Common.{◌≡◌, ℕ, ◌++◌, ◌∷◌, [], length, ap, ◌∙◌}
 use Rattle.std.proofs.lemmas.Result.{err_from_is_err_and}
-use Rattle.cf_model.specs.Rendering.{joined, text_of_lines}
+use Rattle.cf_model.specs.OneThread.Rendering.{joined, text_of_lines}
 use Rattle.cf_world.specs.Worlds.{state_of}
 use Rattle.cf_run.specs.Lines.{alive_below, end_words, ends_of}
 use Rattle.cf_run.proofs.Writing.{front_fails, last_missing, last_writes, line_some, ends_parts}

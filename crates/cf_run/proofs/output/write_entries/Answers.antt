@@ -1,7 +1,7 @@
 -- Answers to the goals of `output::write_entries`.
 use Rattle.std.proofs.Common.{◌<◌, ◌+◌, ◌∙◌, length, take, drop, arith}
 use Rattle.std.proofs.lemmas.Result.{err_from_is_err_and}
-use Rattle.cf_model.specs.Rendering.{entry_lines, lines_if, line_of, text_of_lines}
+use Rattle.cf_model.specs.OneThread.Rendering.{entry_lines, lines_if, line_of, text_of_lines}
 use Rattle.cf_run.proofs.Writing.{part_fails, took_more, entries_split, entries_more}
 use Rattle.cf_run.proofs.output.write_entries.Goals as goal
 

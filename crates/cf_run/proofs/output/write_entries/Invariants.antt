@@ -1,7 +1,7 @@
 -- The loop invariants of `output::write_entries`.
 use Rattle.std.proofs.Common.{◌≡◌, take}
 use Rattle.cf_io.specs.Bytes.{then_bytes}
-use Rattle.cf_model.specs.Rendering.{entry_lines, text_of_lines}
+use Rattle.cf_model.specs.OneThread.Rendering.{entry_lines, text_of_lines}
 use Rattle.cf_run.proofs.output.write_entries.Given as goal
 
 abbrev pub invariant-loop-entry : goal.invariant-loop-entry

@@ -1,7 +1,7 @@
 -- Answers to the goals of `output::write_entry`.
 use Rattle.std.proofs.Common.{refl}
 use Rattle.std.proofs.lemmas.Result.{err_from_is_err_and}
-use Rattle.cf_model.specs.Rendering.{lines_if, line_of, text_of_lines}
+use Rattle.cf_model.specs.OneThread.Rendering.{lines_if, line_of, text_of_lines}
 use Rattle.cf_run.proofs.Writing.{part_none}
 use Rattle.cf_run.proofs.output.write_entry.Goals as goal
 

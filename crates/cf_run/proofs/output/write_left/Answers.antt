@@ -2,7 +2,7 @@
 use Rattle.std.proofs.Common.{◌<◌, ◌+◌, ◌∙◌, length, arith}
 use Rattle.std.proofs.lemmas.Result.{err_from_is_err_and}
 use Rattle.std.specs.Prelude.{slice_index_or}
-use Rattle.cf_model.specs.Rendering.{text_of_lines}
+use Rattle.cf_model.specs.OneThread.Rendering.{text_of_lines}
 use Rattle.cf_world.specs.Worlds.{state_of}
 use Rattle.cf_run.specs.Tally.{nothing}
 use Rattle.cf_run.specs.Lines.{class_at, alive_if, alive_below}

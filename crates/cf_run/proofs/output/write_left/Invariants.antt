@@ -1,7 +1,7 @@
 -- The loop invariants of `output::write_left`.
 use Rattle.std.proofs.Common.{◌≡◌, ◌≤◌, length}
 use Rattle.cf_io.specs.Bytes.{then_bytes}
-use Rattle.cf_model.specs.Rendering.{text_of_lines}
+use Rattle.cf_model.specs.OneThread.Rendering.{text_of_lines}
 use Rattle.cf_world.specs.Worlds.{state_of}
 use Rattle.cf_run.specs.Lines.{alive_below}
 use Rattle.cf_run.proofs.output.write_left.Given as goal

@@ -1,7 +1,7 @@
 -- Answers to the goals of `output::write_run`.
 use Rattle.std.proofs.Common.{length, refl}
 use Rattle.std.proofs.lemmas.Result.{err_from_is_err_and}
-use Rattle.cf_model.specs.Rendering.{entry_lines, text_of_lines}
+use Rattle.cf_model.specs.OneThread.Rendering.{entry_lines, text_of_lines}
 use Rattle.cf_world.specs.Worlds.{state_of}
 use Rattle.cf_run.specs.Lines.{classes_in, ends_of, run_text}
 use Rattle.cf_run.proofs.Writing.{front_fails, last_writes, ends_some}

@@ -1,9 +1,9 @@
 -- Answers to the goals of `edges::add_body`.
 use Rattle.std.proofs.Common.{◌≡◌, ℕ, ◌-◌, ◌<◌, ◌++◌, ◌∷◌, [], Some, None, take, map, length, sym, ap, ◌∙◌, append-nil, arith, length-append}
 use Rattle.std.specs.Prelude.{slice_get}
-use Rattle.cf_graph.specs.Edges.{edge_of, edges_of}
+use Rattle.cf_graph.specs.OneThread.Edges.{edge_of, edges_of}
 use Rattle.cf_contents.specs.Stores.{given_up_in, left_in}
-use Rattle.cf_model.specs.Steps.{slot_reference}
+use Rattle.cf_model.specs.OneThread.Steps.{slot_reference}
 use Rattle.cf_world.proofs.Referring.{found_within, slots-more, slots-end}
 use Rattle.cf_world.proofs.edges.add_body.Goals as goal
 

@@ -1,8 +1,8 @@
 -- The loop invariants of `edges::add_body`.
 use Rattle.std.proofs.Common.{◌≡◌, ◌++◌, ◌+◌, ◌-◌, ◌≤◌, take, map, length}
-use Rattle.cf_graph.specs.Edges.{edges_of}
+use Rattle.cf_graph.specs.OneThread.Edges.{edges_of}
 use Rattle.cf_contents.specs.Stores.{given_up_in, left_in}
-use Rattle.cf_model.specs.Steps.{slot_reference}
+use Rattle.cf_model.specs.OneThread.Steps.{slot_reference}
 use Rattle.cf_world.proofs.edges.add_body.Given as goal
 
 -- the slots before the place are added, of which there are no more than edges

@@ -1,6 +1,6 @@
 -- Answers to the goals of `edges::add_copies`.
-use Rattle.cf_graph.specs.Edges.{edge_of}
-use Rattle.cf_model.specs.Steps.{owed_reference}
+use Rattle.cf_graph.specs.OneThread.Edges.{edge_of}
+use Rattle.cf_model.specs.OneThread.Steps.{owed_reference}
 use Rattle.cf_world.proofs.Referring.{copies-more}
 use Rattle.cf_world.proofs.edges.add_copies.Goals as goal
 

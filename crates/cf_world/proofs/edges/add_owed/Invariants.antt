@@ -1,6 +1,6 @@
 -- The loop invariants of `edges::add_owed`.
 use Rattle.std.proofs.Common.{◌≡◌, ◌++◌, take}
-use Rattle.cf_graph.specs.Edges.{edges_of}
+use Rattle.cf_graph.specs.OneThread.Edges.{edges_of}
 use Rattle.cf_world.specs.Referring.{owed_references}
 use Rattle.cf_world.proofs.edges.add_owed.Given as goal
 

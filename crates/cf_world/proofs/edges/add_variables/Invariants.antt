@@ -1,6 +1,6 @@
 -- The loop invariants of `edges::add_variables`.
 use Rattle.std.proofs.Common.{◌≡◌, ◌++◌}
-use Rattle.cf_graph.specs.Edges.{edges_of}
+use Rattle.cf_graph.specs.OneThread.Edges.{edges_of}
 use Rattle.cf_world.specs.Referring.{below, counted_references}
 use Rattle.cf_world.proofs.edges.add_variables.Given as goal
 

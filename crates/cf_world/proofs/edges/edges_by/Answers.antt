@@ -1,7 +1,7 @@
 -- Answers to the goals of `edges::edges_by`.
 use Rattle.std.proofs.Common.{length, take}
-use Rattle.cf_graph.specs.Edges.{edges_of}
-use Rattle.cf_model.specs.Journals.{setup}
+use Rattle.cf_graph.specs.OneThread.Edges.{edges_of}
+use Rattle.cf_model.specs.OneThread.Journals.{setup}
 use Rattle.cf_world.specs.Referring.{below, slot_references}
 use Rattle.cf_world.proofs.Referring.{edges-whole, counts_own}
 use Rattle.cf_world.proofs.edges.edges_by.Goals as goal

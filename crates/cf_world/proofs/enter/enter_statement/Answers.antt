@@ -1,7 +1,7 @@
 -- Answers to the goals of `enter::enter_statement`.
 use Rattle.std.proofs.Common.{◌∙◌, ap, ◌++◌, map}
 use Rattle.cf_contents.specs.Contents.{present}
-use Rattle.cf_model.specs.State.{release_of}
+use Rattle.cf_model.specs.OneThread.State.{release_of}
 use Rattle.cf_world.specs.Works.{works}
 use Rattle.cf_world.proofs.Stating.{stated, few_told, new_told}
 use Rattle.cf_world.proofs.enter.enter_statement.Goals as goal

@@ -1,6 +1,6 @@
 -- Answers to the goals of `serial::Run::apply`.
 use Rattle.std.proofs.Common.{◌≡◌, None, refl}
-use Rattle.cf_model.specs.Finals.{cut_of}
+use Rattle.cf_model.specs.OneThread.Finals.{cut_of}
 use Rattle.cf_world.specs.Worlds.{acting}
 use Rattle.cf_world.proofs.Acting.{some_act}
 use Rattle.cf_run.proofs.Counting.{gain_grown, gain_made, gain_fits, run_gained}

@@ -1,6 +1,6 @@
 -- Answers to the goals of `serial::Run::release`.
 use Rattle.std.proofs.Common.{◌≡◌, ◌+◌, Some, refl, ap, ◌∙◌}
-use Rattle.cf_model.specs.Finals.{cut_of}
+use Rattle.cf_model.specs.OneThread.Finals.{cut_of}
 use Rattle.cf_world.specs.Worlds.{acting, entered}
 use Rattle.cf_world.proofs.Acting.{some_act}
 use Rattle.cf_run.specs.Tally.{finals_by}

@@ -1,6 +1,6 @@
 -- Answers to the goals of `world::World::edges`.
 use Rattle.std.proofs.lemmas.Result.{IfOk-weaker}
-use Rattle.cf_model.proofs.Soundness.{setup_owns}
+use Rattle.cf_model.proofs.OneThread.Soundness.{setup_owns}
 use Rattle.cf_world.specs.Works.{works}
 use Rattle.cf_world.proofs.Acting.{begun_is}
 use Rattle.cf_world.proofs.Referring.{few_bodies, view-edges}

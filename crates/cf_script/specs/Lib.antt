@@ -3,4 +3,5 @@ pub mod BlockViews
 pub mod Gives
 pub mod NamesViews
 pub mod TableViews
+pub mod Tables
 pub mod Views

@@ -27,16 +27,14 @@ pub(crate) struct Names {
 }
 
 impl Model for Names {
-    ghost use Rattle.std.specs.Prelude.{◌≤◌, length};
-    ghost use Rattle.cf_ids.specs.declared.limits.TheConstants.{VARIABLES, HANDLERS, MODES, NOTICES};
     ghost use Rattle.cf_syntax.specs.FormWords as Definitions;
-    ghost use Rattle.cf_script.specs.Views.{texts};
+    ghost use Rattle.cf_script.specs.Tables.{tables, AreFew};
 
     ghost Value = { Definitions.Names };
 
-    ghost view = { λ n. record { variables = texts n.variables.keys; handlers = texts n.handlers.keys; modes = texts n.modes.keys; notices = texts n.notices.keys } };
+    ghost view = { λ n. tables n.variables.keys n.handlers.keys n.modes.keys n.notices.keys };
 
-    ghost invariant = { λ n. (length n.variables.keys ≤ VARIABLES) × (length n.handlers.keys ≤ HANDLERS) × (length n.modes.keys ≤ MODES) × (length n.notices.keys ≤ NOTICES) };
+    ghost invariant = { λ n. AreFew n.variables.keys n.handlers.keys n.modes.keys n.notices.keys };
 }
 
 /// The number of a name, of which there may be so many. A new one goes after the others.

@@ -46,8 +46,8 @@ fn begins(form_word: &FormWord, words: &[&[u8]]) -> bool
 
 /// Whether the words of a line begin a form and are as many as its words.
 fn fits(form_word: &FormWord, words: &[&[u8]]) -> bool
-    ensures { result ≡
-        (begins (form_word_of form_word.now) (lent words.now) && has_count (form_word_of form_word.now) (lent words.now)) }
+    ensures { result ≡ (let r = form_word_of form_word.now in
+        begins r (lent words.now) && has_count r (lent words.now)) }
 {
     begins(form_word, words) && words.len() == 1 + form_word.operands.len()
 }

@@ -138,7 +138,8 @@ statement_by classes threads forms.MakeSource ns ws =
     Ok (MakeSource (var ns 0) (integer_at ws 3) ns.handler (info_at ns ws 5))
 statement_by classes threads forms.MakeTimer ns ws =
     Ok (MakeTimer (var ns 0) (number_at ws 3) (number_at ws 4) ns.handler (info_at ns ws 6))
-statement_by classes threads forms.MakeObserver ns ws = Ok (MakeObserver (var ns 0) (mask_at ws 3) (repeats_at ws 4) (integer_at ws 5) ns.handler (info_at ns ws 7))
+statement_by classes threads forms.MakeObserver ns ws =
+    Ok (MakeObserver (var ns 0) (mask_at ws 3) (repeats_at ws 4) (integer_at ws 5) ns.handler (info_at ns ws 7))
 statement_by classes threads forms.New ns ws =
     Ok (New (var ns 0) (class_named classes (word_at ws 2)) (integer_at ws 3))
 statement_by classes threads forms.Retain ns ws = Ok (Retain (var ns 0))

@@ -143,6 +143,10 @@ used_words ws = drop 3 ws
 abbrev pub numbered_uses : Names → List (List ℕ) → Result (With Numbers) Reason
 numbered_uses names ws = numbers_of (replicate (length ws) operands.Bound) ws (no_numbers names)
 
+-- what a thread uses, by the numbers of these words
+abbrev pub uses_of : Reading → List (List ℕ) → (numbers : List ℕ) → List Given
+uses_of r ws ns = givens_of (setup_variables r.blocks) (used_words ws) ns
+
 -- a line that begins a thread: after setup and before the handlers, with a name that no other thread has; there are at
 -- most 64 threads, with setup
 unfoldable pub thread_line : Reading → List (List ℕ) → Result Reading Reason
@@ -152,8 +156,10 @@ thread_line r ws = do
   _ ← require Twice (not (block_has_name (drop 1 r.blocks) (word_at ws 1)))
   _ ← require TooMany (nat_lt r.threads 64)
   vs ← numbered_uses r.names (used_words ws)
-  Ok (record (new_block r kinds.Thread (word_at ws 1) (givens_of (setup_variables r.blocks) (used_words ws) vs.value.variables))
-      { threads = r.threads + 1; names = vs.names })
+  Ok (record (new_block r kinds.Thread (word_at ws 1) (uses_of r ws vs.value.variables)) {
+    threads = r.threads + 1;
+    names = vs.names;
+  })
 
 -- a line that begins a handler: after setup, with a name that no other handler's block has. Its block is a use of its
 -- name, and its first variable is `info`
@@ -163,7 +169,9 @@ handler_line r ws = do
   _ ← has_words handler_operands ws
   _ ← require Twice (not (block_has_name (drop r.threads r.blocks) (word_at ws 1)))
   h ← numbered tables.Handlers (word_at ws 1) r.names
-  Ok (record (new_block r kinds.Handler (word_at ws 1) []) { names = record h.names { variables = codes "info" ∷ [] } })
+  Ok (record (new_block r kinds.Handler (word_at ws 1) []) {
+    names = record h.names { variables = codes "info" ∷ [] };
+  })
 
 -- a line outside a block
 abbrev pub outside : Reading → List (List ℕ) → Result Reading Reason

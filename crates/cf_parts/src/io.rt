@@ -1,4 +1,5 @@
 //! Bytes in and out: whole files that are read and whole texts that are written, in memory and by the system.
+use crate::check::assert_gives;
 use cf_io::{FileSource, MemFile, MemSink, MemSource, Source, StdSink, read_all, write_all};
 use std::alloc::{AllocError, Global};
 use std::test::Fail;
@@ -109,20 +110,31 @@ const READ_CASES: [ReadCase; 10] = [
     },
 ];
 
-fn outcome_of_read(alloc: Global, case: &ReadCase) -> Result<String, AllocError> {
+fn source_of(alloc: Global, case: &ReadCase) -> Result<MemSource, AllocError> {
     let name = String::from_str(alloc, "f")?;
     let bytes = Vec::from_slice(alloc, case.bytes)?;
     let files = vec![in alloc; MemFile { name, bytes }]?;
     let failing = Vec::from_slice(alloc, case.failing)?;
-    let mut source = MemSource::new(files, failing, case.most.max(1));
-    match source.open(case.name) {
-        Ok(()) => {
-            let all = read_all(alloc, &mut source, case.limit);
-            let next = source.read(&mut [0; 4]);
-            format!(in alloc; "{all:?}, then {next:?}")
-        }
-        Err(_) => String::from_str(alloc, "not open"),
+    Ok(MemSource::new(files, failing, case.most.max(1)))
+}
+
+fn outcome_of_read(alloc: Global, case: &ReadCase) -> Result<String, AllocError> {
+    let mut source = source_of(alloc, case)?;
+    if source.open(case.name).is_err() {
+        return String::from_str(alloc, "not open");
     }
+    let all = read_all(alloc, &mut source, case.limit);
+    let next = source.read(&mut [0; 4]);
+    format!(in alloc; "{all:?}, then {next:?}")
+}
+
+#[test]
+fn bytes_are_read(rt: HostRuntime) -> Result<(), Fail> {
+    for (i, case) in READ_CASES.iter().enumerate() {
+        let outcome = outcome_of_read(rt.alloc(), case)?;
+        assert_gives(&rt, i, outcome.as_str(), case.gives, case.about);
+    }
+    Ok(())
 }
 
 // A text, and what writing it gives: the outcome, and what the sink has taken.
@@ -173,35 +185,36 @@ fn outcome_of_write(alloc: Global, case: &WriteCase) -> Result<String, AllocErro
 }
 
 #[test]
-fn bytes_in_memory(rt: HostRuntime) -> Result<(), Fail> {
-    let alloc = rt.alloc();
-    for case in &READ_CASES {
-        let outcome = outcome_of_read(alloc, case)?;
-        assert_eq!(rt; outcome.as_str(), case.gives, "{}", case.about);
-    }
-    for case in &WRITE_CASES {
-        let outcome = outcome_of_write(alloc, case)?;
-        assert_eq!(rt; outcome.as_str(), case.gives, "{}", case.about);
+fn bytes_are_written(rt: HostRuntime) -> Result<(), Fail> {
+    for (i, case) in WRITE_CASES.iter().enumerate() {
+        let outcome = outcome_of_write(rt.alloc(), case)?;
+        assert_gives(&rt, i, outcome.as_str(), case.gives, case.about);
     }
     Ok(())
 }
 
+// What becomes of a file that is read and then removed, and of a line to the standard output.
+fn outcome_of_system(rt: &HostRuntime) -> Result<String, Fail> {
+    let path = format!(in rt.alloc(); "/tmp/cf_io_file_{}", process::id(rt.process()))?;
+    fs::write(rt, path.as_str(), "hey\n")?;
+    let mut source = FileSource::new(rt);
+    let opened = source.open(path.as_str());
+    let all = read_all(rt.alloc(), &mut source, 4);
+    fs::remove_file(rt, path.as_str())?;
+    let again = source.open(path.as_str());
+    let written = write_all(&mut StdSink::new(rt), b"a line by a sink\n");
+    Ok(format!(in rt.alloc(); "{opened:?} {all:?} {again:?} {written:?}")?)
+}
+
 #[test]
 fn bytes_of_the_system(rt: HostRuntime) -> Result<(), Fail> {
-    let alloc = rt.alloc();
-    let path = format!(in alloc; "/tmp/cf_io_file_{}", process::id(rt.process()))?;
-    fs::write(&rt, path.as_str(), "hey\n")?;
-    let mut source = FileSource::new(&rt);
-    let opened = source.open(path.as_str());
-    let all = read_all(alloc, &mut source, 4);
-    fs::remove_file(&rt, path.as_str())?;
-    let outcome = format!(in alloc; "{opened:?} {all:?} {:?}", source.open(path.as_str()))?;
-    assert_eq!(rt;
+    let outcome = outcome_of_system(&rt)?;
+    assert_gives(
+        &rt,
+        0,
         outcome.as_str(),
-        "Ok(()) Ok([104, 101, 121, 10]) Err(Failed)",
-        "a file that is read and then removed"
+        "Ok(()) Ok([104, 101, 121, 10]) Err(Failed) Ok(())",
+        "a file that is read and then removed, and a line to the standard output",
     );
-    let written = write_all(&mut StdSink::new(&rt), b"a line by a sink\n");
-    assert!(rt; written.is_ok(), "a line to the standard output");
     Ok(())
 }

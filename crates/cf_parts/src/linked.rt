@@ -2,8 +2,9 @@
 ghost use Rattle.std.specs.Prelude.{◌≡◌, ◌<◌, [], length, None, IsTrue, IsSome};
 ghost use Rattle.cf_links.specs.Lists.{value_at, list_of};
 
+use crate::check::assert_gives;
 use cf_links::{Links, ListId, Node};
-use std::alloc::Global;
+use std::alloc::{AllocError, Global};
 use std::test::Fail;
 
 /// Whether a node is there and in no list.
@@ -82,39 +83,108 @@ fn with_no_room(alloc: Global) -> (Links<u8>, bool)
     (links, accepted)
 }
 
+/// Lists after a call for no room, one list, and four nodes that were made, of which three were put into it.
+#[derive(Drop)]
+struct Fixture {
+    links: Links<u8>,
+    takes_none: bool,
+    is_pushed: bool,
+    list: ListId,
+    nodes: [Node; 4],
+}
+
+fn fixture_of(alloc: Global) -> Result<Fixture, AllocError> {
+    let (mut links, takes_none) = with_no_room(alloc);
+    links.reserve(4)?;
+    let list = links.make_list();
+    let (a, b) = (links.make(1), links.make(2));
+    let (c, d) = (links.make(3), links.make(4));
+    let is_first = push_back(&mut links, list, a);
+    let is_before = push_front(&mut links, list, b);
+    let is_between = insert_after(&mut links, b, c);
+    Ok(Fixture {
+        links,
+        takes_none,
+        is_pushed: is_first && is_before && is_between,
+        list,
+        nodes: [a, b, c, d],
+    })
+}
+
+/// A step after the nodes were put into the list.
+#[derive(Clone, Copy)]
+enum Step {
+    /// Whether there was room for no node, and whether each of three was ready.
+    Look,
+    /// The third node is not freed while it is in the list.
+    FreeLinked,
+    Unlink,
+    FreeUnlinked,
+    FreeAgain,
+    InsertBefore,
+}
+
+// A step, and what it gives: its answer, the values in the list, and how the nodes stand.
+const STEPS: [(Step, &str, &str); 6] = [
+    (
+        Step::Look,
+        "true true",
+        "room for none, and each node is ready for its step",
+    ),
+    (Step::FreeLinked, "[2, 3, 1, 0, 0] None true", "three nodes"),
+    (
+        Step::Unlink,
+        "true [2, 1, 0, 0, 0] true",
+        "the middle one out",
+    ),
+    (Step::FreeUnlinked, "Some(3)", "freed"),
+    (Step::FreeAgain, "None Some(1)", "freed once"),
+    (
+        Step::InsertBefore,
+        "true [2, 4, 1, 0, 0] true true",
+        "one before another",
+    ),
+];
+
+fn outcome_of(alloc: Global, fixture: &mut Fixture, step: Step) -> Result<String, AllocError> {
+    let [a, b, c, d] = fixture.nodes;
+    let list = fixture.list;
+    let links = &mut fixture.links;
+    match step {
+        Step::Look => format!(in alloc; "{} {}", fixture.takes_none, fixture.is_pushed),
+        Step::FreeLinked => {
+            let before = values(links, list);
+            let freed = links.free(c);
+            let is_there = links.list_of(c) == Some(list);
+            format!(in alloc; "{before:?} {freed:?} {is_there}")
+        }
+        Step::Unlink => {
+            let done = unlink(links, c);
+            let left = values(links, list);
+            let is_out = links.list_of(c).is_none();
+            format!(in alloc; "{done} {left:?} {is_out}")
+        }
+        Step::FreeUnlinked => format!(in alloc; "{:?}", links.free(c)),
+        Step::FreeAgain => {
+            let freed = links.free(c);
+            format!(in alloc; "{freed:?} {:?}", links.value(a))
+        }
+        Step::InsertBefore => {
+            let done = insert_before(links, a, d);
+            let now = values(links, list);
+            let is_before = links.prev(a) == Some(d);
+            let is_first = links.prev(b).is_none();
+            format!(in alloc; "{done} {now:?} {is_before} {is_first}")
+        }
+    }
+}
+
 #[test]
 fn linked_nodes(rt: HostRuntime) -> Result<(), Fail> {
-    let (mut links, accepted) = with_no_room(rt.alloc());
-    links.reserve(4).ok().ok_or("room for four")?;
-    let l = links.make_list();
-    let a = links.make(1);
-    let b = links.make(2);
-    let c = links.make(3);
-    let d = links.make(4);
-    let mut done = push_back(&mut links, l, a);
-    done = push_front(&mut links, l, b) && done;
-    done = insert_after(&mut links, b, c) && done;
-    let linked = (values(&links, l), links.free(c), links.list_of(c));
-    done = unlink(&mut links, c) && done;
-    let unlinked = (values(&links, l), links.list_of(c), links.free(c));
-    let freed = links.free(c);
-    done = insert_before(&mut links, a, d) && done;
-    for (case, holds) in [
-        ("room for none", accepted),
-        ("each node is ready for its step", done),
-        ("three nodes", linked == ([2, 3, 1, 0, 0], None, Some(l))),
-        (
-            "the middle one out",
-            unlinked == ([2, 1, 0, 0, 0], None, Some(3)),
-        ),
-        ("freed once", freed.is_none() && links.value(a) == Some(&1)),
-        ("one before another", values(&links, l) == [2, 4, 1, 0, 0]),
-        (
-            "before it",
-            links.prev(a) == Some(d) && links.prev(b).is_none(),
-        ),
-    ] {
-        assert!(rt; holds, "{case}");
+    let mut fixture = fixture_of(rt.alloc())?;
+    for (i, &(step, gives, about)) in STEPS.iter().enumerate() {
+        let outcome = outcome_of(rt.alloc(), &mut fixture, step)?;
+        assert_gives(&rt, i, outcome.as_str(), gives, about);
     }
     Ok(())
 }

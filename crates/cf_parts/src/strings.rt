@@ -1,92 +1,163 @@
 //! Texts as lists of UTF-16 units: what is read of them, what is refused, and the edits.
+use crate::check::assert_gives;
 use cf_string::{Str, StrFault};
-use std::cmp::Ordering;
-use std::process::Abort;
+use std::alloc::Global;
 use std::test::Fail;
 
-/// The text `a`, then the character U+1F600.
+/// The text `a`, then the character U+1F600, whose units are D83D and DE00, 55357 and 56832.
 const FACE: [u8; 5] = [0x61, 0xF0, 0x9F, 0x98, 0x80];
+
+/// A text that is read.
+#[derive(Clone, Copy)]
+enum Part {
+    Itself,
+    Copy,
+    Substring(usize, usize),
+    /// The text `nanan`, which edits make.
+    Edited,
+}
+
+// The length of each, its units at 1 and at 3, how it stands to the first, and its bytes.
+const PARTS: [(Part, &str, &str); 4] = [
+    (
+        Part::Itself,
+        "3 Some(55357) None Equal [97, 240, 159, 152, 128]",
+        "the text",
+    ),
+    (
+        Part::Copy,
+        "3 Some(55357) None Equal [97, 240, 159, 152, 128]",
+        "the copy",
+    ),
+    (
+        Part::Substring(1, 2),
+        "2 Some(56832) None Greater [240, 159, 152, 128]",
+        "the pair",
+    ),
+    (
+        Part::Edited,
+        "5 Some(97) Some(97) Greater [110, 97, 110, 97, 110]",
+        "the edits",
+    ),
+];
+
+fn description_of(alloc: Global, part: &Str, face: &Str) -> Result<String, StrFault> {
+    let bytes = part.utf8(alloc)?;
+    Ok(format!(in alloc;
+        "{} {:?} {:?} {:?} {:?}",
+        part.length(),
+        part.unit_at(1),
+        part.unit_at(3),
+        part.compare(face),
+        bytes.as_slice()
+    )?)
+}
+
+fn reading_of(alloc: Global, part: Part) -> Result<String, StrFault> {
+    let face = Str::from_utf8(alloc, &FACE)?;
+    match part {
+        Part::Itself => description_of(alloc, &face, &face),
+        Part::Copy => description_of(alloc, &face.copy(alloc)?, &face),
+        Part::Substring(at, len) => {
+            description_of(alloc, &face.substring(alloc, at, len)?, &face)
+        }
+        Part::Edited => description_of(alloc, &nanan(alloc)?, &face),
+    }
+}
 
 #[test]
 fn texts_are_read(rt: HostRuntime) -> Result<(), Fail> {
-    let alloc = rt.alloc();
-    let face = Str::from_utf8(alloc, &FACE)?;
-    let pair = face.substring(alloc, 1, 2)?;
-    let copy = face.copy(alloc)?;
-    let bytes = face.utf8(alloc)?;
-    let cases = [
-        ("the length", face.length() == 3),
-        ("the high unit", face.unit_at(1) == Some(0xD83D)),
-        ("no unit", face.unit_at(3).is_none()),
-        (
-            "the pair",
-            pair.length() == 2 && pair.unit_at(1) == Some(0xDE00),
-        ),
-        ("the copy", copy.compare(&face) == Ordering::Equal),
-        ("the bytes", bytes.as_slice() == FACE.as_slice()),
-    ];
-    check(&rt, &cases);
+    for (i, &(part, gives, about)) in PARTS.iter().enumerate() {
+        let outcome = reading_of(rt.alloc(), part)?;
+        assert_gives(&rt, i, outcome.as_str(), gives, about);
+    }
     Ok(())
+}
+
+/// A call that may be refused.
+#[derive(Clone, Copy)]
+enum Call {
+    /// The byte FF is read.
+    Read,
+    Substring(usize, usize),
+    SplitFault(usize, usize),
+    Delete(usize, usize),
+    /// An empty text gets room for no unit.
+    Reserve,
+}
+
+// The fault of each call on the text, and the length of the text after it.
+const CALLS: [(Call, &str, &str); 9] = [
+    (Call::Read, "Some(NotUtf8) 3", "the byte FF"),
+    (Call::Substring(0, 2), "Some(SplitsPair) 3", "half a pair"),
+    (Call::SplitFault(1, 2), "None 3", "no fault"),
+    (
+        Call::SplitFault(0, 2),
+        "Some(SplitsPair) 3",
+        "the fault of half a pair",
+    ),
+    (Call::Substring(2, 2), "Some(Range) 3", "past the length"),
+    (
+        Call::Substring(usize::MAX, 1),
+        "Some(Range) 3",
+        "a far place",
+    ),
+    (
+        Call::Delete(2, 1),
+        "Some(SplitsPair) 3",
+        "no half is taken out",
+    ),
+    (
+        Call::Delete(3, 1),
+        "Some(Range) 3",
+        "nothing past the end is",
+    ),
+    (Call::Reserve, "None 3", "no room is there"),
+];
+
+fn fault_of(alloc: Global, text: &mut Str, call: Call) -> Option<StrFault> {
+    match call {
+        Call::Read => Str::from_utf8(alloc, &[0xFF]).err(),
+        Call::Substring(at, len) => text.substring(alloc, at, len).err(),
+        Call::SplitFault(at, len) => text.split_fault(at, len),
+        Call::Delete(at, len) => text.delete(at, len).err(),
+        Call::Reserve => Str::new(alloc).reserve(0).map_err(StrFault::from).err(),
+    }
+}
+
+fn refusal_of(alloc: Global, call: Call) -> Result<String, StrFault> {
+    let mut face = Str::from_utf8(alloc, &FACE)?;
+    let fault = fault_of(alloc, &mut face, call);
+    Ok(format!(in alloc; "{fault:?} {}", face.length())?)
 }
 
 #[test]
 fn texts_are_refused(rt: HostRuntime) -> Result<(), Fail> {
-    let alloc = rt.alloc();
-    let mut face = Str::from_utf8(alloc, &FACE)?;
-    let cases = [
-        ("the byte FF", is_not_utf8(&Str::from_utf8(alloc, &[0xFF]))),
-        ("half a pair", splits_pair(&face.substring(alloc, 0, 2))),
-        (
-            "no fault, and that of half a pair",
-            face.split_fault(1, 2).is_none()
-                && matches!(face.split_fault(0, 2), Some(StrFault::SplitsPair)),
-        ),
-        ("past the length", passes(&face.substring(alloc, 2, 2))),
-        ("a far place", passes(&face.substring(alloc, usize::MAX, 1))),
-        ("no half is taken out", splits_pair(&face.delete(2, 1))),
-        ("nothing past the end is", passes(&face.delete(3, 1))),
-        ("it is as before", face.length() == 3),
-        ("no room is there", Str::new(alloc).reserve(0).is_ok()),
-    ];
-    check(&rt, &cases);
+    for (i, &(call, gives, about)) in CALLS.iter().enumerate() {
+        let outcome = refusal_of(rt.alloc(), call)?;
+        assert_gives(&rt, i, outcome.as_str(), gives, about);
+    }
     Ok(())
 }
 
-#[test]
-fn texts_are_edited(rt: HostRuntime) -> Result<(), Fail> {
-    let alloc = rt.alloc();
-    let other = Str::from_utf8(alloc, b"an")?;
-    let text = edited(Str::from_utf8(alloc, b"b")?, &other)?;
-    let bytes = text.utf8(alloc)?;
-    let cases = [
-        ("the edits", bytes.as_slice() == b"nanan".as_slice()),
-        ("the first place", text.find(&other, 0) == Some(1)),
-        ("a later place", text.find(&other, 2) == Some(3)),
-        ("no place", text.find(&other, 4).is_none()),
-        (
-            "an empty text at the end",
-            text.find(&Str::new(alloc), 5) == Some(5),
-        ),
-        (
-            "no empty text past it",
-            text.find(&Str::new(alloc), 6).is_none(),
-        ),
-        (
-            "the prefix",
-            text.has_prefix(&text) && !text.has_prefix(&other),
-        ),
-        (
-            "the suffix",
-            text.has_suffix(&other) && !other.has_suffix(&text),
-        ),
-        ("the order", other.compare(&text) == Ordering::Less),
-    ];
-    check(&rt, &cases);
-    Ok(())
-}
+// A text beside the text `nanan`: its place there from a place on, whether it is a prefix and a suffix of it, whether
+// `nanan` is a suffix of it, and how it stands to `nanan`.
+const BESIDE: [(&[u8], usize, &str, &str); 6] = [
+    (b"an", 0, "Some(1) false true false Less", "the first place"),
+    (b"an", 2, "Some(3) false true false Less", "a later place"),
+    (b"an", 4, "None false true false Less", "no place"),
+    (
+        b"",
+        5,
+        "Some(5) true true false Less",
+        "an empty text at the end",
+    ),
+    (b"", 6, "None true true false Less", "no empty text past it"),
+    (b"nanan", 0, "Some(0) true true true Equal", "the same text"),
+];
 
 /// The text `nanan`, made of the text `b` and the other text `an` by each of the edits.
-fn edited(mut text: Str, other: &Str) -> Result<Str, Fail> {
+fn edited(mut text: Str, other: &Str) -> Result<Str, StrFault> {
     text.reserve(6)?;
     if other.length() == 2 {
         text.append(other);
@@ -97,20 +168,29 @@ fn edited(mut text: Str, other: &Str) -> Result<Str, Fail> {
     Ok(text)
 }
 
-fn check(rt: &impl Abort, cases: &[(&str, bool)]) {
-    for (name, holds) in cases {
-        assert!(rt; *holds, "{name}");
+fn nanan(alloc: Global) -> Result<Str, StrFault> {
+    let other = Str::from_utf8(alloc, b"an")?;
+    edited(Str::from_utf8(alloc, b"b")?, &other)
+}
+
+fn standing_of(alloc: Global, other: &[u8], from: usize) -> Result<String, StrFault> {
+    let text = nanan(alloc)?;
+    let other = Str::from_utf8(alloc, other)?;
+    Ok(format!(in alloc;
+        "{:?} {} {} {} {:?}",
+        text.find(&other, from),
+        text.has_prefix(&other),
+        text.has_suffix(&other),
+        other.has_suffix(&text),
+        other.compare(&text)
+    )?)
+}
+
+#[test]
+fn texts_are_edited(rt: HostRuntime) -> Result<(), Fail> {
+    for (i, &(other, from, gives, about)) in BESIDE.iter().enumerate() {
+        let outcome = standing_of(rt.alloc(), other, from)?;
+        assert_gives(&rt, i, outcome.as_str(), gives, about);
     }
-}
-
-fn is_not_utf8<T>(answer: &Result<T, StrFault>) -> bool {
-    matches!(answer, Err(StrFault::NotUtf8))
-}
-
-fn passes<T>(answer: &Result<T, StrFault>) -> bool {
-    matches!(answer, Err(StrFault::Range))
-}
-
-fn splits_pair<T>(answer: &Result<T, StrFault>) -> bool {
-    matches!(answer, Err(StrFault::SplitsPair))
+    Ok(())
 }

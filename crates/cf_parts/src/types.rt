@@ -1,11 +1,12 @@
 //! Leaves and the registry: the worked hashes, equality and order under both callbacks, copies, and names.
 ghost use Rattle.std.specs.Prelude.{◌≡◌, ◌<◌};
 
+use crate::check::assert_gives;
 use cf_callbacks::{Callbacks, Steps};
 use cf_data::Bytes;
 use cf_ids::{ObjId, TypeId};
 use cf_string::{Str, StrFault};
-use cf_types::{Cell, CellCallbacks, Equality, Form, Leaf, RegisterFault, Registry};
+use cf_types::{Cell, CellCallbacks, Class, Equality, Form, Leaf, RegisterFault, Registry};
 use std::alloc::{AllocError, Global};
 use std::cmp::Ordering;
 use std::marker::Brand;
@@ -115,108 +116,116 @@ fn data_hash(alloc: Global, bytes: &[u8]) -> Result<u64, AllocError> {
     Ok(CellCallbacks::Typed.hash(&cell(0, 3, data(alloc, bytes)?)))
 }
 
-// The two worked hashes, and whether a text is taken by the bytes of its UTF-8.
-fn hashes(alloc: Global) -> Result<[(u64, u64); 3], StrFault> {
-    Ok([
-        (text_hash(alloc, b"hi")?, 6381447705),
-        (text_hash(alloc, b"")?, 5859912),
-        (text_hash(alloc, &LETTERS)?, data_hash(alloc, &LETTERS)?),
-    ])
-}
+const LEAF_CASES: [&str; 7] = [
+    "the worked hash of a text",
+    "that of the empty text",
+    "six elements compared",
+    "their copies",
+    "a text is hashed by the bytes of its UTF-8",
+    "retained under typed callbacks",
+    "not under plain ones",
+];
 
-fn retained() -> [bool; 2] {
-    [
+fn leaf_outcomes(alloc: Global) -> Result<[bool; 7], StrFault> {
+    let cells = cells(alloc)?;
+    Ok([
+        text_hash(alloc, b"hi")? == 6381447705,
+        text_hash(alloc, b"")? == 5859912,
+        all_stand_right(&cells),
+        copies_right(alloc, &cells)?,
+        text_hash(alloc, &LETTERS)? == data_hash(alloc, &LETTERS)?,
         CellCallbacks::Typed.retains(),
         !CellCallbacks::Plain.retains(),
-    ]
+    ])
 }
 
 #[test]
 fn leaves(rt: HostRuntime) -> Result<(), Fail> {
-    let alloc = rt.alloc();
-    for (i, &(hash, want)) in hashes(alloc)?.iter().enumerate() {
-        assert_eq!(rt; hash, want, "hash {i}");
+    for (holds, about) in leaf_outcomes(rt.alloc())?.iter().zip(&LEAF_CASES) {
+        assert!(rt; *holds, "{about}");
     }
-    let cells = cells(alloc)?;
-    let right = [all_stand_right(&cells), copies_right(alloc, &cells)?];
-    assert_eq!(rt; right, [true; 2], "six elements compared, and their copies");
-    assert_eq!(rt;
-        retained(),
-        [true; 2],
-        "retained under typed callbacks alone"
-    );
     Ok(())
 }
 
-const FULL: u16 = 2000;
-
-const TAKEN: u16 = 2001;
-
-const NO_MEMORY: u16 = 2002;
-
-fn registered(alloc: Global, registry: &mut Registry, name: &str) -> u16 {
-    match registry.register(alloc, name, 1, Equality::Key) {
-        Ok(id) => id.0,
-        Err(RegisterFault::Full) => FULL,
-        Err(RegisterFault::Taken) => TAKEN,
-        Err(RegisterFault::NoMemory) => NO_MEMORY,
-    }
+/// A step of a registry's life.
+#[derive(Clone, Copy)]
+enum Step {
+    /// A class of one field, made with keys, is registered.
+    Register(&'static str),
+    /// So are 1,009 classes of names with three digits.
+    Fill,
+    /// A class is looked up.
+    Class(TypeId),
 }
 
-// Registers 1,009 classes of names with three digits, and gives the last answer.
-fn fill(alloc: Global, registry: &mut Registry) -> u16 {
-    let mut last = 0;
+// What each step gives: the answer, that of the last class, or the length of a class's name, its fields and what its
+// instances are compared by.
+const STEPS: [(Step, &str, &str); 11] = [
+    (Step::Register("p"), "Ok(TypeId(14))", "the first class"),
+    (Step::Register("p"), "Err(Taken)", "the same name"),
+    (Step::Register("String"), "Err(Taken)", "a built-in name"),
+    (Step::Register("q"), "Ok(TypeId(15))", "the second class"),
+    (Step::Fill, "Ok(TypeId(1024))", "the last class"),
+    (Step::Register("z"), "Err(Full)", "a new name, full"),
+    (Step::Register("p"), "Err(Full)", "a taken name, full"),
+    (Step::Class(TypeId(1)), "4 0 identity", "the class 1"),
+    (Step::Class(TypeId(13)), "15 0 identity", "the class 13"),
+    (Step::Class(TypeId(14)), "1 1 key", "the class 14"),
+    (Step::Class(TypeId(1024)), "3 1 key", "the class 1024"),
+];
+
+fn registered(alloc: Global, registry: &mut Registry, name: &str) -> Result<TypeId, RegisterFault> {
+    registry.register(alloc, name, 1, Equality::Key)
+}
+
+fn fill(alloc: Global, registry: &mut Registry) -> Result<TypeId, RegisterFault> {
+    let mut last = Ok(TypeId(1));
     for i in 0..1009u16 {
         let digits = [
             b'0' + (i / 100) as u8,
             b'0' + (i / 10 % 10) as u8,
             b'0' + (i % 10) as u8,
         ];
-        last = str::from_utf8(&digits).map_or(0, |name| registered(alloc, registry, name));
+        if let Ok(name) = str::from_utf8(&digits) {
+            last = registered(alloc, registry, name);
+        }
     }
     last
 }
 
-fn described(registry: &Registry, id: u16) -> (usize, u8, bool)
-    requires some { 0 < id }
-    requires within { id < 1025 }
-{
-    match registry.class(TypeId(id)) {
-        Some(class) => (
-            class.name.len(),
-            class.fields,
-            matches!(class.equality, Equality::Key),
-        ),
-        None => (0, 0, false),
+fn description_of(alloc: Global, class: Option<&Class>) -> Result<String, AllocError> {
+    match class {
+        Some(class) => {
+            let equality = match class.equality {
+                Equality::Identity => "identity",
+                Equality::Key => "key",
+            };
+            format!(in alloc; "{} {} {equality}", class.name.len(), class.fields)
+        }
+        None => String::from_str(alloc, "no class"),
+    }
+}
+
+fn outcome_of(alloc: Global, registry: &mut Registry, step: &Step) -> Result<String, AllocError> {
+    match *step {
+        Step::Register(name) => {
+            let answer = registered(alloc, registry, name);
+            format!(in alloc; "{answer:?}")
+        }
+        Step::Fill => {
+            let answer = fill(alloc, registry);
+            format!(in alloc; "{answer:?}")
+        }
+        Step::Class(id) => description_of(alloc, registry.class(id)),
     }
 }
 
 #[test]
 fn registry(rt: HostRuntime) -> Result<(), Fail> {
-    let alloc = rt.alloc();
-    let mut registry = Registry::new(alloc)?;
-    for (name, answer) in [("p", 14), ("p", TAKEN), ("String", TAKEN), ("q", 15)] {
-        assert_eq!(rt;
-            registered(alloc, &mut registry, name),
-            answer,
-            "register {name}"
-        );
-    }
-    let last = fill(alloc, &mut registry);
-    for (name, answer) in [("z", FULL), ("p", FULL)] {
-        assert_eq!(rt;
-            (registered(alloc, &mut registry, name), last),
-            (answer, 1024),
-            "full: {name}"
-        );
-    }
-    for (id, class) in [
-        (1, (4, 0, false)),
-        (13, (15, 0, false)),
-        (14, (1, 1, true)),
-        (1024, (3, 1, true)),
-    ] {
-        assert_eq!(rt; described(&registry, id), class, "class {id}");
+    let mut registry = Registry::new(rt.alloc())?;
+    for (i, (step, gives, about)) in STEPS.iter().enumerate() {
+        let outcome = outcome_of(rt.alloc(), &mut registry, step)?;
+        assert_gives(&rt, i, outcome.as_str(), gives, about);
     }
     Ok(())
 }

@@ -196,3 +196,8 @@ packed_none c before thread place counted =
       gives = λ v small. omega arith;
       takes = λ v small. omega arith;
     })
+
+-- a fault and none after it
+pub or_nothing : {A : Type 0} (o : Option A) → o ≡ or_else o None
+or_nothing None = refl
+or_nothing (Some x) = refl

@@ -81,8 +81,8 @@ fn place_fault(script: &Script, counts: &Counts, mention: &Option<Mention>) -> O
     }
 }
 
-/// The fault of a statement's leftmost word that has one.
-fn statement_fault(script: &Script, counts: &Counts, statement: &Statement) -> Option<Reason>
+/// The fault of a statement's leftmost word that has one, by the words that it names.
+fn mentions_fault(script: &Script, counts: &Counts, statement: &Statement) -> Option<Reason>
     ensures { (earlier : List BlockLine) → Counted counts.now earlier → result ≡ line_fault script.now earlier (says statement.now) }
 {
     let [first, second, third] = statement.mentions();
@@ -93,6 +93,19 @@ fn statement_fault(script: &Script, counts: &Counts, statement: &Statement) -> O
         return Some(reason);
     }
     place_fault(script, counts, &third)
+}
+
+/// The fault of a statement's leftmost word that has one. The forms that come most often use one variable, and their
+/// words need no list.
+#[inline(always)]
+fn statement_fault(script: &Script, counts: &Counts, statement: &Statement) -> Option<Reason>
+    ensures { (earlier : List BlockLine) → Counted counts.now earlier → result ≡ line_fault script.now earlier (says statement.now) }
+{
+    match statement {
+        Statement::Retain { variable } => use_fault(counts, *variable),
+        Statement::Release { variable } => use_fault(counts, *variable),
+        _ => mentions_fault(script, counts, statement),
+    }
 }
 
 /// The first fault of statements, each with its line; where there is none, they are counted.

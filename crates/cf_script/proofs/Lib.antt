@@ -5,6 +5,7 @@ pub mod NameLaws
 pub mod NumberLaws
 pub mod OpeningLaws
 pub mod ReaderLaws
+pub mod StatementLaws
 pub mod TableLaws
 pub mod ThreadLaws
 pub mod Utf8

@@ -1,5 +1,5 @@
 -- A name among names that are owned.
-use Rattle.std.proofs.Common.{◌≡◌, ℕ, ◌+◌, ◌<◌, ◌≤◌, Bool, true, false, cond, not, List, [], ◌∷◌, ◌++◌, length, Some, None, Ok, Err, inl, inr, refl, ap, sym, ◌∙◌, arith, leb, ltb, subst}
+use Rattle.std.proofs.Common.{◌≡◌, ℕ, ◌+◌, ◌<◌, ◌≤◌, Bool, true, false, cond, not, List, [], ◌∷◌, ◌++◌, length, Some, None, Ok, Err, inl, inr, refl, ap, sym, ◌∙◌, arith, eqb, leb, ltb, subst}
 use Rattle.std.specs.Prelude.{◌&&◌, ◌||◌, if◌then◌else◌, position, map}
 use Rattle.std.proofs.lemmas.Bool.{cases_Bool, and_parts, ltb-true, ltb-false, lt-ltb, leb-true}
 use Rattle.std.specs.List.{list_all, list_any, position_or_len}
@@ -8,9 +8,11 @@ use Rattle.std.specs.Global.{Vec}
 use Rattle.std.proofs.lemmas.List.{length-map, map_push}
 use Rattle.std.proofs.lemmas.List.Sums.{prefix_len-le-length}
 use Rattle.std.proofs.lemmas.Slice.Eq.{bytes_eq-Decides}
+use Rattle.cf_syntax.specs.declared.place.Place.{Place}
+use Rattle.cf_syntax.specs.declared.place.Place.TheVariants.{Between, Plain}
 use Rattle.cf_syntax.specs.FormWords.{with_name}
 use Rattle.cf_syntax.specs.Text.{place_of}
-use Rattle.cf_syntax.specs.Words.{reserved, is_reserved}
+use Rattle.cf_syntax.specs.Words.{is_blank, goes, reserved, is_reserved}
 use Rattle.cf_syntax.specs.declared.refusal.Reason.TheVariants.{TooMany}
 use Rattle.cf_script.specs.Views.{texts}
 use Rattle.cf_script.specs.NamesViews.{number_in}
@@ -145,3 +147,12 @@ reserved_len word e =
 
 pub not_reserved : (word : List ℕ) → ((3 ≤ length word) × (length word ≤ 8) → ⊥) → false ≡ is_reserved word
 not_reserved word out = elim (cases_Bool (is_reserved word)) [ inl t ↦ absurd (out (reserved_len word t)) | inr f ↦ sym f ]
+
+-- a byte within a plain word leads to a blank or stays in it
+pub stays_plain : (b : ℕ) (q : Place) → goes Plain b ≡ Some q → (q ≡ Between → ⊥) → q ≡ Plain
+stays_plain b q e apart = tests (is_blank b) (eqb b 34) e
+  where
+    tests : (t u : Bool) → cond t (Some Between) (cond u None (Some Plain)) ≡ Some q → q ≡ Plain
+    tests true u e = absurd (apart cc)
+    tests false true e = absurd cc
+    tests false false e = cc

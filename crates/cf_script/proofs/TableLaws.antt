@@ -95,7 +95,7 @@ unfolding form_of
 form_of_no_count ws a b e = no_count (list_any (λ (r : FormWord). starts r ws) forms_now) (nat_lt (length ws) 3 || list_any (λ (r : FormWord). begins r ws) forms_now) (find_row (IsOf ws) forms_now) a b e
 
 -- words that are of a form are as many as the form's
-row_count : (ws : List (List ℕ)) (rows : List FormWord) (r : FormWord) → find_row (IsOf ws) rows ≡ Some r
+pub row_count : (ws : List (List ℕ)) (rows : List FormWord) (r : FormWord) → find_row (IsOf ws) rows ≡ Some r
     → has_count r ws ≡ true
 row_count ws [] r e = absurd cc
 row_count ws (x ∷ rows) r e = tests (begins x ws) (has_count x ws) refl e (row_count ws rows r)
@@ -110,7 +110,8 @@ needed_row : (o : Option FormWord) (r : FormWord) → needed Arity o ≡ Ok r �
 needed_row None r e = absurd cc
 needed_row (Some x) r e = cc
 
-form_row : (ws : List (List ℕ)) (r : FormWord) → form_of ws ≡ Ok r → find_row (IsOf ws) forms_now ≡ Some r
+-- the form of a line is a row
+pub form_row : (ws : List (List ℕ)) (r : FormWord) → form_of ws ≡ Ok r → find_row (IsOf ws) forms_now ≡ Some r
 unfolding form_of
 form_row ws r e =
     let a = bind_ok (require Word (list_any (λ (x : FormWord). starts x ws) forms_now)) _ r e in

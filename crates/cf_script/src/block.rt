@@ -1,8 +1,8 @@
 //! The lines of a script, one after another: what they made so far, and the lines inside a block.
-ghost use Rattle.std.specs.Prelude.{◌≡◌, ◌+◌, ◌<◌, ◌^◌, IfOk, IfSome, OnOk, Some, [], length, map, position};
+ghost use Rattle.std.specs.Prelude.{◌≡◌, ◌+◌, ◌<◌, ◌^◌, IfOk, IfSome, IsTrue, Ok, OnOk, Some, [], length, map, position};
 ghost use Rattle.std.specs.Option.{option_map};
-ghost use Rattle.std.specs.Str.{bytes_eq};
-ghost use Rattle.cf_syntax.specs.Text.{Opened, start, is_header, new_block, is_handler, close_block, end_line, place_line, header_line, spoken_line, after_line, handler_named, ended, script_at, whole};
+ghost use Rattle.std.specs.Str.{bytes_eq, IsAscii};
+ghost use Rattle.cf_syntax.specs.Text.{Opened, start, is_header, new_block, with_statement, is_handler, close_block, end_line, place_line, header_line, spoken_line, after_line, handler_named, ended, script_at, whole};
 ghost use Rattle.cf_script.specs.Gives.{GivesAs};
 ghost use Rattle.cf_script.specs.Views.{lent};
 ghost use Rattle.cf_script.specs.BlockViews.{open_block_of, reading_of, with_line};
@@ -10,13 +10,14 @@ ghost use Rattle.cf_script.specs.BlockViews.{open_block_of, reading_of, with_lin
 use crate::blocks::Blocks;
 use crate::classes::Classes;
 use crate::fault::LineFault;
-use crate::lines::{is_utf8, says_nothing};
+use crate::lines::{is_line_utf8, says_nothing};
 use crate::names::{Names, copies, in_order};
 use crate::openings::after;
-use crate::statements::read_statement;
+use crate::statements::{read_statement, read_variable};
+use crate::table::form_of;
 use crate::words::{is, split_words, word_at};
 use cf_ids::Seq;
-use cf_syntax::{Block, BlockKind, Given, Handler, Reason, Script, Statement};
+use cf_syntax::{Block, BlockKind, Given, Handler, Reason, Script, Statement, StatementForm};
 use std::alloc::{AllocError, Global};
 
 /// A block whose `end` is still to come.
@@ -59,7 +60,19 @@ fn is_handler(kind: BlockKind) -> bool
 }
 
 impl OpenBlock {
-    /// A line with a statement.
+    /// A statement more, and the number of its line.
+    #[inline(always)]
+    fn push(&mut self, statement: Statement, line: u32) -> Result<(), LineFault>
+        ensures { GivesAs (λ _. open_block_of self.new) result
+            (Ok (with_statement (open_block_of self.old) statement line)) }
+    {
+        self.statements.push(statement)?;
+        self.lines.push(line)?;
+        Ok(())
+    }
+
+    /// A line with a statement. Those that come most often have one variable, and their statement is made in place.
+    #[tactic(auto, unfolding(cf_syntax::specs::Text::statement_of))]
     fn statement_line(
         &mut self,
         alloc: Global,
@@ -71,10 +84,28 @@ impl OpenBlock {
         ensures { GivesAs (λ _. record { names = names.new; value = open_block_of self.new }) result
             (with_line classes.now names.old (open_block_of self.old) line (lent words.now)) }
     {
-        let statement = read_statement(alloc, classes, is_handler(self.kind), names, words)?;
-        self.statements.push(statement)?;
-        self.lines.push(line)?;
-        Ok(())
+        let form_word = form_of(words)?;
+        let in_handler = is_handler(self.kind);
+        match form_word.form {
+            StatementForm::Retain => {
+                match read_variable(alloc, in_handler, names, word_at(words, 1)) {
+                    Ok(variable) => self.push(Statement::Retain { variable }, line),
+                    Err(fault) => Err(fault),
+                }
+            }
+            StatementForm::Release => {
+                match read_variable(alloc, in_handler, names, word_at(words, 1)) {
+                    Ok(variable) => self.push(Statement::Release { variable }, line),
+                    Err(fault) => Err(fault),
+                }
+            }
+            _ => {
+                let statement = read_statement(
+                    alloc, classes, in_handler, names, form_word, words,
+                )?;
+                self.push(statement, line)
+            }
+        }
     }
 
     /// The block that a line with this number ends, by the names of its variables.
@@ -189,19 +220,21 @@ impl Reader {
         }
     }
 
-    /// A line more.
+    /// A line more; it may be known that its bytes are ASCII.
     #[tactic(auto, unfolding(cf_syntax::specs::Text::after_line))]
     pub fn after_line<'a>(
         &mut self,
         alloc: Global,
         found: &mut Vec<&'a [u8]>,
         line: &'a [u8],
+        is_ascii: bool,
     ) -> Result<(), LineFault>
-        requires { self.old.count + 1 < 2 ^ 32 }
+        requires count { self.old.count + 1 < 2 ^ 32 }
+        requires ascii { IsTrue is_ascii → IsAscii line.now }
         ensures read { GivesAs (λ _. reading_of self.new) result (after_line [] (reading_of self.old) line.now) }
         ensures count { OnOk result (self.new.count ≡ self.old.count + 1) }
     {
-        if !is_utf8(line) {
+        if !is_line_utf8(line, is_ascii) {
             return Err(LineFault::Faulty(Reason::NotUtf8));
         }
         let count = self.count + 1;

@@ -10,7 +10,8 @@ use cf_number::{Num, NumKind};
 use cf_syntax::{Operand, Reason};
 
 /// Whether a word is a variable that a form may use.
-fn is_variable(in_handler: bool, word: &[u8]) -> bool
+#[inline(always)]
+pub(crate) fn is_variable(in_handler: bool, word: &[u8]) -> bool
     ensures { result ≡ is_variable in_handler word.now }
 {
     is_name(word) || (in_handler && is(word, b"info"))

@@ -36,11 +36,13 @@ pub fn read_script(alloc: Global, bytes: &[u8]) -> Result<Script, ScriptFault>
         return Err(ScriptFault::NoMemory);
     };
     let mut found = Vec::new(alloc);
+    // A text of ASCII alone is UTF-8 in each line.
+    let is_ascii = bytes.is_ascii();
     let mut rest = bytes;
     while !rest.is_empty() {
         let (line, after) = next_line(rest);
         let count = reader.count;
-        if let Err(fault) = reader.after_line(alloc, &mut found, line) {
+        if let Err(fault) = reader.after_line(alloc, &mut found, line, is_ascii) {
             return Err(on_line(count, fault));
         }
         rest = after;

@@ -21,6 +21,7 @@ pub(crate) struct FormWord {
 }
 
 /// Whether a word is the kind of a form, where the form has one.
+#[inline(always)]
 fn is_kind(kind: &Option<&'static [u8]>, word: &[u8]) -> bool
     ensures { result ≡ is_kind (kind_of kind.now) word.now }
 {
@@ -31,6 +32,7 @@ fn is_kind(kind: &Option<&'static [u8]>, word: &[u8]) -> bool
 }
 
 /// Whether the first word of a line is that of a form.
+#[inline(always)]
 fn starts(form_word: &FormWord, words: &[&[u8]]) -> bool
     ensures { result ≡ starts (form_word_of form_word.now) (lent words.now) }
 {
@@ -38,6 +40,7 @@ fn starts(form_word: &FormWord, words: &[&[u8]]) -> bool
 }
 
 /// Whether the words of a line begin a form.
+#[inline(always)]
 fn begins(form_word: &FormWord, words: &[&[u8]]) -> bool
     ensures { result ≡ begins (form_word_of form_word.now) (lent words.now) }
 {
@@ -45,6 +48,7 @@ fn begins(form_word: &FormWord, words: &[&[u8]]) -> bool
 }
 
 /// Whether the words of a line begin a form and are as many as its words.
+#[inline(always)]
 fn fits(form_word: &FormWord, words: &[&[u8]]) -> bool
     ensures { result ≡ (let r = form_word_of form_word.now in
         begins r (lent words.now) && has_count r (lent words.now)) }

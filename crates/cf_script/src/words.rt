@@ -5,6 +5,7 @@ ghost use Rattle.std.specs.Str.{bytes_eq};
 ghost use Rattle.cf_syntax.specs.Words.{is_blank, goes, words, words_from, is_letter, is_name_byte, is_reserved, is_name, is_text, unescape, text_from, text_of};
 ghost use Rattle.cf_syntax.specs.FormStatements.{word_at};
 ghost use Rattle.cf_syntax.specs.FormWords.{needed};
+ghost use Rattle.cf_syntax.specs.declared.place.Place.TheVariants.{Plain};
 ghost use Rattle.cf_syntax.specs.declared.refusal.Reason.TheVariants.{Text};
 ghost use Rattle.cf_script.specs.Gives.{GivesAs};
 ghost use Rattle.cf_script.specs.Views.{lent};
@@ -41,6 +42,7 @@ const RESERVED: [&[u8]; 21] = [
 ];
 
 /// Where the byte after this one stands, or `None` if this one may not stand here.
+#[inline(always)]
 fn goes(place: Place, byte: u8) -> Option<Place>
     ensures { result ≡ goes place byte }
 {
@@ -60,17 +62,6 @@ fn goes(place: Place, byte: u8) -> Option<Place>
         Place::Escaped => None,
         Place::Closed if is_blank(byte) => Some(Place::Between),
         Place::Closed => None,
-    }
-}
-
-/// Where the byte after the first one of a word stands.
-fn start(first: u8) -> Place
-    ensures { result ≡ first_place first }
-{
-    if first == b'"' {
-        Place::Quoted
-    } else {
-        Place::Plain
     }
 }
 
@@ -94,6 +85,35 @@ fn word_len(place: Place, bytes: &[u8]) -> Option<usize>
     }
 }
 
+/// How many bytes go on with a word that is no TEXT, or `None` if a quote is among them. Nearly all are above a quote.
+#[inline(always)]
+fn plain_len(bytes: &[u8]) -> Option<usize>
+    ensures words { MatchOption result (words_from Plain bytes.now ≡ None)
+        (λ n. words_from Plain bytes.now ≡ behind (take n bytes.now) (words (drop n bytes.now))) }
+    ensures within { IfSome result (λ n. n ≤ length bytes.now) }
+{
+    for (i, b) in bytes.iter().enumerate() {
+        if let Place::Between = goes(Place::Plain, *b)? {
+            return Some(i);
+        }
+    }
+    Some(bytes.len())
+}
+
+/// How many bytes go on with a word after its first.
+#[inline(always)]
+fn len_after(first: u8, bytes: &[u8]) -> Option<usize>
+    ensures words { MatchOption result (words_from (first_place first) bytes.now ≡ None)
+        (λ n. words_from (first_place first) bytes.now ≡ behind (take n bytes.now) (words (drop n bytes.now))) }
+    ensures within { IfSome result (λ n. n ≤ length bytes.now) }
+{
+    if first == b'"' {
+        word_len(Place::Quoted, bytes)
+    } else {
+        plain_len(bytes)
+    }
+}
+
 /// The first word, and what stands after it; `None` if it is not of its form.
 fn first_word(bytes: &[u8]) -> Option<(&[u8], &[u8])>
     requires some { 0 < length bytes.now }
@@ -103,7 +123,7 @@ fn first_word(bytes: &[u8]) -> Option<(&[u8], &[u8])>
     ensures shorter { IfSome result (λ r. length r.1.now < length bytes.now) }
 {
     let (_, behind) = bytes.split_at(1);
-    let len = word_len(start(bytes[0]), behind)?;
+    let len = len_after(bytes[0], behind)?;
     Some(bytes.split_at(len + 1))
 }
 
@@ -144,6 +164,7 @@ pub(crate) fn is(word: &[u8], text: &[u8]) -> bool
 }
 
 /// The word at a place, or no bytes where there is none.
+#[inline(always)]
 pub(crate) fn word_at<'a>(words: &[&'a [u8]], i: usize) -> &'a [u8]
     ensures { result.now ≡ word_at (lent words.now) i }
 {

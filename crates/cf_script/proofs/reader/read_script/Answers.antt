@@ -5,12 +5,14 @@ use Rattle.cf_syntax.specs.Text.{Reading}
 use Rattle.cf_script.specs.BlockViews.{reading_of}
 use Rattle.cf_script.proofs.ThreadLaws.{finish, script_finish}
 use Rattle.cf_script.proofs.ReaderLaws.{line_refused}
+use Rattle.cf_script.proofs.Utf8.{where_true}
 use Rattle.cf_script.proofs.reader.read_script.Goals as goal
 
 pub loop-rest-init : goal.loop-rest-init
 loop-rest-init c = record {
   so_far = ap (λ (r : Reading). finish r (lines c.args.bytes.now)) c.in-Ok.ensures ∙ script_finish c.args.bytes.now;
   within = omega (arith, ap (λ (r : Reading). r.count) c.in-Ok.ensures, c.requires);
+  ascii = where_true c.is_ascii-is_ascii.result c.args.bytes.now c.is_ascii-is_ascii.ensures.cases;
 }
 
 pub returns-in-Err : goal.returns-in-Err

@@ -3,6 +3,7 @@ use Rattle.std.proofs.Common.{◌++◌, ◌+◌, ◌-◌, ◌<◌, ◌∙◌, �
 use Rattle.std.proofs.lemmas.Bool.{eqb-true, ltb-true}
 use Rattle.std.proofs.lemmas.Bool.Decides.{nat_tests}
 use Rattle.std.specs.Prelude.{slice_get}
+use Rattle.cf_ids.specs.declared.answer.Answer.{Answer}
 use Rattle.rl_turn.specs.declared.phases.Phase.{Phase}
 use Rattle.cf_syntax.proofs.BlockLaws.{none_first}
 use Rattle.cf_syntax.specs.BlockLines.{BlockLine, begins, claims, handler_lines, line_mentions, line_ownership, line_uses, packs, says}
@@ -21,8 +22,8 @@ use Rattle.cf_next.specs.Facts.{Callout, Facts}
 use Rattle.cf_next.specs.Stands.{Binding, Callee, Frame, Kind, Role, look, of_block, of_handler, of_run, stop_frames}
 use Rattle.cf_next.specs.Turns.{kind_after}
 use Rattle.cf_model.proofs.Leaving.{called_lines, phase_lines}
-use Rattle.cf_model.proofs.Owning.{FitsOwnership, HasOwn, Owns, one_if-none}
-use Rattle.cf_model.proofs.Tokens.{frame}
+use Rattle.cf_model.proofs.Owning.{FitsOwnership, Follows, HasOwn, Owns, none_passed, one_if-none}
+use Rattle.cf_model.proofs.Tokens.{frame, lines_then}
 use Rattle.cf_model.specs.Tokens.{frame_holds, lines_done, one_if}
 
 abbrev pub FramesFit : Script → List Frame → Type 0
@@ -40,14 +41,14 @@ pub phase_fit : (c : Script) (facts : Facts) (t : ℕ) (p : Phase) (list : List 
 phase_fit c facts t p list f h = other_kind c f (kind_after facts t p f.kind) (phase_lines c facts t p f.kind f.block) h
 
 pub none_owns : Owns [] []
-none_owns = record { unbound = λ v e. (refl, refl, refl); most = λ v. omega arith }
+none_owns = record { unbound = λ v e. (refl, refl); most = λ v. omega arith }
 
 pub handler_fit : (c : Script) (k : Callee) (called : Callout) → Owns (lines_done c (handler_frame k called)) (handler_frame k called).bindings
 handler_fit c k called = record {
   unbound = λ v none.
       let none_here : one_of v 0 ≡ 0 = omega (arith, none) in
       let other : eqb 0 v ≡ false = grind (arith, nat_tests) in
-      (omega (arith, none_here), refl, ap (λ (b : Bool). cond b called.info None) other);
+      (omega (arith, none_here), ap (λ (b : Bool). cond b called.info None) other);
   most = λ v. omega arith;
 }
 
@@ -126,7 +127,7 @@ line_fits_ownership s earlier (says x) e = statement_fits_ownership s earlier x 
 
 -- ---- lines at their places
 
-pub take_next : (xs : List BlockLine) (n : ℕ) (x : BlockLine) → slice_get xs n ≡ Some x → take (n + 1) xs ≡ take n xs ++ x ∷ []
+take_next : (xs : List BlockLine) (n : ℕ) (x : BlockLine) → slice_get xs n ≡ Some x → take (n + 1) xs ≡ take n xs ++ x ∷ []
 take_next [] n x e = absurd cc
 take_next (y ∷ xs) zero x e = ap (λ (z : BlockLine). z ∷ []) cc
 take_next (y ∷ xs) (suc n) x e =
@@ -169,6 +170,13 @@ fit_line c f x own e =
       ownership = line_fits_ownership c (lines_done c f) x fit;
       uses = uses_own c (lines_done c f) (line_mentions x) fit;
     }
+
+-- whatever the next line of a frame answers, the frame moves on over it and over lines that may be passed over
+abbrev pub MovesOn : Script → Frame → BlockLine → Type 0
+MovesOn c f x = (answer : Answer) → Follows (lines_done c f) x (lines_then c f x answer)
+
+pub moves_on : (c : Script) (f : Frame) (x : BlockLine) → FitsByBlock c → slice_get (frame_lines c f.kind f.block) f.number ≡ Some x → MovesOn c f x
+moves_on c f x own e answer = none_passed (lines_done c f) x (lines_then c f x answer) (take_next (frame_lines c f.kind f.block) f.number x e)
 
 -- a handler's frame at its end owns one reference to its info, and no other
 pub handler_balance : (c : Script) (f : Frame) (k : Callee) → FitsByBlock c → f.kind ≡ of_handler k → slice_get (handler_lines c f.block) f.number ≡ None → (v o : ℕ) → frame_holds c f v o ≡ one_if (look 0 f.bindings) o (one_of v 0)

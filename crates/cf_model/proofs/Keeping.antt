@@ -21,6 +21,7 @@ use Rattle.cf_model.proofs.Lifting.{Balanced, held_after}
 use Rattle.cf_model.proofs.Owning.{OwnsAfter, count_of, loses, wins}
 use Rattle.cf_model.proofs.Places.{AllPlaces, kinds_apart, moves_lost, moves_other, places_weigh}
 use Rattle.cf_model.proofs.Stepping.{at_depth, held_if_apart, owed-bodies, run_frames_call, run_frames_hold, top_holds}
+use Rattle.cf_model.proofs.Tokens.{lines_then}
 use Rattle.cf_model.specs.Tokens.{HeldAsTold, callouts_hold, frame_holds, frames_hold, lines_done, owed_in}
 use Rattle.cf_model.specs.Own.{moves_to}
 use Rattle.cf_model.specs.State.{State, stand_at}
@@ -65,26 +66,25 @@ pub record LineFlow (t depth : ℕ) (bs : List Binding) (ownership : Ownership) 
   pub lost : (d v o : ℕ) → flow_lost (one (held_by (variable t d v) o)) fl ≡ cond (eqb depth d) (loses bs ownership v o) 0
   pub callouts : NoCallouts t fl
 
-line_after : (c : Script) (facts : Facts) (t : ℕ) (x : BlockLine) (answer : Answer) (list : List ℕ) (f : Frame) (ownership : Ownership) (object : Option ℕ) → take (f.number + 1) (frame_lines c f.kind f.block) ≡ lines_done c f ++ x ∷ [] → line_ownership x ≡ ownership → bound_object facts t answer x ≡ object → (v o : ℕ) → frame_holds c (line_done facts t x answer list f) v o ≡ count_of (lines_done c f ++ x ∷ []) (bindings_by ownership object ++ f.bindings) v o
-line_after c facts t x answer list f ownership object e k b v o = rw (e, k, b) refl
+line_after : (c : Script) (facts : Facts) (t : ℕ) (x : BlockLine) (answer : Answer) (list : List ℕ) (f : Frame) (ownership : Ownership) (object : Option ℕ) → line_ownership x ≡ ownership → bound_object facts t answer x ≡ object → (v o : ℕ) → frame_holds c (line_done facts t x answer list f) v o ≡ count_of (lines_then c f x answer) (bindings_by ownership object ++ f.bindings) v o
+line_after c facts t x answer list f ownership object k b v o = rw (k, b) refl
 
 pub line_keeps : (c : Script) (facts : Facts) (t : ℕ) (f : Frame) (fs : List Frame) (work : List Work) (done : Bool) (x : BlockLine) (answer : Answer) (finals list : List ℕ) (fl : Flow) (ownership : Ownership) (object : Option ℕ)
-    → take (f.number + 1) (frame_lines c f.kind f.block) ≡ lines_done c f ++ x ∷ []
     → line_ownership x ≡ ownership
     → bound_object facts t answer x ≡ object
-    → OwnsAfter x (lines_done c f) f.bindings ownership object
+    → OwnsAfter (lines_done c f) (lines_then c f x answer) f.bindings ownership object
     → LineFlow t (length fs) f.bindings ownership object fl
     → ((o : ℕ) → owed_in o work ≡ 0)
     → ((o : ℕ) → owed_in o (owed_by x list) + flow_lost (one (held_by (owed t) o)) fl ≡ flow_won (one (held_by (owed t) o)) fl)
     → KeepsOwn c t (stand f fs work done) fl (advanced facts t (does x) answer finals list (stand f fs work done))
-line_keeps c facts t f fs work done x answer finals list fl ownership object after k b next flow idle gives =
+line_keeps c facts t f fs work done x answer finals list fl ownership object k b next flow idle gives =
     let g = line_done facts t x answer list f in
     record {
       variables = λ d v o.
           omega (
             arith,
             run_frames_hold c facts.time x (is_entered answer) (g ∷ fs) d v o,
-            top_holds c f g fs (wins f.bindings ownership object) (loses f.bindings ownership) (λ w q. rw (line_after c facts t x answer list f ownership object after k b w q) (next.count w q)) d v o,
+            top_holds c f g fs (wins f.bindings ownership object) (loses f.bindings ownership) (λ w q. rw (line_after c facts t x answer list f ownership object k b w q) (next.count w q)) d v o,
             flow.won d v o,
             flow.lost d v o,
           );

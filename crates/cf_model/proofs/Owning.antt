@@ -1,8 +1,8 @@
 -- What the variables of a frame own, and how a line that is fit changes it.
-use Rattle.std.proofs.Common.{◌++◌, ◌+◌, ◌-◌, ◌<◌, ◌∙◌, ◌∷◌, ◌≡◌, ◌≤◌, Bool, List, None, Option, Some, [], ap, arith, cond, eqb, false, inl, inr, refl, subst, sym, true, ℕ}
+use Rattle.std.proofs.Common.{◌++◌, ◌+◌, ◌-◌, ◌<◌, ◌∙◌, ◌∷◌, ◌≡◌, ◌≤◌, Bool, List, None, Option, Some, [], ap, append-nil, arith, cond, eqb, false, inl, inr, refl, subst, sym, true, ℕ}
 use Rattle.std.proofs.lemmas.Bool.{eq-eqb}
 use Rattle.std.proofs.lemmas.Bool.Decides.{eqb_tells, nat_tests}
-use Rattle.cf_syntax.proofs.OwnedLaws.{total_push}
+use Rattle.cf_syntax.proofs.OwnedLaws.{total_append, total_push}
 use Rattle.cf_syntax.specs.BlockLines.{BlockLine, line_ownership}
 use Rattle.cf_syntax.specs.Owned.{bound, bound_by, given, given_by, one_of, released, released_by, total}
 use Rattle.cf_syntax.specs.declared.mention.Ownership.{Ownership}
@@ -64,9 +64,10 @@ variable_weigh t d v w o (Some x) = elim (eqb_tells v w) [
 
 -- ---- what variables own
 
--- after lines: a variable that is not bound has been given and has nothing, and none has more taken than given
+-- after lines: a variable that is not bound has as many taken as given and has nothing, and none has more taken than
+-- given
 pub record Owns (earlier : List BlockLine) (bs : List Binding) : Type 0 where
-  pub unbound : (v : ℕ) → bound v earlier ≡ 0 → (given v earlier ≡ 0) × (released v earlier ≡ 0) × (look v bs ≡ None)
+  pub unbound : (v : ℕ) → bound v earlier ≡ 0 → (given v earlier ≡ released v earlier) × (look v bs ≡ None)
   pub most : (v : ℕ) → released v earlier ≤ given v earlier
 
 abbrev pub count_of : List BlockLine → List Binding → ℕ → ℕ → ℕ
@@ -83,9 +84,42 @@ abbrev pub loses : List Binding → Ownership → ℕ → ℕ → ℕ
 loses bs (Releases w) v o = one_if (look w bs) o (one_of v w)
 loses bs _ v o = 0
 
-pub record OwnsAfter (x : BlockLine) (earlier : List BlockLine) (bs : List Binding) (ownership : Ownership) (object : Option ℕ) : Type 0 where
-  pub owns : Owns (earlier ++ x ∷ []) (bindings_by ownership object ++ bs)
-  pub count : (v o : ℕ) → count_of (earlier ++ x ∷ []) (bindings_by ownership object ++ bs) v o + loses bs ownership v o ≡ count_of earlier bs v o + wins bs ownership object v o
+-- after a line that binds, gives or takes so: what the variables own by the lines that are then done
+pub record OwnsAfter (earlier later : List BlockLine) (bs : List Binding) (ownership : Ownership) (object : Option ℕ) : Type 0 where
+  pub owns : Owns later (bindings_by ownership object ++ bs)
+  pub count : (v o : ℕ) → count_of later (bindings_by ownership object ++ bs) v o + loses bs ownership v o ≡ count_of earlier bs v o + wins bs ownership object v o
+
+-- ---- the lines after a line
+
+-- lines that are done after earlier ones and one more: these, and lines that are passed over, which give each variable
+-- as many references as they take
+pub record Follows (earlier : List BlockLine) (x : BlockLine) (later : List BlockLine) : Type 0 where
+  pub passed : List BlockLine
+  pub is : later ≡ (earlier ++ x ∷ []) ++ passed
+  pub even : (v : ℕ) → given v passed ≡ released v passed
+
+pub none_passed : (earlier : List BlockLine) (x : BlockLine) (later : List BlockLine) → later ≡ earlier ++ x ∷ [] → Follows earlier x later
+none_passed earlier x later e = record { passed = []; is = e ∙ sym (append-nil (earlier ++ x ∷ [])); even = λ v. refl }
+
+passed_owns : (earlier passed : List BlockLine) (bs : List Binding) → ((v : ℕ) → given v passed ≡ released v passed) → Owns earlier bs → Owns (earlier ++ passed) bs
+passed_owns earlier passed bs even h = record {
+  unbound = λ v none.
+      let u = h.unbound v (omega (arith, none, total_append (bound_by v) earlier passed)) in
+      (omega (arith, u.0, even v, total_append (given_by v) earlier passed, total_append (released_by v) earlier passed), u.1);
+  most = λ v. omega (arith, h.most v, even v, total_append (given_by v) earlier passed, total_append (released_by v) earlier passed);
+}
+
+passed_count : (earlier passed : List BlockLine) (bs : List Binding) → ((v : ℕ) → given v passed ≡ released v passed) → (v o : ℕ) → count_of (earlier ++ passed) bs v o ≡ count_of earlier bs v o
+passed_count earlier passed bs even v o =
+    let g : given v (earlier ++ passed) - released v (earlier ++ passed) ≡ given v earlier - released v earlier = omega (arith, even v, total_append (given_by v) earlier passed, total_append (released_by v) earlier passed) in
+    rw g refl
+
+passed_after : (earlier next later : List BlockLine) (passed : List BlockLine) (bs : List Binding) (ownership : Ownership) (object : Option ℕ) → later ≡ next ++ passed → ((v : ℕ) → given v passed ≡ released v passed) → OwnsAfter earlier next bs ownership object → OwnsAfter earlier later bs ownership object
+passed_after earlier next later passed bs ownership object e even h =
+    subst (λ (ls : List BlockLine). OwnsAfter earlier ls bs ownership object) (sym e) (record {
+      owns = passed_owns next passed (bindings_by ownership object ++ bs) even h.owns;
+      count = λ v o. omega (arith, h.count v o, passed_count next passed (bindings_by ownership object ++ bs) even v o);
+    })
 
 module _ (x : BlockLine) (earlier : List BlockLine) (bs : List Binding) (h : Owns earlier bs) where
   abbrev later : List BlockLine
@@ -102,9 +136,8 @@ module _ (x : BlockLine) (earlier : List BlockLine) (bs : List Binding) (h : Own
     | inl e ↦
         let one_here : one_of v w ≡ 1 = subst (λ (n : ℕ). one_of n w ≡ 1) e.1 (ap (λ (b : Bool). cond b 1 0) (eq-eqb w w refl)) in
         let u = h.unbound v (subst (λ (n : ℕ). bound n earlier ≡ 0) e.1 new) in
-        let g : given v later ≡ 1 = omega (arith, sum_more (given_by v) earlier x (Binds w) t, u.0, one_here) in
-        let k : released v later ≡ 0 = omega (arith, sum_more (released_by v) earlier x (Binds w) t, u.1) in
-        rw (e.0, g, k, one_here, u.2) (omega arith)
+        let g : given v later - released v later ≡ 1 = omega (arith, sum_more (given_by v) earlier x (Binds w) t, sum_more (released_by v) earlier x (Binds w) t, u.0, one_here) in
+        rw (e.0, g, one_here, u.1) (omega arith)
     | inr e ↦
         let none_here : one_of v w ≡ 0 = grind (arith, nat_tests) in
         let g : given v later ≡ given v earlier = omega (arith, sum_more (given_by v) earlier x (Binds w) t, none_here) in
@@ -146,7 +179,7 @@ module _ (x : BlockLine) (earlier : List BlockLine) (bs : List Binding) (h : Own
   keeps_owns t = record {
     unbound = λ v none.
         let u = h.unbound v (before Keeps v t refl none) in
-        (omega (arith, u.0, sum_more (given_by v) earlier x Keeps t), omega (arith, u.1, sum_more (released_by v) earlier x Keeps t), u.2);
+        (omega (arith, u.0, sum_more (given_by v) earlier x Keeps t, sum_more (released_by v) earlier x Keeps t), u.1);
     most = λ v. omega (arith, h.most v, sum_more (given_by v) earlier x Keeps t, sum_more (released_by v) earlier x Keeps t);
   }
 
@@ -156,9 +189,8 @@ module _ (x : BlockLine) (earlier : List BlockLine) (bs : List Binding) (h : Own
         let none_here : one_of v w ≡ 0 = omega (arith, none, sum_more (bound_by v) earlier x (Binds w) t) in
         let u = h.unbound v (omega (arith, none, sum_more (bound_by v) earlier x (Binds w) t)) in
         let other : eqb w v ≡ false = grind (arith, nat_tests) in (
-          omega (arith, u.0, none_here, sum_more (given_by v) earlier x (Binds w) t),
-          omega (arith, u.1, sum_more (released_by v) earlier x (Binds w) t),
-          ap (λ (b : Bool). cond b object (look v bs)) other ∙ u.2,
+          omega (arith, u.0, none_here, sum_more (given_by v) earlier x (Binds w) t, sum_more (released_by v) earlier x (Binds w) t),
+          ap (λ (b : Bool). cond b object (look v bs)) other ∙ u.1,
         );
     most = λ v. omega (arith, h.most v, sum_more (given_by v) earlier x (Binds w) t, sum_more (released_by v) earlier x (Binds w) t);
   }
@@ -174,7 +206,7 @@ module _ (x : BlockLine) (earlier : List BlockLine) (bs : List Binding) (h : Own
     unbound = λ v none.
         let b = before (Retains w) v t refl none in
         let u = h.unbound v b in
-        (omega (arith, u.0, used_none v w some b, sum_more (given_by v) earlier x (Retains w) t), omega (arith, u.1, sum_more (released_by v) earlier x (Retains w) t), u.2);
+        (omega (arith, u.0, used_none v w some b, sum_more (given_by v) earlier x (Retains w) t, sum_more (released_by v) earlier x (Retains w) t), u.1);
     most = λ v. omega (arith, h.most v, sum_more (given_by v) earlier x (Retains w) t, sum_more (released_by v) earlier x (Retains w) t);
   }
 
@@ -183,7 +215,7 @@ module _ (x : BlockLine) (earlier : List BlockLine) (bs : List Binding) (h : Own
     unbound = λ v none.
         let b = before (Releases w) v t refl none in
         let u = h.unbound v b in
-        (omega (arith, u.0, sum_more (given_by v) earlier x (Releases w) t), omega (arith, u.1, used_none v w some b, sum_more (released_by v) earlier x (Releases w) t), u.2);
+        (omega (arith, u.0, used_none v w some b, sum_more (given_by v) earlier x (Releases w) t, sum_more (released_by v) earlier x (Releases w) t), u.1);
     most = λ v. elim (eqb_tells v w) [
       | inl e ↦
           let here : released v earlier < given v earlier = subst (λ (n : ℕ). released n earlier < given n earlier) (sym e.1) more in
@@ -195,11 +227,15 @@ module _ (x : BlockLine) (earlier : List BlockLine) (bs : List Binding) (h : Own
     ];
   }
 
-  pub owns_after : (ownership : Ownership) (object : Option ℕ) → line_ownership x ≡ ownership → FitsOwnership earlier ownership → OwnsAfter x earlier bs ownership object
-  owns_after Keeps object t fit = record { owns = keeps_owns t; count = λ v o. omega (arith, keeps_owned t v o) }
-  owns_after (Binds w) object t fit = record {
+  owns_next : (ownership : Ownership) (object : Option ℕ) → line_ownership x ≡ ownership → FitsOwnership earlier ownership → OwnsAfter earlier later bs ownership object
+  owns_next Keeps object t fit = record { owns = keeps_owns t; count = λ v o. omega (arith, keeps_owned t v o) }
+  owns_next (Binds w) object t fit = record {
     owns = binds_owns w object t;
     count = λ v o. omega (arith, binds_owned w object t fit v o);
   }
-  owns_after (Retains w) object t fit = record { owns = retains_owns w t fit.is_bound; count = λ v o. omega (arith, retains_owned w t v o) }
-  owns_after (Releases w) object t fit = record { owns = releases_owns w t fit.is_bound fit.more; count = λ v o. omega (arith, releases_owned w t fit.more v o) }
+  owns_next (Retains w) object t fit = record { owns = retains_owns w t fit.is_bound; count = λ v o. omega (arith, retains_owned w t v o) }
+  owns_next (Releases w) object t fit = record { owns = releases_owns w t fit.is_bound fit.more; count = λ v o. omega (arith, releases_owned w t fit.more v o) }
+
+  -- after the line, and those that are passed over
+  pub owns_after : (all : List BlockLine) → Follows earlier x all → (ownership : Ownership) (object : Option ℕ) → line_ownership x ≡ ownership → FitsOwnership earlier ownership → OwnsAfter earlier all bs ownership object
+  owns_after all after ownership object t fit = passed_after earlier later all after.passed bs ownership object after.is after.even (owns_next ownership object t fit)

@@ -30,7 +30,8 @@ use Rattle.cf_next.specs.Stands.{Binding, Frame, Work, look, release_of}
 use Rattle.cf_model.proofs.Balance.{IsBalanced, IsLive, live_there}
 use Rattle.cf_model.proofs.DealLaws.{FitsDeal}
 use Rattle.cf_model.proofs.Fitting.{one_there}
-use Rattle.cf_model.proofs.FrameOrder.{FitLine, HaveOwn}
+use Rattle.cf_model.proofs.FrameOrder.{FitLine, HaveOwn, MovesOn}
+use Rattle.cf_model.proofs.Tokens.{lines_then}
 use Rattle.cf_model.proofs.Keeping.{KeepsOwn, LineFlow, OwnHeld, bind_flow, claim_flow, deal_flow, line_keeps, no_slots_owed, pack_flow, release_flow, retain_flow, skip_flow, stand}
 use Rattle.cf_model.proofs.OwnLaws.{own_all, own_has}
 use Rattle.cf_model.proofs.Owning.{FitsOwnership, HasOwn, Owns, OwnsAfter, owns_after}
@@ -162,9 +163,9 @@ module _ (c : Script) (t : ℕ) (st : State) (f : Frame) (fs : List Frame) (work
   abbrev LineKept : BlockLine → Step → Type 0
   LineKept x step = KeepsOwn c t (stand f fs work done) step.flow (advanced (facts_of st) t (does x) (step_answer step st) (step_finals step st) step.list (stand f fs work done))
 
-  module _ (x : BlockLine) (fit : FitLine (lines_done c f) x) (after : take (f.number + 1) (frame_lines c f.kind f.block) ≡ lines_done c f ++ x ∷ []) where
-    after_line : (ownership : Ownership) (object : Option ℕ) → line_ownership x ≡ ownership → OwnsAfter x (lines_done c f) bs ownership object
-    after_line ownership object k = owns_after x (lines_done c f) bs owns ownership object k (subst (FitsOwnership (lines_done c f)) k fit.ownership)
+  module _ (x : BlockLine) (fit : FitLine (lines_done c f) x) (after : MovesOn c f x) where
+    after_line : (answer : Answer) (ownership : Ownership) (object : Option ℕ) → line_ownership x ≡ ownership → OwnsAfter (lines_done c f) (lines_then c f x answer) bs ownership object
+    after_line answer ownership object k = owns_after x (lines_done c f) bs owns (lines_then c f x answer) (after answer) ownership object k (subst (FitsOwnership (lines_done c f)) k fit.ownership)
 
     -- a line by its flow
     by_flow : (step : Step) (ownership : Ownership) (object : Option ℕ) → line_ownership x ≡ ownership → bound_object (facts_of st) t (step_answer step st) x ≡ object
@@ -172,9 +173,9 @@ module _ (c : Script) (t : ℕ) (st : State) (f : Frame) (fs : List Frame) (work
         → ((o : ℕ) → owed_in o (owed_by x step.list) + flow_lost (one (held_by (owed t) o)) step.flow ≡ flow_won (one (held_by (owed t) o)) step.flow)
         → LineKept x step
     by_flow step ownership object k b flow gives =
-        line_keeps c (facts_of st) t f fs work done x (step_answer step st) (step_finals step st) step.list step.flow ownership object after k b (after_line ownership object k) flow idle_work gives
+        line_keeps c (facts_of st) t f fs work done x (step_answer step st) (step_finals step st) step.list step.flow ownership object k b (after_line (step_answer step st) ownership object k) flow idle_work gives
 
-  module _ (x : Statement) (fit : FitLine (lines_done c f) (says x)) (after : take (f.number + 1) (frame_lines c f.kind f.block) ≡ lines_done c f ++ says x ∷ []) where
+  module _ (x : Statement) (fit : FitLine (lines_done c f) (says x)) (after : MovesOn c f (says x)) where
     abbrev used : List (Option ℕ)
     used = used_objects bs (says x)
 
@@ -222,11 +223,11 @@ module _ (c : Script) (t : ℕ) (st : State) (f : Frame) (fs : List Frame) (work
     statement_keeps (Retains v) k fits = retain_by v (first_of used) k (first_looked v (retain_is x v k))
     statement_keeps (Releases v) k fits = release_by v (first_of used) k (first_looked v (release_is x v k))
 
-  pub begin_keeps : (v : ℕ) → FitLine (lines_done c f) (begins v) → take (f.number + 1) (frame_lines c f.kind f.block) ≡ lines_done c f ++ begins v ∷ [] → LineKept (begins v) (idle st answers.Ok)
+  pub begin_keeps : (v : ℕ) → FitLine (lines_done c f) (begins v) → MovesOn c f (begins v) → LineKept (begins v) (idle st answers.Ok)
   begin_keeps v fit after = by_flow (begins v) fit after (idle st answers.Ok) (Binds v) None refl refl (bind_flow t depth v 0 bs None nowhere) (λ o. refl)
 
   -- a claim, and a pack
-  pub claim_keeps : (k v : ℕ) → FitLine (lines_done c f) (claims k v) → take (f.number + 1) (frame_lines c f.kind f.block) ≡ lines_done c f ++ claims k v ∷ [] → LineKept (claims k v) (line_step c t depth st bs (claims k v))
+  pub claim_keeps : (k v : ℕ) → FitLine (lines_done c f) (claims k v) → MovesOn c f (claims k v) → LineKept (claims k v) (line_step c t depth st bs (claims k v))
   claim_keeps k v fit after = by (first_held (parcel t k) st.edges) refl
     where
       by : (object : Option ℕ) → first_held (parcel t k) st.edges ≡ object → LineKept (claims k v) (claim_step st (parcel t k) object (variable t depth v))
@@ -235,7 +236,7 @@ module _ (c : Script) (t : ℕ) (st : State) (f : Frame) (fs : List Frame) (work
           by_flow (claims k v) fit after (claim_step st (parcel t k) (Some p) (variable t depth v)) (Binds v) (Some p) refl is (claim_flow t depth v k bs (Some p))
           (λ o. omega (arith, holders_apart (held_by (owed t) o) (held_by (variable t depth v) p) (kinds_apart (owed t) (variable t depth v) refl), holders_apart (held_by (owed t) o) (held_by (parcel t k) p) (kinds_apart (owed t) (parcel t k) refl)))
 
-  pub pack_keeps : (u k : ℕ) (v : Option ℕ) → FitLine (lines_done c f) (packs u k v) → take (f.number + 1) (frame_lines c f.kind f.block) ≡ lines_done c f ++ packs u k v ∷ [] → LineKept (packs u k v) (line_step c t depth st bs (packs u k v))
+  pub pack_keeps : (u k : ℕ) (v : Option ℕ) → FitLine (lines_done c f) (packs u k v) → MovesOn c f (packs u k v) → LineKept (packs u k v) (line_step c t depth st bs (packs u k v))
   pack_keeps u k None fit after =
       by_flow (packs u k None) fit after (line_step c t depth st bs (packs u k None)) Keeps None refl refl (deal_flow t depth bs None [] [] tt tt) (λ o. refl)
   pack_keeps u k (Some v) fit after = by (look v bs) refl

@@ -26,12 +26,13 @@ use Rattle.cf_next.specs.declared.action.Action.{Action}
 use Rattle.cf_next.specs.declared.action.Action.TheVariants as actions
 use Rattle.cf_model.proofs.Acting.{demand_fits}
 use Rattle.cf_model.proofs.DealLaws.{FitsDeal, invalidate_fits, quiet_fits, same_bodies}
-use Rattle.cf_model.proofs.FrameOrder.{FramesFit, called_fit, fit_line, handler_balance, handler_fit, none_owns, phase_fit, run_frames_fit, stop_fit, take_next}
+use Rattle.cf_model.proofs.FrameOrder.{FramesFit, called_fit, fit_line, handler_balance, handler_fit, moves_on, none_owns, phase_fit, run_frames_fit, stop_fit}
 use Rattle.cf_model.proofs.Keeping.{KeepsOwn, OwnHeld, all_held, stand}
 use Rattle.cf_model.proofs.Leaving.{calls_keeps, close_keeps, drops_keeps, end_keeps, owes_keeps, phase_keeps, returns_keeps, spends_keeps}
 use Rattle.cf_model.proofs.OwnLaws.{own_has}
 use Rattle.cf_model.proofs.Owning.{Owns, owns_after}
 use Rattle.cf_model.proofs.Places.{objects_in}
+use Rattle.cf_model.proofs.Tokens.{lines_then}
 use Rattle.cf_model.proofs.Saying.{begin_keeps, claim_keeps, pack_keeps, statement_keeps, used_live}
 use Rattle.cf_model.proofs.Spending.{start_spends, step_spends}
 use Rattle.cf_model.proofs.Steady.{IsSteady, start_steady, step_steady, ticked_steady}
@@ -53,7 +54,7 @@ use Rattle.cf_model.specs.declared.entry.Entry.{Entry}
 
 line_fit : (c : Script) (facts : Facts) (t : ℕ) (x : BlockLine) (answer : Answer) (list : List ℕ) (f : Frame) → FitsByBlock c → slice_get (frame_lines c f.kind f.block) f.number ≡ Some x → Owns (lines_done c f) f.bindings → Owns (lines_done c (line_done facts t x answer list f)) (line_done facts t x answer list f).bindings
 line_fit c facts t x answer list f own at owns =
-    rw (take_next (frame_lines c f.kind f.block) f.number x at) (owns_after x (lines_done c f) f.bindings owns (line_ownership x) (bound_object facts t answer x) refl (fit_line c f x own at).ownership).owns
+    (owns_after x (lines_done c f) f.bindings owns (lines_then c f x answer) (moves_on c f x own at answer) (line_ownership x) (bound_object facts t answer x) refl (fit_line c f x own at).ownership).owns
 
 -- the frames after a demand
 demand_fit : (c : Script) (facts : Facts) (t : ℕ) (d : Demand) (answer : Answer) (list : List ℕ) (f : Frame) (fs : List Frame) → FitsByBlock c → FramesFit c (f ∷ fs) → FrameView c facts t f d → FramesFit c (frames_after facts t d answer list (f ∷ fs))
@@ -157,14 +158,14 @@ module _ (c : Script) (t : ℕ) (st : State) (own : FitsByBlock c) (h : IsSteady
       let fit = fit_line c f (says x) own at in
       let used = used_objects f.bindings (says x) in
       let vs = line_uses (says x) in
-      statement_keeps c t st f fs work done held owns idle x fit (take_next (frame_lines c f.kind f.block) f.number (says x) at) (ownership_of x) refl
+      statement_keeps c t st f fs work done held owns idle x fit (moves_on c f (says x) own at) (ownership_of x) refl
       (deal_of_fits c t st h x used (λ unskipped. used_live c t st f fs work done held owns idle h.balance vs (3 - length vs) fit.uses))
   line_kept f fs work done (claims k v) held owns idle at =
-      claim_keeps c t st f fs work done held owns idle k v (fit_line c f (claims k v) own at) (take_next (frame_lines c f.kind f.block) f.number (claims k v) at)
+      claim_keeps c t st f fs work done held owns idle k v (fit_line c f (claims k v) own at) (moves_on c f (claims k v) own at)
   line_kept f fs work done (packs u k v) held owns idle at =
-      pack_keeps c t st f fs work done held owns idle u k v (fit_line c f (packs u k v) own at) (take_next (frame_lines c f.kind f.block) f.number (packs u k v) at)
+      pack_keeps c t st f fs work done held owns idle u k v (fit_line c f (packs u k v) own at) (moves_on c f (packs u k v) own at)
   line_kept f fs work done (begins v) held owns idle at =
-      begin_keeps c t st f fs work done held owns idle v (fit_line c f (begins v) own at) (take_next (frame_lines c f.kind f.block) f.number (begins v) at)
+      begin_keeps c t st f fs work done held owns idle v (fit_line c f (begins v) own at) (moves_on c f (begins v) own at)
 
   frame_kept : (f : Frame) (fs : List Frame) (work : List Work) (done : Bool) (d : Demand) → OwnHeld c t st.edges (stand f fs work done) → Owns (lines_done c f) f.bindings → ((o : ℕ) → owed_in o work ≡ 0) → FrameView c (facts_of st) t f d → DemandKept c t st work done d (f ∷ fs)
   frame_kept f fs work done _ held owns idle (is_call k called found) =

@@ -1,7 +1,11 @@
 -- A stand that is stopped holds the same.
-use Rattle.std.proofs.Common.{◌∙◌, ◌∷◌, ◌≡◌, List, None, Option, Some, [], ap, inl, inr, length, refl, subst, suc, sym, zero, ℕ}
+use Rattle.std.proofs.Common.{◌+◌, ◌∙◌, ◌∷◌, ◌≡◌, List, None, Option, Some, [], ap, inl, inr, length, refl, subst, suc, sym, take, zero, ℕ}
 use Rattle.std.proofs.lemmas.Bool.Decides.{eqb_tells}
+use Rattle.cf_ids.specs.declared.answer.Answer.{Answer}
+use Rattle.cf_syntax.specs.BlockLines.{BlockLine}
 use Rattle.cf_syntax.specs.declared.script.Script.{Script}
+use Rattle.cf_next.specs.Advance.{lines_passed}
+use Rattle.cf_next.specs.Demands.{frame_lines}
 use Rattle.cf_next.specs.Stands.{Binding, Callee, Frame, Kind, Stand, of_block, of_handler, of_run, stop_frames, stop_stand}
 use Rattle.cf_model.specs.State.{at_or, blank, stand_at, with_at}
 use Rattle.cf_model.specs.Steps.{stopped_at}
@@ -33,6 +37,10 @@ at_other a (suc m) (suc n) y [] h = at_other a m n y [] (λ q. h (ap suc q)) ∙
 at_other a (suc m) (suc n) y (x ∷ xs) h = at_other a m n y xs (λ q. h (ap suc q))
 
 -- ---- what is stopped holds the same
+
+-- the lines that are done after the next line of a frame, by what that answers
+abbrev pub lines_then : Script → Frame → BlockLine → Answer → List BlockLine
+lines_then c f x answer = take (f.number + lines_passed x answer) (frame_lines c f.kind f.block)
 
 abbrev pub frame : Kind → (block number : ℕ) → List Binding → List Callee → Frame
 frame k b n bs cs = record { kind = k; block = b; number = n; bindings = bs; collected = cs }

@@ -46,12 +46,16 @@ receivers_in x list = if is_post x then map (callee as_receiver) list else []
 abbrev pub owed_by : BlockLine → List ℕ → List Work
 owed_by x list = if is_post x then [] else map release_of list
 
+-- how many lines a line moves its frame on: one, to the line after it
+abbrev pub lines_passed : BlockLine → Answer → ℕ
+lines_passed x answer = 1
+
 -- a frame after a line of it is done
 abbrev pub line_done : Facts → ℕ → BlockLine → Answer → List ℕ → Frame → Frame
 line_done facts t x answer list f = record {
   kind = f.kind;
   block = f.block;
-  number = f.number + 1;
+  number = f.number + lines_passed x answer;
   bindings = bindings_by (line_ownership x) (bound_object facts t answer x) ++ f.bindings;
   collected = receivers_in x list;
 }

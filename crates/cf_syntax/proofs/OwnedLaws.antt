@@ -5,6 +5,11 @@ use Rattle.cf_syntax.specs.declared.mention.Ownership.TheVariants.{Keeps, Binds,
 use Rattle.cf_syntax.specs.BlockLines.{BlockLine, line_ownership}
 use Rattle.cf_syntax.specs.Owned.{total, bound_by, given_by, released_by}
 
+-- lines after lines
+pub total_append : (f : Ownership → ℕ) (xs ys : List BlockLine) → total f (xs ++ ys) ≡ total f xs + total f ys
+total_append f [] ys = omega arith
+total_append f (x ∷ xs) ys = omega (arith, total_append f xs ys)
+
 -- one line more
 pub total_push : (f : Ownership → ℕ) (ss : List BlockLine) (s : BlockLine)
     → total f (ss ++ s ∷ []) ≡ total f ss + f (line_ownership s)

@@ -31,6 +31,7 @@ use Rattle.cf_next.specs.Stands.{Turn, Kind, of_run, of_handler, of_block, Frame
 use Rattle.cf_next.specs.Demands.{Demand, does, ends, returns, owes, spends, drops, calls, enters, closes}
 use Rattle.cf_next.specs.Advance.{top_kind}
 use Rattle.cf_next.specs.Next.{object_at, site_in, used_objects, top_frame, phase_action, action_in}
+use Rattle.cf_model.proofs.Phases.{phase_case}
 use Rattle.cf_model.specs.declared.entry.Entry.{Entry}
 use Rattle.cf_model.specs.State.{awake, until, flags_at, first_held, Parts, State, start}
 use Rattle.cf_model.specs.Known.{facts_of}
@@ -151,23 +152,8 @@ no_cut_tells st step c open_flow e = record { finals = λ o. by step.flow open_f
     by (grows ins ms) open_flow o = final_none o step.answer c e
     by (shrinks r) open_flow o = absurd open_flow
 
-either_no_cut : (b : Bool) (x y : Step) → IsNoCut x.flow → IsNoCut y.flow → IsNoCut (cond b x y).flow
-either_no_cut true x y h k = h
-either_no_cut false x y h k = k
-
-turn_open : (st : State) (t : ℕ) (r : Turn) (p : Phase) → IsNoCut (turn_step st t r p).flow
-turn_open st t r phases.Sleep =
-    let date = mode_date st t r.mode in
-    let until_date = earlier r.deadline date in
-    either_no_cut (flags_at t st.parts.flags).is_woken (sleeping st t answers.Woken awake) (unwoken_step st t r) tt
-    (either_no_cut (has_come r.deadline st.parts.time || has_come date st.parts.time) (idle st answers.Due) (sleeping st t (answers.Asleep until_date) (until until_date)) tt tt)
-turn_open st t r phases.Test = tt
-turn_open st t r p = tt
-
 open_phase : (st : State) (t : ℕ) (p : Phase) (k : Kind) → IsNoCut (phase_step st t p k).flow
-open_phase st t p of_block = tt
-open_phase st t p (of_handler k) = tt
-open_phase st t p (of_run r) = turn_open st t r p
+open_phase st t p k = phase_case (λ (s : Step). IsNoCut s.flow) st t p k (record { woken = tt; due = tt; sleeps = λ d. tt; tests = λ r. tt; collects = λ l. tt })
 
 open_close : (st : State) (k : Kind) → IsNoCut (close_step st k).flow
 open_close st of_block = tt

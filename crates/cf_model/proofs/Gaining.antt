@@ -34,6 +34,7 @@ use Rattle.cf_next.specs.Stands.{item_of, Turn, Kind, of_block, of_handler, of_r
 use Rattle.cf_next.specs.Demands.{Demand, does, ends, returns, owes, spends, drops, calls, enters, closes}
 use Rattle.cf_next.specs.Advance.{top_kind}
 use Rattle.cf_next.specs.Next.{object_at, used_objects}
+use Rattle.cf_model.proofs.Phases.{phase_case}
 use Rattle.cf_model.specs.State.{Parts, State, awake, until, flags_at, stand_at, modes_of, objects_of, is_common, first_held}
 use Rattle.cf_model.specs.Things.{Thing, thing_at, mode_date}
 use Rattle.cf_model.specs.Own.{own_reference, present_of}
@@ -252,23 +253,8 @@ module _ (s : Script) (t : ℕ) (st : State) (o : ℕ) (modes : length s.modes �
       by (Some p) = omega arith
   line_few fs (says x) = statement_few (depth_of fs) x (used_objects (bindings_of fs) (says x)) (ownership_of x)
 
-  step_either : (b : Bool) (x y : Step) → gains o x.flow ≤ 1025 → gains o y.flow ≤ 1025 → gains o (cond b x y).flow ≤ 1025
-  step_either true x y h k = h
-  step_either false x y h k = k
-
-  turn_few : (r : Turn) (p : Phase) → gains o (turn_step st t r p).flow ≤ 1025
-  turn_few r phases.Sleep =
-      let date = mode_date st t r.mode in
-      let until_date = earlier r.deadline date in
-      step_either (flags_at t st.parts.flags).is_woken (sleeping st t answers.Woken awake) (unwoken_step st t r) (omega arith)
-      (step_either (has_come r.deadline st.parts.time || has_come date st.parts.time) (idle st answers.Due) (sleeping st t (answers.Asleep until_date) (until until_date)) (omega arith) (omega arith))
-  turn_few r phases.Test = omega arith
-  turn_few r p = omega arith
-
   phase_few : (p : Phase) (k : Kind) → gains o (phase_step st t p k).flow ≤ 1025
-  phase_few p of_block = omega arith
-  phase_few p (of_handler k) = omega arith
-  phase_few p (of_run r) = turn_few r p
+  phase_few p k = phase_case (λ (s : Step). gains o s.flow ≤ 1025) st t p k (record { woken = omega arith; due = omega arith; sleeps = λ d. omega arith; tests = λ r. omega arith; collects = λ l. omega arith })
 
   close_few : (k : Kind) → gains o (close_step st k).flow ≤ 1025
   close_few of_block = omega arith

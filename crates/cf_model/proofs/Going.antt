@@ -25,6 +25,7 @@ use Rattle.cf_next.specs.Next.{object_at, used_objects}
 use Rattle.cf_next.specs.Stands.{Binding, Frame, Kind, Stand, Turn, has_run, item_of, of_block, of_handler, of_run, stop_stand}
 use Rattle.cf_next.specs.declared.action.Action.{Action}
 use Rattle.cf_next.specs.declared.action.Action.TheVariants as actions
+use Rattle.cf_model.proofs.Phases.{phase_case}
 use Rattle.cf_model.proofs.Tokens.{at_other, at_own}
 use Rattle.cf_model.specs.Deals.{Deal, change_deal, change_unless_skipped, deal_of, holds_at, invalidate_deal, is_elsewhere, place_in, signal_deal, stays_in_one, thing_deal, thread_in, wake_flags, wake_parts, with_filter, with_thing, with_used, woken_by}
 use Rattle.cf_model.specs.Journals.{after_action, can_go, is_asleep, is_going, sleeps, tick_flags, wake_at}
@@ -189,26 +190,11 @@ module _ (w : ℕ) (st : State) where
   close_go (of_handler k) = same_go
 
   module _ (t : ℕ) (apart : w ≡ t → ⊥) where
-    either_step : (b : Bool) (x y : Step) → StepGo x → StepGo y → StepGo (cond b x y)
-    either_step true x y h k = h
-    either_step false x y h k = k
-
     sleep_go : (answer : Answer) (sleep : Sleeping) → StepGo (sleeping st t answer sleep)
     sleep_go answer sleep = other_goes w t _ st.parts.flags apart
 
-    turn_go : (r : Turn) (p : Phase) → StepGo (turn_step st t r p)
-    turn_go r phases.Sleep =
-        let date = mode_date st t r.mode in
-        let least = earlier r.deadline date in
-        either_step (flags_at t st.parts.flags).is_woken (sleeping st t answers.Woken awake) (unwoken_step st t r) (sleep_go answers.Woken awake)
-        (either_step (has_come r.deadline st.parts.time || has_come date st.parts.time) (idle st answers.Due) (sleeping st t (answers.Asleep least) (until least)) same_go (sleep_go (answers.Asleep least) (until least)))
-    turn_go r phases.Test = same_go
-    turn_go r p = same_go
-
     phase_go : (p : Phase) (k : Kind) → StepGo (phase_step st t p k)
-    phase_go p (of_run r) = turn_go r p
-    phase_go p of_block = same_go
-    phase_go p (of_handler k) = same_go
+    phase_go p k = phase_case StepGo st t p k (record { woken = sleep_go answers.Woken awake; due = same_go; sleeps = λ d. sleep_go (answers.Asleep d) (until d); tests = λ r. same_go; collects = λ l. same_go })
 
     -- what another thread demands leaves this one going
     pub step_go : (s : Script) (fs : List Frame) (d : Demand) → StepGo (step_of s t st fs d)

@@ -25,6 +25,7 @@ use Rattle.cf_graph.specs.Flows.{grows}
 use Rattle.cf_graph.proofs.Flows.{AllOwn, other_weigh, holders_apart, one_own}
 use Rattle.cf_next.specs.Facts.{Callout}
 use Rattle.cf_next.specs.Stands.{Callee, item_of, Turn, Kind, of_block, of_handler, of_run}
+use Rattle.cf_model.proofs.Phases.{phase_case}
 use Rattle.cf_model.specs.State.{until, awake, Sleeping, flags_at, Parts, State, left_of, is_live}
 use Rattle.cf_model.specs.Things.{Thing, thing_at, mode_date}
 use Rattle.cf_model.specs.Deals.{Deal, okay, deal_of, posts_of}
@@ -210,29 +211,11 @@ call_fits t d st kind k c live_info live_item =
     gains_fit t st (call_step t d st kind k c) (call_references t d c.info (item_of k)) (fired_bodies st (item_of k)) refl (call_of t d c.info (item_of k))
     (call_leads st t d c.info (item_of k) live_info live_item)
 
-either_fits : (t : ℕ) (st : State) (b : Bool) (x y : Step) → StepFits t st x → StepFits t st y → StepFits t st (cond b x y)
-either_fits t st true x y p q = p
-either_fits t st false x y p q = q
-
 sleeper_fits : (t : ℕ) (st : State) (answer : Answer) (sleep : Sleeping) → StepFits t st (sleeping st t answer sleep)
 sleeper_fits t st answer sleep = still_fits t st _ (flags_bodies st (with_sleep st.parts t sleep).flags) refl
 
-sleep_fits : (t : ℕ) (st : State) (r : Turn) → StepFits t st (sleep_step st t r)
-sleep_fits t st r =
-    let date = mode_date st t r.mode in
-    let until_date = earlier r.deadline date in
-    either_fits t st (flags_at t st.parts.flags).is_woken (sleeping st t answers.Woken awake) (unwoken_step st t r) (sleeper_fits t st answers.Woken awake)
-    (either_fits t st (has_come r.deadline st.parts.time || has_come date st.parts.time) (idle st answers.Due) (sleeping st t (answers.Asleep until_date) (until until_date)) (idle_fits t st answers.Due) (sleeper_fits t st (answers.Asleep until_date) (until until_date)))
-
-turn_fits : (t : ℕ) (st : State) (r : Turn) (p : Phase) → StepFits t st (turn_step st t r p)
-turn_fits t st r phases.Sleep = sleep_fits t st r
-turn_fits t st r phases.Test = idle_fits t st _
-turn_fits t st r p = still_fits t st _ (same_bodies st) refl
-
 pub phase_fits : (t : ℕ) (st : State) (p : Phase) (kind : Kind) → StepFits t st (phase_step st t p kind)
-phase_fits t st p of_block = idle_fits t st _
-phase_fits t st p (of_handler k) = idle_fits t st _
-phase_fits t st p (of_run r) = turn_fits t st r p
+phase_fits t st p kind = phase_case (StepFits t st) st t p kind (record { woken = sleeper_fits t st answers.Woken awake; due = idle_fits t st answers.Due; sleeps = λ d. sleeper_fits t st (answers.Asleep d) (until d); tests = λ r. idle_fits t st _; collects = λ l. still_fits t st _ (same_bodies st) refl })
 
 pub close_fits : (t : ℕ) (st : State) (kind : Kind) → StepFits t st (close_step st kind)
 close_fits t st of_block = idle_fits t st _

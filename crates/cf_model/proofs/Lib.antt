@@ -7,6 +7,7 @@ pub mod Owning
 pub mod Stepping
 pub mod Coming
 pub mod Balance
+pub mod Phases
 pub mod OwnLaws
 pub mod Places
 pub mod DealLaws

@@ -22,6 +22,7 @@ use Rattle.cf_graph.specs.Holders.{Holder, parcel, variable}
 use Rattle.cf_next.specs.Demands.{Demand, does, frame_lines}
 use Rattle.cf_next.specs.Next.{action_in, object_at, used_objects}
 use Rattle.cf_next.specs.Stands.{Frame, Kind, Stand, Turn, Work, item_of, of_block, of_handler, of_run}
+use Rattle.cf_model.proofs.Phases.{phase_case}
 use Rattle.cf_model.proofs.Acting.{demand_fits}
 use Rattle.cf_model.proofs.Balance.{IsLive}
 use Rattle.cf_model.proofs.FrameOrder.{FramesFit, fit_line}
@@ -84,23 +85,8 @@ module _ (c : Script) (t : ℕ) (st : State) (own : FitsByBlock c) (h : IsSound 
   pack_go k l None = quiet
   pack_go k l (Some o) = quiet
 
-  either_go : (b : Bool) (x y : Step) → StepGo x → StepGo y → StepGo (cond b x y)
-  either_go true x y p q = p
-  either_go false x y p q = q
-
-  turn_go : (r : Turn) (p : Phase) → StepGo (turn_step st t r p)
-  turn_go r phases.Sleep =
-      let date = mode_date st t r.mode in
-      let least = earlier r.deadline date in
-      either_go (flags_at t st.parts.flags).is_woken (sleeping st t answers.Woken awake) (unwoken_step st t r) quiet
-      (either_go (has_come r.deadline st.parts.time || has_come date st.parts.time) (idle st answers.Due) (sleeping st t (answers.Asleep least) (until least)) quiet quiet)
-  turn_go r phases.Test = quiet
-  turn_go r p = quiet
-
   phase_go : (p : Phase) (k : Kind) → StepGo (phase_step st t p k)
-  phase_go p (of_run r) = turn_go r p
-  phase_go p of_block = quiet
-  phase_go p (of_handler k) = quiet
+  phase_go p k = phase_case StepGo st t p k (record { woken = quiet; due = quiet; sleeps = λ d. quiet; tests = λ r. quiet; collects = λ l. quiet })
 
   close_go : (k : Kind) → StepGo (close_step st k)
   close_go (of_run r) = quiet

@@ -24,6 +24,7 @@ use Rattle.cf_next.specs.Next.{action_in, used_objects}
 use Rattle.cf_next.specs.Stands.{Frame, Kind, Stand, Turn, Work, of_block, of_handler, of_run, opening_stand, stop_stand}
 use Rattle.cf_next.specs.declared.action.Action.{Action}
 use Rattle.cf_next.specs.declared.action.Action.TheVariants as actions
+use Rattle.cf_model.proofs.Phases.{phase_case}
 use Rattle.cf_model.proofs.Acting.{demand_fits}
 use Rattle.cf_model.proofs.DealLaws.{FitsDeal, invalidate_fits, quiet_fits, same_bodies}
 use Rattle.cf_model.proofs.FrameOrder.{FramesFit, called_fit, fit_line, handler_balance, handler_fit, moves_on, none_owns, phase_fit, run_frames_fit, stop_fit}
@@ -31,8 +32,8 @@ use Rattle.cf_model.proofs.Keeping.{KeepsOwn, OwnHeld, all_held, stand}
 use Rattle.cf_model.proofs.Leaving.{calls_keeps, close_keeps, drops_keeps, end_keeps, owes_keeps, phase_keeps, returns_keeps, spends_keeps}
 use Rattle.cf_model.proofs.OwnLaws.{own_has}
 use Rattle.cf_model.proofs.Owning.{Owns, owns_after}
-use Rattle.cf_model.proofs.Places.{objects_in}
 use Rattle.cf_model.proofs.Tokens.{lines_then}
+use Rattle.cf_model.proofs.Places.{objects_in}
 use Rattle.cf_model.proofs.Saying.{begin_keeps, claim_keeps, pack_keeps, statement_keeps, used_live}
 use Rattle.cf_model.proofs.Spending.{start_spends, step_spends}
 use Rattle.cf_model.proofs.Steady.{IsSteady, start_steady, step_steady, ticked_steady}
@@ -91,21 +92,8 @@ all_fit c t new ss mine h u = elim (eqb_tells u t) [
 
 -- ---- steps that do nothing to references
 
-either_still : (b : Bool) (x y : Step) → x.flow ≡ still → y.flow ≡ still → (cond b x y).flow ≡ still
-either_still true x y h k = h
-either_still false x y h k = k
-
-turn_still : (st : State) (t : ℕ) (r : Turn) (p : Phase) → (turn_step st t r p).flow ≡ still
-turn_still st t r phases.Sleep =
-    either_still (flags_at t st.parts.flags).is_woken (sleeping st t answers.Woken awake) (unwoken_step st t r) refl
-    (either_still (has_come r.deadline st.parts.time || has_come (mode_date st t r.mode) st.parts.time) (idle st answers.Due) (sleeping st t _ _) refl refl)
-turn_still st t r phases.Test = refl
-turn_still st t r p = refl
-
 phase_still : (st : State) (t : ℕ) (p : Phase) (k : Kind) → (phase_step st t p k).flow ≡ still
-phase_still st t p (of_run r) = turn_still st t r p
-phase_still st t p of_block = refl
-phase_still st t p (of_handler k) = refl
+phase_still st t p k = phase_case (λ (s : Step). s.flow ≡ still) st t p k (record { woken = refl; due = refl; sleeps = λ d. refl; tests = λ r. refl; collects = λ l. refl })
 
 close_still : (st : State) (k : Kind) → (close_step st k).flow ≡ still
 close_still st (of_run r) = refl

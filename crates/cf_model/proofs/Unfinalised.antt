@@ -28,6 +28,7 @@ use Rattle.cf_next.specs.Stands.{has_run, Role, as_observer, as_source, as_timer
 use Rattle.cf_next.specs.Demands.{Demand, does, ends, returns, owes, spends, drops, calls, enters, closes}
 use Rattle.cf_next.specs.Advance.{top_kind}
 use Rattle.cf_next.specs.Next.{object_at, used_objects}
+use Rattle.cf_model.proofs.Phases.{phase_case}
 use Rattle.cf_model.specs.State.{awake, until, flags_at, first_held, is_common, stand_at, Parts, State, is_live}
 use Rattle.cf_model.specs.Known.{facts_of}
 use Rattle.cf_model.specs.Things.{mode_date, Thing, thing_at, is_empty_mode}
@@ -237,23 +238,8 @@ result_unfinalised : (st : State) (r : Option ℕ) → BindsUnfinalised st (resu
 result_unfinalised st None = tt
 result_unfinalised st (Some n) = tt
 
-either_unfinalised : (st : State) (b : Bool) (x y : Step) → BindsUnfinalised st x.answer → BindsUnfinalised st y.answer → BindsUnfinalised st (cond b x y).answer
-either_unfinalised st true x y h k = h
-either_unfinalised st false x y h k = k
-
-turn_unfinalised : (st : State) (t : ℕ) (r : Turn) (p : Phase) → BindsUnfinalised st (turn_step st t r p).answer
-turn_unfinalised st t r phases.Sleep =
-    let date = mode_date st t r.mode in
-    let until_date = earlier r.deadline date in
-    either_unfinalised st (flags_at t st.parts.flags).is_woken (sleeping st t answers.Woken awake) (unwoken_step st t r) tt
-    (either_unfinalised st (has_come r.deadline st.parts.time || has_come date st.parts.time) (idle st answers.Due) (sleeping st t (answers.Asleep until_date) (until until_date)) tt tt)
-turn_unfinalised st t r phases.Test = result_unfinalised st (test_result (facts_of st) t r)
-turn_unfinalised st t r p = tt
-
 phase_unfinalised : (st : State) (t : ℕ) (p : Phase) (k : Kind) → BindsUnfinalised st (phase_step st t p k).answer
-phase_unfinalised st t p of_block = tt
-phase_unfinalised st t p (of_handler k) = tt
-phase_unfinalised st t p (of_run r) = turn_unfinalised st t r p
+phase_unfinalised st t p k = phase_case (λ (s : Step). BindsUnfinalised st s.answer) st t p k (record { woken = tt; due = tt; sleeps = λ d. tt; tests = result_unfinalised st; collects = λ l. tt })
 
 close_unfinalised : (st : State) (k : Kind) → BindsUnfinalised st (close_step st k).answer
 close_unfinalised st of_block = tt

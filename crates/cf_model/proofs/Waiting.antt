@@ -23,6 +23,7 @@ use Rattle.cf_next.specs.Demands.{Demand, drops, frame_lines, owes, slot_if, spe
 use Rattle.cf_next.specs.Facts.{Facts}
 use Rattle.cf_next.specs.Next.{object_at, used_objects}
 use Rattle.cf_next.specs.Stands.{Binding, Frame, Kind, Stand, Turn, Work, item_of, look, of_block, of_handler, of_run, release_of, slots_of, spend_of, stop_stand}
+use Rattle.cf_model.proofs.Phases.{phase_case}
 use Rattle.cf_model.proofs.Balance.{IsBalanced}
 use Rattle.cf_model.proofs.DealLaws.{FitsDeal, SameBodies, flags_bodies, same_bodies}
 use Rattle.cf_model.proofs.Dropping.{slot_parts}
@@ -121,26 +122,11 @@ module _ (c : Script) (t : ℕ) (st : State) (balance : IsBalanced st) where
       by true = same_up st _ (flags_bodies st (start_all st.parts.flags))
       by false = still_up
 
-  either_up : (b : Bool) (x y : Step) → GivesUpNone st x.parts → GivesUpNone st y.parts → GivesUpNone st (cond b x y).parts
-  either_up true x y h k = h
-  either_up false x y h k = k
-
   sleep_up : (answer : Answer) (sleep : Sleeping) → GivesUpNone st (sleeping st t answer sleep).parts
   sleep_up answer sleep = same_up st _ (flags_bodies st (with_sleep st.parts t sleep).flags)
 
-  turn_up : (r : Turn) (p : Phase) → GivesUpNone st (turn_step st t r p).parts
-  turn_up r phases.Sleep =
-      let date = mode_date st t r.mode in
-      let least = earlier r.deadline date in
-      either_up (flags_at t st.parts.flags).is_woken (sleeping st t answers.Woken awake) (unwoken_step st t r) (sleep_up answers.Woken awake)
-      (either_up (has_come r.deadline st.parts.time || has_come date st.parts.time) (idle st answers.Due) (sleeping st t (answers.Asleep least) (until least)) still_up (sleep_up (answers.Asleep least) (until least)))
-  turn_up r phases.Test = still_up
-  turn_up r p = still_up
-
   phase_up : (p : Phase) (k : Kind) → GivesUpNone st (phase_step st t p k).parts
-  phase_up p (of_run r) = turn_up r p
-  phase_up p of_block = still_up
-  phase_up p (of_handler k) = still_up
+  phase_up p k = phase_case (λ (s : Step). GivesUpNone st s.parts) st t p k (record { woken = sleep_up answers.Woken awake; due = still_up; sleeps = λ d. sleep_up (answers.Asleep d) (until d); tests = λ r. still_up; collects = λ l. still_up })
 
   close_up : (k : Kind) → GivesUpNone st (close_step st k).parts
   close_up (of_run r) = still_up

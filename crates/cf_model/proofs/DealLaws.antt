@@ -9,7 +9,7 @@ use Rattle.cf_ids.specs.declared.answer.Answer.TheVariants as answers
 use Rattle.rl_base.specs.declared.places.Place.{Place}
 use Rattle.rl_base.specs.Modes.{items_gained}
 use Rattle.cf_syntax.specs.declared.script.Script.{Script}
-use Rattle.cf_contents.specs.Items.{Item, source_item, timer_item, observer_item, kind_of}
+use Rattle.cf_contents.specs.Items.{Item, source_item, kind_of}
 use Rattle.cf_contents.specs.Contents.{Object, Content, item_content, times, slots_in, slots_at}
 use Rattle.cf_contents.specs.Deeds.{Change, in_item, item_after, with_change, taken_in, given_out}
 use Rattle.cf_contents.proofs.ContentLaws.{length-with_change}
@@ -223,10 +223,7 @@ common_fits st u m b =
 pub signal_fits : (st : State) (i : ℕ) (valid : Bool) (item : Item) → FitsDeal st (signal_deal st.parts i valid item)
 signal_fits st i true (source_item order on) = quiet_fits st _ refl refl (item_bodies st i true (source_item order true))
 signal_fits st i false (source_item order on) = answer_fits st answers.Invalid
-signal_fits st i true (timer_item first interval date) = skip_fits st
-signal_fits st i false (timer_item first interval date) = skip_fits st
-signal_fits st i true (observer_item mask repeats order) = skip_fits st
-signal_fits st i false (observer_item mask repeats order) = skip_fits st
+signal_fits st i valid _ = skip_fits st
 
 pub invalidate_fits : (s : Script) (st : State) (i : ℕ) (x : Thing) → FitsDeal st (invalidate_deal s st i x)
 invalidate_fits s st i x =

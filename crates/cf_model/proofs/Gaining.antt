@@ -19,7 +19,7 @@ use Rattle.cf_syntax.specs.declared.mention.Ownership.{Ownership}
 use Rattle.cf_syntax.specs.declared.mention.Ownership.TheVariants.{Keeps, Binds, Retains, Releases}
 use Rattle.cf_syntax.specs.Mentions.{ownership_of, used_at, first_of}
 use Rattle.cf_syntax.specs.BlockLines.{BlockLine, begins, claims, says, packs}
-use Rattle.cf_contents.specs.Items.{Item, source_item, timer_item, observer_item, kind_of, class_of}
+use Rattle.cf_contents.specs.Items.{Item, source_item, kind_of, class_of}
 use Rattle.cf_contents.specs.Contents.{Object, item_content, times, present, slots_in}
 use Rattle.cf_contents.specs.Deeds.{Origin, nowhere, fresh, there, Change, deed_at, taken_in}
 use Rattle.cf_contents.specs.Keys.{numbered}
@@ -127,10 +127,7 @@ few_either o false x y h k = k
 few_signal : (o : ℕ) (p : Parts) (i : ℕ) (valid : Bool) (item : Item) → Few o (signal_deal p i valid item)
 few_signal o p i true (source_item order on) = omega arith
 few_signal o p i false (source_item order on) = omega arith
-few_signal o p i true (timer_item first interval date) = omega arith
-few_signal o p i false (timer_item first interval date) = omega arith
-few_signal o p i true (observer_item mask repeats order) = omega arith
-few_signal o p i false (observer_item mask repeats order) = omega arith
+few_signal o p i valid _ = omega arith
 
 few_invalidate : (o : ℕ) (s : Script) (st : State) (i : ℕ) (x : Thing) → Few o (invalidate_deal s st i x)
 few_invalidate o s st i x =

@@ -17,7 +17,7 @@ use Rattle.cf_syntax.specs.declared.script.Script.{Script}
 use Rattle.cf_syntax.specs.declared.statement.Statement.{Statement}
 use Rattle.cf_syntax.specs.declared.statement.Statement.TheVariants as forms
 use Rattle.cf_contents.specs.Deeds.{Change, deed_at}
-use Rattle.cf_contents.specs.Items.{Item, kind_of, observer_item, source_item, timer_item}
+use Rattle.cf_contents.specs.Items.{Item, kind_of, source_item}
 use Rattle.cf_graph.specs.Holders.{Holder, parcel, variable}
 use Rattle.cf_next.specs.Advance.{top_kind}
 use Rattle.cf_next.specs.Demands.{Demand, calls, closes, does, drops, ends, enters, owes, returns, spends}
@@ -98,10 +98,7 @@ module _ (w : ℕ) (st : State) where
   signal_go : (i : ℕ) (valid : Bool) (item : Item) → Go (signal_deal st.parts i valid item)
   signal_go i true (source_item order on) = same_go
   signal_go i false (source_item order on) = same_go
-  signal_go i true (timer_item first interval date) = same_go
-  signal_go i false (timer_item first interval date) = same_go
-  signal_go i true (observer_item mask repeats order) = same_go
-  signal_go i false (observer_item mask repeats order) = same_go
+  signal_go i valid _ = same_go
 
   change_go : (answer : Answer) (b : Option ℕ) (change : Change) → Go (change_deal st.parts answer b change)
   change_go answer None change = same_go

@@ -10,7 +10,7 @@ use Rattle.cf_syntax.specs.declared.script.Script.{Script}
 use Rattle.cf_syntax.specs.declared.statement.Statement.{Statement}
 use Rattle.cf_syntax.specs.declared.statement.Statement.TheVariants as forms
 use Rattle.cf_contents.specs.Deeds.{Change, deed_at}
-use Rattle.cf_contents.specs.Items.{Item, kind_of, observer_item, source_item, timer_item}
+use Rattle.cf_contents.specs.Items.{Item, kind_of, source_item}
 use Rattle.cf_next.specs.Stands.{has_run}
 use Rattle.cf_model.specs.Deals.{Deal, change_deal, change_unless_skipped, deal_of, forget_deal, holds_at, is_elsewhere, observe_deal, place_in, signal_deal, stays_in_one, thing_deal, thread_in, with_filter, with_thing, with_used}
 use Rattle.cf_model.specs.State.{State, is_common, stand_at}
@@ -125,10 +125,7 @@ module _ (IsNew : Registration → Type 0) (st : State) where
   signal_go : (i : ℕ) (valid : Bool) (item : Item) → Go (signal_deal st.parts i valid item)
   signal_go i true (source_item order on) = same_go before refl
   signal_go i false (source_item order on) = same_go before refl
-  signal_go i true (timer_item first interval date) = same_go before refl
-  signal_go i false (timer_item first interval date) = same_go before refl
-  signal_go i true (observer_item mask repeats order) = same_go before refl
-  signal_go i false (observer_item mask repeats order) = same_go before refl
+  signal_go i valid _ = same_go before refl
 
   change_go : (answer : Answer) (b : Option ℕ) (change : Change) → Go (change_deal st.parts answer b change)
   change_go answer None change = same_go before refl

@@ -16,7 +16,7 @@ use Rattle.cf_syntax.specs.declared.mention.Ownership.TheVariants.{Keeps, Binds,
 use Rattle.cf_syntax.specs.Mentions.{used_at, ownership_of, first_of}
 use Rattle.cf_syntax.specs.BlockLines.{BlockLine, begins, claims, says, packs}
 use Rattle.cf_next.specs.Turns.{test_result}
-use Rattle.cf_contents.specs.Items.{kind_of, Item, source_item, timer_item, observer_item}
+use Rattle.cf_contents.specs.Items.{kind_of, Item, source_item}
 use Rattle.cf_contents.specs.Contents.{Object, times}
 use Rattle.cf_contents.specs.Deeds.{Change, Origin, nowhere, fresh, there, deed_at}
 use Rattle.cf_contents.specs.Keys.{numbered}
@@ -130,10 +130,7 @@ names_filter p (Some v) object deal h = names_used p object (λ o. deal (Some o)
 names_signal : (p : Parts) (i : ℕ) (valid : Bool) (item : Item) → NamesNone (signal_deal p i valid item).answer
 names_signal p i true (source_item order on) = tt
 names_signal p i false (source_item order on) = tt
-names_signal p i true (timer_item first interval date) = tt
-names_signal p i false (timer_item first interval date) = tt
-names_signal p i true (observer_item mask repeats order) = tt
-names_signal p i false (observer_item mask repeats order) = tt
+names_signal p i valid _ = tt
 
 change_names : (p : Parts) (answer : Answer) (b : Option ℕ) (change : Change) → NamesNone answer → NamesNone (change_deal p answer b change).answer
 change_names p answer None change h = h

@@ -1,7 +1,7 @@
 -- What a statement does that neither binds nor counts a variable's references: a deal is its answer, the parts after
 -- it, the references that enter the bodies and loops that it names and those that leave them for the thread, and the
 -- thread whose run it stops. After the Run Loops guide and the reference of CFNotificationCenter.
-use Rattle.std.specs.Prelude.{ℕ, pos, Bool, true, false, ◌&&◌, not, List, [], ◌∷◌, ◌++◌, length, map, filter, flat_map, Option, Some, None, slice_get, slice_index_or, ◌==◌, if◌then◌else◌}
+use Rattle.std.specs.Prelude.{ℕ, ℤ, pos, Bool, true, false, ◌&&◌, not, List, [], ◌∷◌, ◌++◌, length, map, filter, flat_map, Option, Some, None, slice_get, slice_index_or, ◌==◌, if◌then◌else◌}
 use Rattle.std.specs.List.{list_any}
 use Rattle.cf_ids.specs.declared.answer.Answer.{Answer}
 use Rattle.cf_ids.specs.declared.answer.Answer.TheVariants as answers
@@ -179,10 +179,14 @@ common_deal st u m =
 
 -- ---- items
 
--- a source is signalled, if it is valid; what is no source is skipped
+-- a source is signalled, if it is valid
+abbrev pub signal_source : Parts → ℕ → Bool → ℤ → Deal
+signal_source p i true order = okay (with_item p i true (source_item order true))
+signal_source p i false order = answering p answers.Invalid
+
+-- the same of any item; what is no source is skipped
 abbrev pub signal_deal : Parts → ℕ → Bool → Item → Deal
-signal_deal p i true (source_item order signalled) = okay (with_item p i true (source_item order true))
-signal_deal p i false (source_item order signalled) = answering p answers.Invalid
+signal_deal p i valid (source_item order signalled) = signal_source p i valid order
 signal_deal p i valid _ = skipping p
 
 -- all places that hold an item: loops by thread, in each the common items first and then the modes by number

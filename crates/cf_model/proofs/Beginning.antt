@@ -9,7 +9,7 @@ use Rattle.cf_syntax.specs.declared.script.Script.{Script}
 use Rattle.cf_contents.specs.Contents.{slots_at, times}
 use Rattle.cf_graph.specs.Edges.{counted}
 use Rattle.cf_next.specs.Ahead.{Begins, ahead, frame_ahead, lines_ahead, unless_due}
-use Rattle.cf_next.specs.Demands.{Demand, call_demand, call_if, callout_of, frame_lines, slot_if, work_demand}
+use Rattle.cf_next.specs.Demands.{Demand, call_demand, call_if, callout_of, frame_lines, item_callout, slot_if, work_demand}
 use Rattle.cf_next.specs.Facts.{Callout}
 use Rattle.cf_next.specs.Stands.{Binding, Callee, Frame, Kind, Role, Stand, Work, as_observer, as_receiver, as_source, as_timer, of_block, of_handler, of_run, release_of, slots_of, spend_of, stop_frames, stop_stand}
 use Rattle.cf_model.proofs.Tokens.{at_other, at_own, frame}
@@ -80,17 +80,17 @@ abbrev NoRun : Kind → Type 0
 NoRun (of_run r) = ⊥
 NoRun _ = Unit {0}
 
+-- only a run calls items
+no_item : (st : State) (t : ℕ) (kind : Kind) (role : Role) (n : ℕ) → NoRun kind → item_callout (facts_of st) t kind role n ≡ None
+no_item st t of_block role n free = refl
+no_item st t (of_handler k) role n free = refl
+no_item st t (of_run r) role n free = absurd free
+
 callout_stays : (st new : State) (t : ℕ) (kind : Kind) (role : Role) (n : ℕ) → NoRun kind → (role ≡ as_receiver → n < length st.parts.registrations) → ReceiversStay st new → callout_of (facts_of st) t kind role n ≡ None → callout_of (facts_of new) t kind role n ≡ None
 callout_stays st new t kind as_receiver n free known h e = h n (known refl) e
-callout_stays st new t of_block as_observer n free known h e = refl
-callout_stays st new t of_block as_source n free known h e = refl
-callout_stays st new t of_block as_timer n free known h e = refl
-callout_stays st new t (of_handler k) as_observer n free known h e = refl
-callout_stays st new t (of_handler k) as_source n free known h e = refl
-callout_stays st new t (of_handler k) as_timer n free known h e = refl
-callout_stays st new t (of_run r) as_observer n free known h e = absurd free
-callout_stays st new t (of_run r) as_source n free known h e = absurd free
-callout_stays st new t (of_run r) as_timer n free known h e = absurd free
+callout_stays st new t kind as_observer n free known h e = no_item new t kind as_observer n free
+callout_stays st new t kind as_source n free known h e = no_item new t kind as_source n free
+callout_stays st new t kind as_timer n free known h e = no_item new t kind as_timer n free
 
 call_stays : (st new : State) (t : ℕ) (kind : Kind) (ks : List Callee) → NoRun kind → Known (length st.parts.registrations) ks → ReceiversStay st new → call_demand (facts_of st) t kind ks ≡ None → call_demand (facts_of new) t kind ks ≡ None
 call_stays st new t kind [] free known h e = refl

@@ -118,14 +118,7 @@ StepPosts n _ list = Unit {0}
 
 step_posts : (c : Script) (t : ℕ) (st : State) (fs : List Frame) (d : Demand) → StepPosts (length st.parts.registrations) d (step_of c t st fs d).list
 step_posts c t st fs (does x) = line_posts c t _ st (bindings_of fs) x
-step_posts c t st fs ends = tt
-step_posts c t st fs returns = tt
-step_posts c t st fs (owes o) = tt
-step_posts c t st fs (spends i) = tt
-step_posts c t st fs (drops b k o) = tt
-step_posts c t st fs (calls k called) = tt
-step_posts c t st fs (enters p) = tt
-step_posts c t st fs closes = tt
+step_posts c t st fs _ = tt
 
 -- frames after a demand
 
@@ -203,14 +196,7 @@ demand_known c t st d own h k e =
 
     more : (d : Demand) (m n : ℕ) (list : List ℕ) → m ≤ n → StepPosts m d list → StepPosts n d list
     more (does x) m n list h p = λ e. below_more m n list h (p e)
-    more ends m n list h p = tt
-    more returns m n list h p = tt
-    more (owes o) m n list h p = tt
-    more (spends i) m n list h p = tt
-    more (drops b j o) m n list h p = tt
-    more (calls q called) m n list h p = tt
-    more (enters q) m n list h p = tt
-    more closes m n list h p = tt
+    more _ m n list h p = tt
 
 acted_known : (c : Script) (t : ℕ) (st : State) (d : Option Demand) → FitsByBlock c → IsSound c st → IsKnown st → demanded c st t ≡ d → IsKnown (acted c t st d)
 acted_known c t st None own h k e = k

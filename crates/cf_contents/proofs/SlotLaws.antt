@@ -6,7 +6,7 @@ use Rattle.std.specs.Map.{lookup, lookup_entry, remove_entry, set_value}
 use Rattle.std.specs.Option.{option_to_list}
 use Rattle.std.proofs.lemmas.List.{take-append-drop, drop-drop}
 use Rattle.cf_types.specs.declared.cells.Cell.{Cell}
-use Rattle.cf_contents.specs.Contents.{Content, text_content, data_content, number_content, instance_content, array_content, dictionary_content, set_content, bag_content, heap_content, Object, times, present, flat, row_ids, order_of, unless_plain, slots_in, slots_at, item_content}
+use Rattle.cf_contents.specs.Contents.{Content, text_content, data_content, instance_content, array_content, dictionary_content, set_content, bag_content, heap_content, Object, times, present, flat, row_ids, order_of, unless_plain, slots_in, slots_at, item_content}
 use Rattle.cf_contents.specs.Keys.{equal_to}
 use Rattle.cf_contents.specs.Deeds.{Origin, nowhere, fresh, there, Splice, Change, unchanged, in_text, in_data, in_places, put_pair, remove_pair, add_member, put_member, remove_member, remove_least, splice_of, splice_out, elements, coming_by, text_after, data_after, places_after, entering, leaving, put_after, put_entering, put_leaving, removed_after, removed_leaving, unless_found, added_after, added_entering, put_member_after, put_member_entering, put_member_leaving, removed_member_after, removed_member_leaving, least_after, least_leaving, content_after, coming_in, going_out, taken_in, given_out, with_change, in_item, item_after}
 use Rattle.cf_callbacks.specs.Ranking.{by_rank, least, without_least}
@@ -142,42 +142,19 @@ places_law : (n : ℕ) (e : Splice (Option ℕ)) (c : Content)
     → times n (slots_in (places_after e c)) + times n (leaving e c) ≡ times n (slots_in c) + times n (entering e c)
 places_law n e (instance_content key fields) = splice_law (λ (ps : List (Option ℕ)). times n (present ps)) (times-present n) fields e
 places_law n e (array_content plain os) = unless_law n plain _ _ _ _ (splice_law (times n) (times-append n) os (elements e))
-places_law n e (text_content mutable units) = refl
-places_law n e (data_content mutable bytes) = refl
-places_law n e (number_content k) = refl
-places_law n e (dictionary_content plain pairs) = omega arith
-places_law n e (set_content plain members) = omega arith
-places_law n e (bag_content plain rows) = omega arith
-places_law n e (heap_content plain adds rows) = omega arith
-places_law n e (item_content handler info valid item) = omega arith
+places_law n e _ = omega arith
 
 pair_law : (n : ℕ) (key : Cell) (value : ℕ) (c : Content)
     → times n (slots_in (put_after key value c)) + times n (put_leaving key c)
     ≡ times n (slots_in c) + times n (put_entering key value c)
 pair_law n key value (dictionary_content plain pairs) =
     unless_law n plain _ _ _ _ (put_law n (equal_to plain key) pairs key value (lookup (equal_to plain key) pairs) refl)
-pair_law n key value (text_content mutable units) = refl
-pair_law n key value (data_content mutable bytes) = refl
-pair_law n key value (number_content k) = refl
-pair_law n key value (instance_content k fields) = omega arith
-pair_law n key value (array_content plain os) = omega arith
-pair_law n key value (set_content plain members) = omega arith
-pair_law n key value (bag_content plain rows) = omega arith
-pair_law n key value (heap_content plain adds rows) = omega arith
-pair_law n key value (item_content handler info valid item) = omega arith
+pair_law n key value _ = omega arith
 
 removed_law : (n : ℕ) (key : Cell) (c : Content)
     → times n (slots_in (removed_after key c)) + times n (removed_leaving key c) ≡ times n (slots_in c) + times n []
 removed_law n key (dictionary_content plain pairs) = unless_none n plain _ _ _ (take_law n (equal_to plain key) pairs)
-removed_law n key (text_content mutable units) = refl
-removed_law n key (data_content mutable bytes) = refl
-removed_law n key (number_content k) = refl
-removed_law n key (instance_content k fields) = omega arith
-removed_law n key (array_content plain os) = omega arith
-removed_law n key (set_content plain members) = omega arith
-removed_law n key (bag_content plain rows) = omega arith
-removed_law n key (heap_content plain adds rows) = omega arith
-removed_law n key (item_content handler info valid item) = omega arith
+removed_law n key _ = omega arith
 
 added_law : (n : ℕ) (x : Cell) (c : Content)
     → times n (slots_in (added_after x c)) + times n [] ≡ times n (slots_in c) + times n (added_entering x c)
@@ -190,41 +167,21 @@ added_law n x (heap_content plain adds rows) =
     let more = rows ++ (x, adds) ∷ [] in
     unless_more n plain (row_ids (by_rank rank more)) (row_ids (by_rank rank rows)) (x.id ∷ [])
     (omega (arith, sorted_rows n rank more, sorted_rows n rank rows, times-rows n rows ((x, adds) ∷ [])))
-added_law n x (text_content mutable units) = refl
-added_law n x (data_content mutable bytes) = refl
-added_law n x (number_content k) = refl
-added_law n x (instance_content k fields) = omega arith
-added_law n x (array_content plain os) = omega arith
-added_law n x (dictionary_content plain pairs) = omega arith
-added_law n x (item_content handler info valid item) = omega arith
+added_law n x _ = omega arith
 
 member_law : (n : ℕ) (x : Cell) (c : Content)
     → times n (slots_in (put_member_after x c)) + times n (put_member_leaving x c)
     ≡ times n (slots_in c) + times n (put_member_entering x c)
 member_law n x (set_content plain members) = unless_law n plain _ _ _ _ (put_members n (equal_to plain x) x members)
 member_law n x (bag_content plain rows) = unless_law n plain _ _ _ _ (put_rows n (equal_to plain x) x rows)
-member_law n x (heap_content plain adds rows) = omega arith
-member_law n x (text_content mutable units) = refl
-member_law n x (data_content mutable bytes) = refl
-member_law n x (number_content k) = refl
-member_law n x (instance_content k fields) = omega arith
-member_law n x (array_content plain os) = omega arith
-member_law n x (dictionary_content plain pairs) = omega arith
-member_law n x (item_content handler info valid item) = omega arith
+member_law n x _ = omega arith
 
 gone_law : (n : ℕ) (x : Cell) (c : Content)
     → times n (slots_in (removed_member_after x c)) + times n (removed_member_leaving x c)
     ≡ times n (slots_in c) + times n []
 gone_law n x (set_content plain members) = unless_none n plain _ _ _ (removed_members n (equal_to plain x) members)
 gone_law n x (bag_content plain rows) = unless_none n plain _ _ _ (removed_rows n (equal_to plain x) rows)
-gone_law n x (heap_content plain adds rows) = omega arith
-gone_law n x (text_content mutable units) = refl
-gone_law n x (data_content mutable bytes) = refl
-gone_law n x (number_content k) = refl
-gone_law n x (instance_content k fields) = omega arith
-gone_law n x (array_content plain os) = omega arith
-gone_law n x (dictionary_content plain pairs) = omega arith
-gone_law n x (item_content handler info valid item) = omega arith
+gone_law n x _ = omega arith
 
 least_law : (n : ℕ) (c : Content)
     → times n (slots_in (least_after c)) + times n (least_leaving c) ≡ times n (slots_in c) + times n []
@@ -233,15 +190,7 @@ least_law n (heap_content plain adds rows) =
     let left = without_least rank rows in
     unless_none n plain (row_ids (by_rank rank left)) (row_ids (option_to_list (least rank rows))) (row_ids (by_rank rank rows))
     (omega (arith, sorted_rows n rank left, sorted_rows n rank rows, least_rows n rank rows))
-least_law n (set_content plain members) = omega arith
-least_law n (bag_content plain rows) = omega arith
-least_law n (text_content mutable units) = refl
-least_law n (data_content mutable bytes) = refl
-least_law n (number_content k) = refl
-least_law n (instance_content k fields) = omega arith
-least_law n (array_content plain os) = omega arith
-least_law n (dictionary_content plain pairs) = omega arith
-least_law n (item_content handler info valid item) = omega arith
+least_law n _ = omega arith
 
 item_law : (n : ℕ) (valid : Bool) (item : Item) (c : Content) → slots_in (item_after valid item c) ≡ slots_in c
 item_law n valid item (item_content handler info v i) = refl

@@ -28,9 +28,16 @@ none_on : (line : ℕ) (o : Option Reason) → on_line line o ≡ None → o ≡
 none_on line None e = refl
 none_on line (Some r) e = absurd cc
 
+-- lines after earlier ones of their block fit: none has a fault
+abbrev BlockFits : Script → List BlockLine → List BlockLine → Type 0
+BlockFits s earlier xs = lines_fault s earlier xs ≡ None
+
+none_fit : (s : Script) (earlier : List BlockLine) → BlockFits s earlier []
+none_fit s earlier = refl
+
 -- lines after lines
-lines_both : (s : Script) (earlier xs ys : List BlockLine) → lines_fault s earlier xs ≡ None
-    → lines_fault s (earlier ++ xs) ys ≡ None → lines_fault s earlier (xs ++ ys) ≡ None
+lines_both : (s : Script) (earlier xs ys : List BlockLine) → BlockFits s earlier xs → BlockFits s (earlier ++ xs) ys
+    → BlockFits s earlier (xs ++ ys)
 lines_both s earlier [] ys p q = ap (λ (e : List BlockLine). lines_fault s e ys) (sym (append-nil earlier)) ∙ q
 lines_both s earlier (x ∷ xs) ys p q =
     let h = none_first (line_fault s earlier x) (lines_fault s (earlier ++ x ∷ []) xs) p in
@@ -40,7 +47,7 @@ lines_both s earlier (x ∷ xs) ys p q =
 
 -- statements, whatever their lines
 statements_none : (s : Script) (earlier : List BlockLine) (numbers : List ℕ) (xs : List Statement)
-    → statements_fault s earlier numbers xs ≡ None → lines_fault s earlier (map says xs) ≡ None
+    → statements_fault s earlier numbers xs ≡ None → BlockFits s earlier (map says xs)
 statements_none s earlier numbers [] e = refl
 statements_none s earlier numbers (x ∷ xs) e =
     let h = none_first (on_line _ (line_fault s earlier (says x))) (statements_fault s (earlier ++ says x ∷ []) (drop 1 numbers) xs) e in
@@ -73,12 +80,14 @@ uses_none s setup own thread place line (u ∷ us) e =
         let b = none_first (rebound_fault own w) (unowned_fault setup v) a.1 in
         (one _ (none_both (unbound_fault setup v) _ a.0 b.1), one _ b.0)
 
+abbrev FitsThread : Script → Option Block → Type 0
+FitsThread s o = BlockFits s [] (claims_from 0 (uses_in o) ++ map says (statements_in o))
+
 -- each thread's block, by its number after the one that the list begins with
 pub threads_none : (s : Script) (setup : List BlockLine) (thread : ℕ) (bs : List Block)
     → threads_fault s setup thread bs ≡ None
-    → (lines_fault s setup (packs_for thread bs) ≡ None)
-    × ((i : ℕ) → lines_fault s [] (claims_from 0 (uses_in (slice_get bs i)) ++ map says (statements_in (slice_get bs i))) ≡ None)
-threads_none s setup thread [] e = (refl, λ i. refl)
+    → BlockFits s setup (packs_for thread bs) × ((i : ℕ) → FitsThread s (slice_get bs i))
+threads_none s setup thread [] e = (none_fit s setup, λ i. none_fit s [])
 threads_none s setup thread (b ∷ bs) e =
     let k = none_first (thread_block_fault s setup thread b) (threads_fault s (setup ++ packs_from thread 0 b.uses) (thread + 1) bs) e in
     let h = none_first (uses_fault setup [] thread 0 b.first b.uses) (statements_fault s (claims_from 0 b.uses) b.lines b.statements) k.0 in
@@ -88,10 +97,8 @@ threads_none s setup thread (b ∷ bs) e =
       λ i. each i (lines_both s [] (claims_from 0 b.uses) (map says b.statements) here.1 (statements_none s (claims_from 0 b.uses) b.lines b.statements h.1)) rest.1,
     )
   where
-    each : (i : ℕ) → lines_fault s [] (claims_from 0 b.uses ++ map says b.statements) ≡ None
-        → ((j : ℕ) → lines_fault s [] (claims_from 0 (uses_in (slice_get bs j)) ++ map says (statements_in (slice_get bs j))) ≡ None)
-        → lines_fault s []
-        (claims_from 0 (uses_in (slice_get (b ∷ bs) i)) ++ map says (statements_in (slice_get (b ∷ bs) i))) ≡ None
+    each : (i : ℕ) → FitsThread s (Some b) → ((j : ℕ) → FitsThread s (slice_get bs j))
+        → FitsThread s (slice_get (b ∷ bs) i)
     each zero here rest = here
     each (suc j) here rest = rest j
 
@@ -112,21 +119,21 @@ pub thread_place : (s : Script) (t : ℕ) → suc t < s.thread_count
     → slice_get (thread_blocks s) t ≡ slice_get s.blocks (suc t)
 thread_place s t lt = past_first t (take s.thread_count s.blocks) ∙ take_within s.thread_count (suc t) s.blocks lt
 
-abbrev FitsThread : Script → Option Block → Type 0
-FitsThread s o = lines_fault s [] (claims_from 0 (uses_in o) ++ map says (statements_in o)) ≡ None
-
 chosen : (s : Script) (t : Bool) (o : Option Block) → (t ≡ true → FitsThread s o) → FitsThread s (cond t o None)
 chosen s true o fits = fits refl
-chosen s false o fits = refl
+chosen s false o fits = none_fit s []
 
 -- ---- handlers
 
 record FitsHandler (s : Script) (o : Option Block) : Type 0 where
-  lines : lines_fault s [] (begins 0 ∷ map says (statements_in o)) ≡ None
+  lines : BlockFits s [] (begins 0 ∷ map says (statements_in o))
   balance : balance_fault (begins 0 ∷ map says (statements_in o)) ≡ None
 
+no_handler : (s : Script) → FitsHandler s None
+no_handler s = record { lines = refl; balance = refl }
+
 handlers_none : (s : Script) (bs : List Block) (i : ℕ) → handlers_fault s bs ≡ None → FitsHandler s (slice_get bs i)
-handlers_none s [] i e = record { lines = refl; balance = refl }
+handlers_none s [] i e = no_handler s
 handlers_none s (b ∷ bs) i e =
     let k = none_first (handler_fault s b) (handlers_fault s bs) e in
     let h = none_first (statements_fault s (begins 0 ∷ []) b.lines b.statements) (on_line b.last (balance_fault (begins 0 ∷ map says b.statements))) k.0 in
@@ -154,18 +161,18 @@ placed_after s b fits = tested (ltb b s.thread_count) (λ e. ltb-false b s.threa
   where
     tested : (t : Bool) → (t ≡ false → s.thread_count ≤ b)
         → FitsHandler s (option_and_then (λ c. slice_get s.blocks c) (cond t None (Some b)))
-    tested true le = record { lines = refl; balance = refl }
+    tested true le = no_handler s
     tested false le = subst (FitsHandler s) (sym (drop_past s.thread_count b s.blocks (le refl))) (fits (b - s.thread_count))
 
 found_block : (s : Script) (o : Option ℕ) → ((i : ℕ) → FitsHandler s (slice_get (handler_blocks s) i))
     → FitsHandler s (option_and_then (λ c. slice_get s.blocks c) (option_and_then (after_threads s) o))
-found_block s None fits = record { lines = refl; balance = refl }
+found_block s None fits = no_handler s
 found_block s (Some b) fits = placed_after s b fits
 
 found_handler : (s : Script) (o : Option Handler) → ((i : ℕ) → FitsHandler s (slice_get (handler_blocks s) i))
     → FitsHandler s (option_and_then (λ c. slice_get s.blocks c)
     (option_and_then (λ (x : Handler). option_and_then (after_threads s) x.block) o))
-found_handler s None fits = record { lines = refl; balance = refl }
+found_handler s None fits = no_handler s
 found_handler s (Some h) fits = found_block s h.block fits
 
 -- ---- the balance of a handler
@@ -228,13 +235,12 @@ owned_fits s owned =
       balanced = λ h. balanced _ (found_handler s (slice_get s.handlers h) handlers).balance;
     }
   where
-    setup_none : (o : Option Block) → setup_fault s o ≡ None → lines_fault s [] (map says (statements_in o)) ≡ None
-    setup_none None e = refl
+    setup_none : (o : Option Block) → setup_fault s o ≡ None → BlockFits s [] (map says (statements_in o))
+    setup_none None e = none_fit s []
     setup_none (Some b) e = statements_none s [] b.lines b.statements e
 
-    thread : (t : ℕ) → lines_fault s [] (setup_lines s) ≡ None
-        → ((i : ℕ) → FitsThread s (slice_get (thread_blocks s) i))
-        → lines_fault s [] (thread_lines s t) ≡ None
+    thread : (t : ℕ) → BlockFits s [] (setup_lines s) → ((i : ℕ) → FitsThread s (slice_get (thread_blocks s) i))
+        → BlockFits s [] (thread_lines s t)
     thread zero setup rest = setup
     thread (suc t) setup rest =
         chosen s (ltb (suc t) s.thread_count) (slice_get s.blocks (suc t)) (λ e.

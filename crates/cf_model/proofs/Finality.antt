@@ -1,14 +1,13 @@
 -- Along every legal journal of every script: finalised at most once, never used later, and unfinalised exactly if a
 -- reference is left.
 use Rattle.std.proofs.Common.{◌≡◌, ℕ, zero, suc, ◌+◌, ◌<◌, ◌≤◌, ◌⊎◌, Bool, true, false, cond, List, [], ◌∷◌, ◌++◌, length, Option, Some, None, ltb, refl, sym, ap, ◌∙◌, subst, arith, inl, inr}
-use Rattle.std.specs.Prelude.{◌||◌, slice_get, ◌==◌}
+use Rattle.std.specs.Prelude.{slice_get, ◌==◌}
 use Rattle.std.proofs.lemmas.Bool.{eq-eqb}
 use Rattle.std.proofs.lemmas.Bool.Decides.{nat_tests}
 use Rattle.cf_ids.specs.declared.answer.Answer.{Answer}
 use Rattle.cf_ids.specs.declared.answer.Answer.TheVariants as answers
 use Rattle.rl_turn.specs.declared.phases.Phase.{Phase}
 use Rattle.rl_turn.specs.declared.phases.Phase.TheVariants as phases
-use Rattle.rl_base.specs.Dates.{has_come, earlier}
 use Rattle.cf_syntax.specs.declared.script.Script.{Script}
 use Rattle.cf_syntax.specs.declared.statement.Statement.{Statement}
 use Rattle.cf_syntax.specs.declared.statement.Statement.TheVariants as forms
@@ -27,17 +26,16 @@ use Rattle.cf_graph.proofs.Sides.{weigh-sides}
 use Rattle.cf_next.specs.declared.action.Action.{Action}
 use Rattle.cf_next.specs.declared.action.Action.TheVariants as actions
 use Rattle.cf_next.specs.Actions.{Site, action_of, cut_of}
-use Rattle.cf_next.specs.Stands.{Turn, Kind, of_run, of_handler, of_block, Frame}
+use Rattle.cf_next.specs.Stands.{Kind, of_run, of_handler, of_block, Frame}
 use Rattle.cf_next.specs.Demands.{Demand, does, ends, returns, owes, spends, drops, calls, enters, closes}
 use Rattle.cf_next.specs.Advance.{top_kind}
 use Rattle.cf_next.specs.Next.{object_at, site_in, used_objects, top_frame, phase_action, action_in}
 use Rattle.cf_model.proofs.Phases.{phase_case}
 use Rattle.cf_model.specs.declared.entry.Entry.{Entry}
-use Rattle.cf_model.specs.State.{awake, until, flags_at, first_held, Parts, State, start}
+use Rattle.cf_model.specs.State.{first_held, Parts, State, start}
 use Rattle.cf_model.specs.Known.{facts_of}
-use Rattle.cf_model.specs.Things.{mode_date}
 use Rattle.cf_model.specs.Own.{own_reference}
-use Rattle.cf_model.specs.Steps.{sleeping, unwoken_step, close_step, turn_step, phase_step, Step, idle, flowing, finals_of, type_in, cut_answer, cut_flow, release_step, retain_step, statement_step, step_of, frames_at, step_finals, step_answer, state_after, done_by, acted, demanded, bindings_of, depth_of, packed_holder, claim_step, pack_step}
+use Rattle.cf_model.specs.Steps.{close_step, phase_step, Step, idle, flowing, finals_of, type_in, cut_answer, cut_flow, release_step, retain_step, statement_step, step_of, frames_at, step_finals, step_answer, state_after, done_by, acted, demanded, bindings_of, depth_of, packed_holder, claim_step, pack_step}
 use Rattle.cf_model.specs.Journals.{action_uses, uses_of, owners_of, after_action, state_from, After, IsLegalStep, IsLegalAs, IsLegalEntry, IsLegalFrom, IsLegal}
 use Rattle.cf_model.specs.Flowing.{flow_in}
 use Rattle.cf_model.specs.Finals.{final_if, final_of, one_at, finals, uses_among, uses, FinalsFit}

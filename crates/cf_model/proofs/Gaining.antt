@@ -1,6 +1,6 @@
 -- At most so many references are added to one object by one entry as there can be modes, and one more.
 use Rattle.std.proofs.Common.{◌≡◌, ℕ, zero, suc, ◌+◌, ◌≤◌, Bool, true, false, cond, List, [], ◌∷◌, length, map, Option, Some, None, eqb, refl, ap, subst, arith}
-use Rattle.std.specs.Prelude.{filter, slice_get, not, nat_le, ◌&&◌, ◌||◌}
+use Rattle.std.specs.Prelude.{filter, slice_get, not, nat_le, ◌&&◌}
 use Rattle.std.specs.List.{range_with_len}
 use Rattle.std.proofs.lemmas.List.FromFn.{length-range_with_len}
 use Rattle.std.proofs.lemmas.Bool.Decides.{nat_tests}
@@ -8,10 +8,8 @@ use Rattle.cf_ids.specs.declared.answer.Answer.{Answer}
 use Rattle.cf_ids.specs.declared.answer.Answer.TheVariants as answers
 use Rattle.rl_base.specs.declared.places.Place.{Place}
 use Rattle.rl_base.specs.declared.places.Place.TheVariants.{Common, Mode}
-use Rattle.rl_base.specs.Dates.{has_come, earlier}
 use Rattle.rl_base.specs.Modes.{places, places_entered, items_gained}
 use Rattle.rl_turn.specs.declared.phases.Phase.{Phase}
-use Rattle.rl_turn.specs.declared.phases.Phase.TheVariants as phases
 use Rattle.cf_syntax.specs.declared.script.Script.{Script}
 use Rattle.cf_syntax.specs.declared.statement.Statement.{Statement}
 use Rattle.cf_syntax.specs.declared.statement.Statement.TheVariants as forms
@@ -30,16 +28,16 @@ use Rattle.cf_graph.specs.Edges.{Reference, held_by, held_if, counted, degree, l
 use Rattle.cf_graph.specs.Flows.{gains}
 use Rattle.cf_graph.proofs.Counts.{weigh-append}
 use Rattle.cf_next.specs.declared.action.Action.{Action}
-use Rattle.cf_next.specs.Stands.{item_of, Turn, Kind, of_block, of_handler, of_run, Frame, has_run}
+use Rattle.cf_next.specs.Stands.{item_of, Kind, of_block, of_handler, of_run, Frame, has_run}
 use Rattle.cf_next.specs.Demands.{Demand, does, ends, returns, owes, spends, drops, calls, enters, closes}
 use Rattle.cf_next.specs.Advance.{top_kind}
 use Rattle.cf_next.specs.Next.{object_at, used_objects}
 use Rattle.cf_model.proofs.Phases.{phase_case}
-use Rattle.cf_model.specs.State.{Parts, State, awake, until, flags_at, stand_at, modes_of, objects_of, is_common, first_held}
-use Rattle.cf_model.specs.Things.{Thing, thing_at, mode_date}
+use Rattle.cf_model.specs.State.{Parts, State, stand_at, modes_of, objects_of, is_common, first_held}
+use Rattle.cf_model.specs.Things.{Thing, thing_at}
 use Rattle.cf_model.specs.Own.{own_reference, present_of}
 use Rattle.cf_model.specs.Deals.{Deal, answering, okay, with_used, thing_deal, with_thing, with_filter, change_unless_skipped, change_deal, with_item, thread_in, place_in, holds_at, held_at, common_modes, stays_in_one, is_elsewhere, places_added, places_dropped, entering, leaving, add_deal, drop_deal, common_items, common_deal, signal_deal, every_place, invalidate_deal, wake_parts, stop_deal, observe_deal, forget_deal, deal_of}
-use Rattle.cf_model.specs.Steps.{Step, idle, Made, item_made, bound_if, found, bind_step, retain_step, cut_flow, release_step, statement_step, claim_step, pack_step, packed_holder, spend_if, sleeping, unwoken_step, turn_step, phase_step, close_step, bindings_of, depth_of, step_of, frames_at, demanded}
+use Rattle.cf_model.specs.Steps.{Step, Made, item_made, bound_if, found, bind_step, retain_step, cut_flow, release_step, statement_step, claim_step, pack_step, packed_holder, spend_if, phase_step, close_step, bindings_of, depth_of, step_of, frames_at, demanded}
 use Rattle.cf_model.specs.Flowing.{flow_if, flow_in}
 use Rattle.cf_model.proofs.Entries.{ActionView, is_tick, is_stall, is_step, action_view}
 use Rattle.cf_model.proofs.Places.{held_objects}

@@ -3,12 +3,9 @@
 use Rattle.std.proofs.Common.{◌&&◌, ◌∙◌, ◌∷◌, ◌≡◌, Bool, List, None, Option, Some, [], ap, cond, eqb, false, inl, inr, map, not, refl, subst, suc, sym, true, zero, ℕ}
 use Rattle.std.proofs.lemmas.Bool.{and_from, and_parts}
 use Rattle.std.proofs.lemmas.Bool.Decides.{eqb_tells}
-use Rattle.std.specs.Prelude.{◌||◌}
 use Rattle.cf_ids.specs.declared.answer.Answer.{Answer}
 use Rattle.cf_ids.specs.declared.answer.Answer.TheVariants as answers
-use Rattle.rl_base.specs.Dates.{earlier, has_come}
 use Rattle.rl_turn.specs.declared.phases.Phase.{Phase}
-use Rattle.rl_turn.specs.declared.phases.Phase.TheVariants as phases
 use Rattle.cf_syntax.specs.BlockLines.{BlockLine, begins, claims, packs, says}
 use Rattle.cf_syntax.specs.Mentions.{first_of, ownership_of, used_at}
 use Rattle.cf_syntax.specs.declared.mention.Ownership.{Ownership}
@@ -22,7 +19,7 @@ use Rattle.cf_graph.specs.Holders.{Holder, parcel, variable}
 use Rattle.cf_next.specs.Advance.{top_kind}
 use Rattle.cf_next.specs.Demands.{Demand, calls, closes, does, drops, ends, enters, owes, returns, spends}
 use Rattle.cf_next.specs.Next.{object_at, used_objects}
-use Rattle.cf_next.specs.Stands.{Binding, Frame, Kind, Stand, Turn, has_run, item_of, of_block, of_handler, of_run, stop_stand}
+use Rattle.cf_next.specs.Stands.{Binding, Frame, Kind, Stand, has_run, item_of, of_block, of_handler, of_run, stop_stand}
 use Rattle.cf_next.specs.declared.action.Action.{Action}
 use Rattle.cf_next.specs.declared.action.Action.TheVariants as actions
 use Rattle.cf_model.proofs.Phases.{phase_case}
@@ -30,8 +27,8 @@ use Rattle.cf_model.proofs.Tokens.{at_other, at_own}
 use Rattle.cf_model.specs.Deals.{Deal, change_deal, change_unless_skipped, deal_of, holds_at, invalidate_deal, is_elsewhere, place_in, signal_deal, stays_in_one, thing_deal, thread_in, wake_flags, wake_parts, with_filter, with_thing, with_used, woken_by}
 use Rattle.cf_model.specs.Journals.{after_action, can_go, is_asleep, is_going, sleeps, tick_flags, wake_at}
 use Rattle.cf_model.specs.State.{Flags, Parts, Sleeping, State, awake, blank, first_held, flags_at, flags_of, is_common, stand_at, until, with_flags, with_stand}
-use Rattle.cf_model.specs.Steps.{Step, acted, bindings_of, claim_step, close_step, demanded, depth_of, end_step, fire, fire_if, frames_at, idle, line_step, pack_step, packed_holder, phase_step, release_step, retain_step, sleeping, spend_if, stand_after, start_all, statement_step, step_of, stopped_at, turn_step, unwoken_step}
-use Rattle.cf_model.specs.Things.{Thing, mode_date, thing_at}
+use Rattle.cf_model.specs.Steps.{Step, acted, bindings_of, claim_step, close_step, demanded, depth_of, end_step, fire, fire_if, frames_at, line_step, pack_step, packed_holder, phase_step, release_step, retain_step, sleeping, spend_if, stand_after, start_all, statement_step, step_of, stopped_at}
+use Rattle.cf_model.specs.Things.{Thing, thing_at}
 
 pub record FlagGoes (f g : Flags) : Type 0 where
   pub started : f.is_started ≡ true → g.is_started ≡ true

@@ -1,5 +1,5 @@
 -- The step of each line keeps what its thread's holders hold.
-use Rattle.std.proofs.Common.{◌++◌, ◌+◌, ◌∷◌, ◌≡◌, Bool, List, None, Option, Some, [], arith, cond, eqb, false, length, refl, take, true, ℕ}
+use Rattle.std.proofs.Common.{◌++◌, ◌+◌, ◌∷◌, ◌≡◌, Bool, List, None, Option, Some, [], arith, cond, eqb, false, length, refl, true, ℕ}
 use Rattle.cf_ids.specs.declared.answer.Answer.{Answer}
 use Rattle.cf_syntax.specs.BlockLines.{BlockLine, line_ownership}
 use Rattle.cf_syntax.specs.declared.mention.Ownership.{Ownership}
@@ -13,7 +13,7 @@ use Rattle.cf_graph.specs.Edges.{Reference, held_by, held_if, one, weigh}
 use Rattle.cf_graph.specs.Flows.{Flow, flow_lost, flow_won, grows, shrinks, still}
 use Rattle.cf_graph.specs.Holders.{Holder, callout, owed, parcel, slot, variable}
 use Rattle.cf_next.specs.Advance.{advanced, bindings_by, bound_object, is_entered, line_done, owed_by}
-use Rattle.cf_next.specs.Demands.{Demand, does, frame_lines}
+use Rattle.cf_next.specs.Demands.{Demand, does}
 use Rattle.cf_next.specs.Facts.{Facts}
 use Rattle.cf_next.specs.Stands.{Binding, Frame, Stand, Work, look}
 use Rattle.cf_model.proofs.Fitting.{StepFits}

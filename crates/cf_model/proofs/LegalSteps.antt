@@ -1,13 +1,11 @@
 -- Each legal entry keeps what holds along legal journals.
 use Rattle.std.proofs.Common.{◌≡◌, ℕ, zero, suc, ◌+◌, ◌<◌, Bool, true, false, cond, List, [], ◌∷◌, ◌++◌, length, drop, map, Option, Some, None, eqb, refl, sym, ap, subst, arith, inl, inr, append-nil, length-append}
-use Rattle.std.specs.Prelude.{slice_get, ◌||◌}
+use Rattle.std.specs.Prelude.{slice_get}
 use Rattle.std.proofs.lemmas.Bool.{eq-eqb}
 use Rattle.std.proofs.lemmas.Bool.Decides.{eqb_tells}
 use Rattle.cf_ids.specs.declared.answer.Answer.{Answer}
 use Rattle.cf_ids.specs.declared.answer.Answer.TheVariants as answers
 use Rattle.rl_turn.specs.declared.phases.Phase.{Phase}
-use Rattle.rl_turn.specs.declared.phases.Phase.TheVariants as phases
-use Rattle.rl_base.specs.Dates.{has_come, earlier}
 use Rattle.cf_syntax.specs.declared.script.Script.{Script}
 use Rattle.cf_syntax.specs.declared.statement.Statement.{Statement}
 use Rattle.cf_syntax.specs.declared.mention.Ownership.{Ownership}
@@ -24,12 +22,12 @@ use Rattle.cf_graph.specs.Edges.{held_by, held_if, weigh, one, counted, degree}
 use Rattle.cf_graph.specs.Flows.{grows}
 use Rattle.cf_graph.proofs.Flows.{AllOwn, other_weigh, holders_apart, one_own}
 use Rattle.cf_next.specs.Facts.{Callout}
-use Rattle.cf_next.specs.Stands.{Callee, item_of, Turn, Kind, of_block, of_handler, of_run}
+use Rattle.cf_next.specs.Stands.{Callee, item_of, Kind, of_block, of_handler, of_run}
 use Rattle.cf_model.proofs.Phases.{phase_case}
-use Rattle.cf_model.specs.State.{until, awake, Sleeping, flags_at, Parts, State, left_of, is_live}
-use Rattle.cf_model.specs.Things.{Thing, thing_at, mode_date}
+use Rattle.cf_model.specs.State.{until, awake, Sleeping, Parts, State, left_of, is_live}
+use Rattle.cf_model.specs.Things.{Thing, thing_at}
 use Rattle.cf_model.specs.Deals.{Deal, okay, deal_of, posts_of}
-use Rattle.cf_model.specs.Steps.{with_sleep, sleeping, fired, deal_step, start_all, Step, idle, Made, item_made, bound_if, bound_of, found, bind_step, statement_step, packed_holder, end_step, spend_if, fire, fire_if, call_step, call_references, turn_step, phase_step, close_step, sleep_step, unwoken_step}
+use Rattle.cf_model.specs.Steps.{with_sleep, sleeping, fired, deal_step, start_all, Made, item_made, bound_if, bound_of, found, bind_step, statement_step, packed_holder, end_step, spend_if, fire, fire_if, call_step, call_references, phase_step, close_step}
 use Rattle.cf_model.proofs.Balance.{IsLive}
 use Rattle.cf_model.proofs.Legal.{live_of_test}
 use Rattle.cf_model.proofs.OwnLaws.{IsOf, AllOf}

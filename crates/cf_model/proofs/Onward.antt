@@ -1,12 +1,9 @@
 -- In an owned script registrations are of objects that were made, and parts go on with each entry.
 use Rattle.std.proofs.Common.{◌-◌, ◌<◌, ◌∷◌, ◌≡◌, ◌≤◌, Bool, List, None, Option, Some, ap, arith, cond, eqb, false, inl, inr, length, ltb, refl, subst, sym, true, ℕ}
 use Rattle.std.proofs.lemmas.Bool.Decides.{nat_tests}
-use Rattle.std.specs.Prelude.{◌||◌, slice_get}
-use Rattle.cf_ids.specs.declared.answer.Answer.TheVariants as answers
-use Rattle.rl_base.specs.Dates.{earlier, has_come}
+use Rattle.std.specs.Prelude.{slice_get}
 use Rattle.rl_base.specs.declared.registrations.Registration.{Registration}
 use Rattle.rl_turn.specs.declared.phases.Phase.{Phase}
-use Rattle.rl_turn.specs.declared.phases.Phase.TheVariants as phases
 use Rattle.cf_syntax.specs.BlockLines.{BlockLine, begins, claims, line_uses, packs, says}
 use Rattle.cf_syntax.specs.Mentions.{first_of, ownership_of, used_at}
 use Rattle.cf_syntax.specs.Owned.{FitsByBlock}
@@ -21,7 +18,7 @@ use Rattle.cf_graph.specs.Degrees.{owns}
 use Rattle.cf_graph.specs.Holders.{Holder, parcel, variable}
 use Rattle.cf_next.specs.Demands.{Demand, does, frame_lines}
 use Rattle.cf_next.specs.Next.{action_in, object_at, used_objects}
-use Rattle.cf_next.specs.Stands.{Frame, Kind, Stand, Turn, Work, item_of, of_block, of_handler, of_run}
+use Rattle.cf_next.specs.Stands.{Frame, Kind, Stand, Work, item_of, of_block, of_handler, of_run}
 use Rattle.cf_model.proofs.Phases.{phase_case}
 use Rattle.cf_model.proofs.Acting.{demand_fits}
 use Rattle.cf_model.proofs.Balance.{IsLive}
@@ -38,9 +35,9 @@ use Rattle.cf_model.proofs.Views.{FrameView, StandView, WorkView, first_drops, f
 use Rattle.cf_model.specs.Deals.{Deal}
 use Rattle.cf_model.specs.Journals.{owners_of}
 use Rattle.cf_model.specs.Known.{facts_of}
-use Rattle.cf_model.specs.State.{Parts, State, awake, first_held, flags_at, is_made, stand_at, until}
-use Rattle.cf_model.specs.Steps.{Step, claim_step, close_step, demanded, done_by, end_step, fire, fire_if, found, frames_at, idle, pack_step, packed_holder, phase_step, release_step, retain_step, sleeping, spend_if, start_all, statement_step, step_answer, step_finals, step_of, turn_step, unwoken_step}
-use Rattle.cf_model.specs.Things.{Thing, mode_date, thing_at}
+use Rattle.cf_model.specs.State.{Parts, State, first_held, is_made, stand_at}
+use Rattle.cf_model.specs.Steps.{Step, claim_step, close_step, demanded, done_by, end_step, fire, fire_if, found, frames_at, pack_step, packed_holder, phase_step, release_step, retain_step, spend_if, start_all, statement_step, step_answer, step_finals, step_of}
+use Rattle.cf_model.specs.Things.{Thing, thing_at}
 use Rattle.cf_model.specs.Tokens.{lines_done, owed_in}
 
 module _ (c : Script) (t : ℕ) (st : State) (own : FitsByBlock c) (h : IsSound c st) where

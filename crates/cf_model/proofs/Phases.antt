@@ -1,5 +1,5 @@
 -- What holds of each step that a phase can be holds of the step of a phase.
-use Rattle.std.proofs.Common.{Bool, List, None, Option, Some, [], cond, false, true, ℕ}
+use Rattle.std.proofs.Common.{Bool, List, Option, [], cond, false, true, ℕ}
 use Rattle.cf_ids.specs.declared.answer.Answer.TheVariants as answers
 use Rattle.rl_base.specs.Dates.{earlier}
 use Rattle.rl_turn.specs.declared.phases.Phase.{Phase}

@@ -1,5 +1,5 @@
 -- The step of each line keeps what its thread's holders hold, and what it uses is live.
-use Rattle.std.proofs.Common.{◌++◌, ◌+◌, ◌-◌, ◌<◌, ◌∙◌, ◌∷◌, ◌≡◌, ◌⊎◌, Bool, List, None, Option, Some, [], ap, append-nil, arith, cond, false, inl, inr, length, ltb, map, refl, replicate, subst, suc, sym, take, true, zero, ℕ}
+use Rattle.std.proofs.Common.{◌++◌, ◌+◌, ◌-◌, ◌<◌, ◌∙◌, ◌∷◌, ◌≡◌, ◌⊎◌, Bool, List, None, Option, Some, [], ap, append-nil, arith, cond, false, inl, inr, length, ltb, map, refl, replicate, subst, suc, sym, true, zero, ℕ}
 use Rattle.std.proofs.lemmas.Bool.{eq-eqb}
 use Rattle.std.proofs.lemmas.Bool.Decides.{nat_tests}
 use Rattle.cf_ids.specs.declared.answer.Answer.{Answer}
@@ -24,7 +24,7 @@ use Rattle.cf_graph.specs.Edges.{Reference, has, held_by, held_if, one, weigh}
 use Rattle.cf_graph.specs.Flows.{flow_lost, flow_won, grows, shrinks}
 use Rattle.cf_graph.specs.Holders.{owed, parcel, variable}
 use Rattle.cf_next.specs.Advance.{advanced, bound_object, is_post, object_in, owed_by}
-use Rattle.cf_next.specs.Demands.{does, frame_lines}
+use Rattle.cf_next.specs.Demands.{does}
 use Rattle.cf_next.specs.Next.{object_at, used_objects}
 use Rattle.cf_next.specs.Stands.{Binding, Frame, Work, look, release_of}
 use Rattle.cf_model.proofs.Balance.{IsBalanced, IsLive, live_there}

@@ -2,12 +2,10 @@
 use Rattle.std.proofs.Common.{◌-◌, ◌<◌, ◌∷◌, ◌≡◌, Bool, List, None, Option, Some, [], ap, append-nil, arith, cond, eqb, false, inl, inr, length, ltb, map, refl, subst, suc, sym, true, zero, ℕ}
 use Rattle.std.proofs.lemmas.Bool.{eq-eqb}
 use Rattle.std.proofs.lemmas.Bool.Decides.{eqb_tells, nat_tests}
-use Rattle.std.specs.Prelude.{◌||◌, slice_get}
+use Rattle.std.specs.Prelude.{slice_get}
 use Rattle.cf_ids.specs.declared.answer.Answer.{Answer}
 use Rattle.cf_ids.specs.declared.answer.Answer.TheVariants as answers
-use Rattle.rl_base.specs.Dates.{has_come}
 use Rattle.rl_turn.specs.declared.phases.Phase.{Phase}
-use Rattle.rl_turn.specs.declared.phases.Phase.TheVariants as phases
 use Rattle.cf_syntax.proofs.BlockLaws.{owned_fits}
 use Rattle.cf_syntax.specs.BlockLines.{BlockLine, begins, claims, line_ownership, line_uses, packs, says}
 use Rattle.cf_syntax.specs.Mentions.{ownership_of}
@@ -21,7 +19,7 @@ use Rattle.cf_next.specs.Advance.{advanced, bound_object, frames_after, is_enter
 use Rattle.cf_next.specs.Demands.{Demand, calls, closes, does, drops, ends, enters, frame_lines, owes, returns, spends}
 use Rattle.cf_next.specs.Facts.{Facts}
 use Rattle.cf_next.specs.Next.{action_in, used_objects}
-use Rattle.cf_next.specs.Stands.{Frame, Kind, Stand, Turn, Work, of_block, of_handler, of_run, opening_stand, stop_stand}
+use Rattle.cf_next.specs.Stands.{Frame, Kind, Stand, Work, of_block, of_handler, of_run, opening_stand, stop_stand}
 use Rattle.cf_next.specs.declared.action.Action.{Action}
 use Rattle.cf_next.specs.declared.action.Action.TheVariants as actions
 use Rattle.cf_model.proofs.Phases.{phase_case}
@@ -46,9 +44,9 @@ use Rattle.cf_model.specs.Deals.{Deal, okay}
 use Rattle.cf_model.specs.Journals.{After, MayUseAll, action_uses, after_action, owners_of, state_from, ticked, uses_of}
 use Rattle.cf_model.specs.Known.{facts_of}
 use Rattle.cf_model.specs.Own.{own_reference}
-use Rattle.cf_model.specs.State.{State, at_or, awake, blank, flags_at, stand_at, start, threads_of, with_stand}
-use Rattle.cf_model.specs.Steps.{Step, acted, close_step, cut_flow, demanded, done_by, flowing, idle, phase_step, sleeping, spend_if, stand_after, step_answer, step_finals, step_of, stopped_at, turn_step, unwoken_step}
-use Rattle.cf_model.specs.Things.{Thing, mode_date, thing_at}
+use Rattle.cf_model.specs.State.{State, at_or, blank, stand_at, start, threads_of, with_stand}
+use Rattle.cf_model.specs.Steps.{Step, acted, close_step, cut_flow, demanded, done_by, flowing, idle, phase_step, spend_if, stand_after, step_answer, step_finals, step_of, stopped_at}
+use Rattle.cf_model.specs.Things.{Thing, thing_at}
 use Rattle.cf_model.specs.declared.entry.Entry.{Entry}
 
 -- ---- frames stay in order

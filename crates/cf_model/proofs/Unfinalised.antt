@@ -1,13 +1,11 @@
 -- What an entry uses is live, and what its answer binds is not finalised.
 use Rattle.std.proofs.Common.{◌≡◌, ℕ, ◌+◌, ◌<◌, Bool, true, false, cond, List, [], ◌∷◌, length, Option, Some, None, ltb, refl, ap, subst, arith}
-use Rattle.std.specs.Prelude.{not, ◌&&◌, ◌||◌, pos, slice_get, ◌==◌}
+use Rattle.std.specs.Prelude.{not, ◌&&◌, pos, slice_get, ◌==◌}
 use Rattle.std.proofs.lemmas.Bool.{eqb-true}
 use Rattle.std.proofs.lemmas.Bool.Decides.{nat_tests}
 use Rattle.cf_ids.specs.declared.answer.Answer.{Answer}
 use Rattle.cf_ids.specs.declared.answer.Answer.TheVariants as answers
 use Rattle.rl_turn.specs.declared.phases.Phase.{Phase}
-use Rattle.rl_turn.specs.declared.phases.Phase.TheVariants as phases
-use Rattle.rl_base.specs.Dates.{has_come, earlier}
 use Rattle.cf_syntax.specs.declared.script.Script.{Script}
 use Rattle.cf_syntax.specs.declared.statement.Statement.{Statement}
 use Rattle.cf_syntax.specs.declared.statement.Statement.TheVariants as forms
@@ -15,7 +13,6 @@ use Rattle.cf_syntax.specs.declared.mention.Ownership.{Ownership}
 use Rattle.cf_syntax.specs.declared.mention.Ownership.TheVariants.{Keeps, Binds, Retains, Releases}
 use Rattle.cf_syntax.specs.Mentions.{used_at, ownership_of, first_of}
 use Rattle.cf_syntax.specs.BlockLines.{BlockLine, begins, claims, says, packs}
-use Rattle.cf_next.specs.Turns.{test_result}
 use Rattle.cf_contents.specs.Items.{kind_of, Item, source_item}
 use Rattle.cf_contents.specs.Contents.{Object, times}
 use Rattle.cf_contents.specs.Deeds.{Change, Origin, nowhere, fresh, there, deed_at}
@@ -24,17 +21,16 @@ use Rattle.cf_contents.proofs.FormLaws.{NamesNone, form_fits}
 use Rattle.cf_graph.specs.declared.edge.Owner.{Owner}
 use Rattle.cf_graph.specs.Holders.{parcel, Holder, variable}
 use Rattle.cf_graph.specs.Edges.{Reference, counted, degree}
-use Rattle.cf_next.specs.Stands.{has_run, Role, as_observer, as_source, as_timer, as_receiver, Turn, Kind, of_run, of_handler, of_block, Frame}
+use Rattle.cf_next.specs.Stands.{has_run, Role, as_observer, as_source, as_timer, as_receiver, Kind, of_run, of_handler, of_block, Frame}
 use Rattle.cf_next.specs.Demands.{Demand, does, ends, returns, owes, spends, drops, calls, enters, closes}
 use Rattle.cf_next.specs.Advance.{top_kind}
 use Rattle.cf_next.specs.Next.{object_at, used_objects}
 use Rattle.cf_model.proofs.Phases.{phase_case}
-use Rattle.cf_model.specs.State.{awake, until, flags_at, first_held, is_common, stand_at, Parts, State, is_live}
-use Rattle.cf_model.specs.Known.{facts_of}
-use Rattle.cf_model.specs.Things.{mode_date, Thing, thing_at, is_empty_mode}
+use Rattle.cf_model.specs.State.{first_held, is_common, stand_at, Parts, State, is_live}
+use Rattle.cf_model.specs.Things.{Thing, thing_at, is_empty_mode}
 use Rattle.cf_model.specs.Deals.{entering, leaving, common_deal, stop_deal, add_deal, drop_deal, place_in, stays_in_one, is_elsewhere, holds_at, held_at, places_added, places_dropped, invalidate_deal, every_place, with_item, wake_parts, okay, observe_deal, forget_deal, change_unless_skipped, Deal, answering, with_used, with_thing, thing_deal, with_filter, change_deal, signal_deal, thread_in, deal_of}
 use Rattle.cf_model.specs.Own.{present_of}
-use Rattle.cf_model.specs.Steps.{activity, sleeping, unwoken_step, Made, item_made, bound_if, result_answer, call_answer, spend_if, found, object_answer, close_step, turn_step, phase_step, Step, idle, type_in, cut_answer, release_step, retain_step, statement_step, step_of, bindings_of, depth_of, packed_holder, claim_step, pack_step}
+use Rattle.cf_model.specs.Steps.{activity, Made, item_made, bound_if, result_answer, call_answer, spend_if, found, object_answer, close_step, phase_step, Step, type_in, cut_answer, release_step, retain_step, statement_step, step_of, bindings_of, depth_of, packed_holder, claim_step, pack_step}
 use Rattle.cf_model.specs.Journals.{Use, reaches, takes, knows, MayUse, MayUseAll}
 use Rattle.cf_model.specs.Finals.{one_at, bound_in, object_of_use, uses_among}
 use Rattle.cf_model.proofs.Balance.{IsBalanced, IsLive}

@@ -2,12 +2,10 @@
 use Rattle.std.proofs.Common.{◌++◌, ◌+◌, ◌<◌, ◌==◌, ◌∙◌, ◌∷◌, ◌≡◌, ◌≤◌, ◌⊎◌, Bool, List, None, Option, Some, [], ap, arith, cond, drop, eqb, false, inl, inr, length, ltb, map, refl, subst, suc, sym, true, zero, ℕ}
 use Rattle.std.proofs.lemmas.Bool.{eq-eqb, ltb-true}
 use Rattle.std.proofs.lemmas.Bool.Decides.{eqb_tells, nat_tests}
-use Rattle.std.specs.Prelude.{◌||◌, is_some, slice_get}
+use Rattle.std.specs.Prelude.{is_some, slice_get}
 use Rattle.cf_ids.specs.declared.answer.Answer.{Answer}
 use Rattle.cf_ids.specs.declared.answer.Answer.TheVariants as answers
-use Rattle.rl_base.specs.Dates.{earlier, has_come}
 use Rattle.rl_turn.specs.declared.phases.Phase.{Phase}
-use Rattle.rl_turn.specs.declared.phases.Phase.TheVariants as phases
 use Rattle.cf_syntax.specs.BlockLines.{BlockLine, begins, claims, packs, says}
 use Rattle.cf_syntax.specs.Mentions.{first_of, ownership_of}
 use Rattle.cf_syntax.specs.declared.mention.Ownership.{Ownership}
@@ -22,7 +20,7 @@ use Rattle.cf_next.specs.Advance.{bodies_of, is_post, is_spent, kind_item, owed_
 use Rattle.cf_next.specs.Demands.{Demand, drops, frame_lines, owes, slot_if, spends, work_demand, work_left}
 use Rattle.cf_next.specs.Facts.{Facts}
 use Rattle.cf_next.specs.Next.{object_at, used_objects}
-use Rattle.cf_next.specs.Stands.{Binding, Frame, Kind, Stand, Turn, Work, item_of, look, of_block, of_handler, of_run, release_of, slots_of, spend_of, stop_stand}
+use Rattle.cf_next.specs.Stands.{Binding, Frame, Kind, Stand, Work, item_of, look, of_block, of_handler, of_run, release_of, slots_of, spend_of, stop_stand}
 use Rattle.cf_model.proofs.Phases.{phase_case}
 use Rattle.cf_model.proofs.Balance.{IsBalanced}
 use Rattle.cf_model.proofs.DealLaws.{FitsDeal, SameBodies, flags_bodies, same_bodies}
@@ -33,9 +31,8 @@ use Rattle.cf_model.proofs.Tokens.{at_other}
 use Rattle.cf_model.proofs.Views.{FrameView, StandView, WorkView, first_drops, first_owes, first_spends, is_call, is_close, is_end, is_line, is_phase, is_return, of_frame, of_work}
 use Rattle.cf_model.specs.Deals.{Deal, deal_of}
 use Rattle.cf_model.specs.Known.{facts_of, slot_left}
-use Rattle.cf_model.specs.State.{Parts, Sleeping, State, at_or, awake, blank, first_held, flags_at, left_of, stand_at, until, with_stand}
-use Rattle.cf_model.specs.Steps.{Bound, Step, bind_step, bound_of, claim_step, close_step, end_step, frames_at, idle, line_step, made_from, pack_step, packed_holder, phase_step, release_step, retain_step, sleeping, start_all, statement_step, step_of, stopped_at, turn_step, unwoken_step, with_sleep}
-use Rattle.cf_model.specs.Things.{mode_date}
+use Rattle.cf_model.specs.State.{Parts, Sleeping, State, at_or, awake, blank, first_held, left_of, stand_at, until, with_stand}
+use Rattle.cf_model.specs.Steps.{Bound, Step, bind_step, bound_of, claim_step, close_step, end_step, frames_at, idle, line_step, made_from, pack_step, packed_holder, phase_step, release_step, retain_step, sleeping, start_all, statement_step, step_of, stopped_at, with_sleep}
 
 -- how often the slots of a body wait in work
 abbrev pub waits_in : ℕ → List Work → ℕ

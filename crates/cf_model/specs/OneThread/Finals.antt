@@ -6,10 +6,8 @@ use Rattle.cf_ids.specs.declared.answer.Answer.TheVariants as answers
 use Rattle.cf_syntax.specs.declared.script.Script.{Script}
 use Rattle.cf_graph.specs.OneThread.Edges.{weigh, owning, holding}
 use Rattle.cf_next.specs.declared.action.Action.{Action}
-use Rattle.cf_next.specs.declared.action.Action.TheVariants as actions
 use Rattle.cf_model.specs.declared.entry.Entry.{Entry}
 use Rattle.cf_model.specs.OneThread.State.{State, is_made}
-use Rattle.cf_contents.specs.Deeds.{first_of}
 pub use Rattle.cf_next.specs.Actions.{cut_of}
 use Rattle.cf_model.specs.OneThread.Journals.{After, used_of}
 

@@ -1,6 +1,7 @@
 -- The files of lemmas of cf_script.
 pub mod ClassLaws
 pub mod HexLaws
+pub mod HintLaws
 pub mod NameLaws
 pub mod NumberLaws
 pub mod OpeningLaws

@@ -17,10 +17,15 @@ use smallvec::SmallVec;
 use std::alloc::{AllocError, Global};
 use std::marker::Model;
 
+/// How many hints there are, one for each value of a byte.
+const HINTS: usize = 256;
+
 /// The names so far: of the open block's variables, and of the script's handlers, modes and notices.
 #[derive(Drop)]
 pub(crate) struct Names {
     pub variables: IndexSet<Vec<u8>>,
+    /// Where a variable whose name ends in certain bytes was found last. It may be gone since.
+    hints: [u16; HINTS],
     pub handlers: IndexSet<Vec<u8>>,
     pub modes: IndexSet<Vec<u8>>,
     pub notices: IndexSet<Vec<u8>>,
@@ -60,6 +65,44 @@ fn number_of(
     Ok(place)
 }
 
+/// The hint of a name: a value of its last three bytes.
+#[inline(always)]
+fn hint_of(word: &[u8]) -> u8 {
+    match word {
+        [] => 0,
+        [last] => *last,
+        [second, last] => last.wrapping_add(second.wrapping_mul(10)),
+        [.., third, second, last] => last
+            .wrapping_add(second.wrapping_mul(10))
+            .wrapping_add(third.wrapping_mul(100)),
+    }
+}
+
+/// The number of a variable. It is where its hint says, unless another name stands there.
+fn variable_number(
+    alloc: Global,
+    names: &mut IndexSet<Vec<u8>>,
+    hints: &mut [u16; HINTS],
+    word: &[u8],
+) -> Result<usize, LineFault>
+    requires { length names.old.keys ≤ VARIABLES }
+    ensures place { GivesAs (λ n. n) result (number_in VARIABLES word.now (texts names.old.keys)) }
+    ensures names { OnOk result (texts names.new.keys ≡ with_name (texts names.old.keys) word.now) }
+    ensures below { IfOk result (λ n. n < VARIABLES) }
+    ensures few { length names.new.keys ≤ VARIABLES }
+{
+    let hint = usize::from(hint_of(word));
+    let place = usize::from(hints[hint]);
+    if let Some(name) = names.as_slice().get(place) {
+        if is(word, name.as_slice()) {
+            return Ok(place);
+        }
+    }
+    let place = number_of(alloc, names, VARIABLES, word)?;
+    hints[hint] = place as u16;
+    Ok(place)
+}
+
 impl Names {
     /// Before line 1: `default` is mode 0.
     pub fn new(alloc: Global) -> Result<Names, AllocError>
@@ -69,6 +112,7 @@ impl Names {
         modes.insert(Vec::from_slice(alloc, b"default")?)?;
         Ok(Names {
             variables: IndexSet::new(alloc),
+            hints: [0; HINTS],
             handlers: IndexSet::new(alloc),
             modes,
             notices: IndexSet::new(alloc),
@@ -87,7 +131,9 @@ impl Names {
         ensures below { IfOk result (λ n. n < limit_of table) }
     {
         match table {
-            NameTable::Variables => number_of(alloc, &mut self.variables, VARIABLES, word),
+            NameTable::Variables => {
+                variable_number(alloc, &mut self.variables, &mut self.hints, word)
+            }
             NameTable::Handlers => number_of(alloc, &mut self.handlers, HANDLERS, word),
             NameTable::Modes => number_of(alloc, &mut self.modes, MODES, word),
             NameTable::Notices => number_of(alloc, &mut self.notices, NOTICES, word),

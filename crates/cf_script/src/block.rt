@@ -1,7 +1,7 @@
 //! The lines of a script, one after another: what they made so far, and the lines inside a block.
 ghost use Rattle.std.specs.Prelude.{◌≡◌, ◌+◌, ◌<◌, ◌^◌, IfOk, IfSome, IsTrue, Ok, OnOk, Some, [], length, map, position};
 ghost use Rattle.std.specs.Option.{option_map};
-ghost use Rattle.std.specs.Str.{bytes_eq, IsAscii};
+ghost use Rattle.std.specs.Str.{bytes_eq, IsUtf8};
 ghost use Rattle.cf_syntax.specs.Text.{Opened, start, is_header, new_block, with_statement, is_handler, close_block, end_line, place_line, header_line, spoken_line, after_line, handler_named, ended, script_at, whole};
 ghost use Rattle.cf_script.specs.Gives.{GivesAs};
 ghost use Rattle.cf_script.specs.Views.{lent};
@@ -220,21 +220,21 @@ impl Reader {
         }
     }
 
-    /// A line more; it may be known that its bytes are ASCII.
+    /// A line more; it may be known that it is UTF-8.
     #[tactic(auto, unfolding(cf_syntax::specs::Text::after_line))]
     pub fn after_line<'a>(
         &mut self,
         alloc: Global,
         found: &mut Vec<&'a [u8]>,
         line: &'a [u8],
-        is_ascii: bool,
+        is_known: bool,
     ) -> Result<(), LineFault>
         requires count { self.old.count + 1 < 2 ^ 32 }
-        requires ascii { IsTrue is_ascii → IsAscii line.now }
+        requires utf8 { IsTrue is_known → IsUtf8 line.now }
         ensures read { GivesAs (λ _. reading_of self.new) result (after_line [] (reading_of self.old) line.now) }
         ensures count { OnOk result (self.new.count ≡ self.old.count + 1) }
     {
-        if !is_line_utf8(line, is_ascii) {
+        if !is_line_utf8(line, is_known) {
             return Err(LineFault::Faulty(Reason::NotUtf8));
         }
         let count = self.count + 1;

@@ -1,7 +1,7 @@
 //! The lines of a text.
 ghost use Rattle.std.specs.Prelude.{◌≡◌, ◌∷◌, ◌<◌, IsTrue, length};
 ghost use Rattle.std.specs.Prelude.{nat_eq, ◌==◌, position};
-ghost use Rattle.std.specs.Str.{is_utf8, IsAscii};
+ghost use Rattle.std.specs.Str.{is_utf8, IsUtf8};
 ghost use Rattle.cf_syntax.specs.Lines.{lines, without_return};
 ghost use Rattle.cf_syntax.specs.Words.{is_blank, says_nothing};
 
@@ -14,8 +14,7 @@ fn line_end(bytes: &[u8]) -> Option<usize>
 
 /// A piece without the CR at its end.
 fn without_return(piece: &[u8]) -> &[u8]
-    ensures value { result.now ≡ without_return piece.now }
-    ensures ascii { IsAscii piece.now → IsAscii result.now }
+    ensures { result.now ≡ without_return piece.now }
 {
     match piece {
         [front @ .., b'\r'] => front,
@@ -28,7 +27,7 @@ pub(crate) fn next_line(bytes: &[u8]) -> (&[u8], &[u8])
     requires { 0 < length bytes.now }
     ensures lines { lines bytes.now ≡ result.0.now ∷ lines result.1.now }
     ensures shorter { length result.1.now < length bytes.now }
-    ensures ascii { IsAscii bytes.now → IsAscii result.0.now × IsAscii result.1.now }
+    ensures utf8 { IsUtf8 bytes.now → IsUtf8 result.0.now × IsUtf8 result.1.now }
 {
     match line_end(bytes) {
         Some(end) => {
@@ -70,12 +69,12 @@ pub(crate) fn is_utf8(bytes: &[u8]) -> bool
     }
 }
 
-/// Whether a line is UTF-8, as it is where its bytes are known to be ASCII.
+/// Whether a line is UTF-8, which may be known.
 #[inline(always)]
-#[tactic(auto, using(crate::proofs::Utf8::ascii_is_utf8))]
-pub(crate) fn is_line_utf8(line: &[u8], is_ascii: bool) -> bool
-    requires { IsTrue is_ascii → IsAscii line.now }
+#[tactic(auto, using(crate::proofs::Utf8::known_utf8))]
+pub(crate) fn is_line_utf8(line: &[u8], is_known: bool) -> bool
+    requires { IsTrue is_known → IsUtf8 line.now }
     ensures { result ≡ is_utf8 line.now }
 {
-    if is_ascii { true } else { is_utf8(line) }
+    if is_known { true } else { is_utf8(line) }
 }

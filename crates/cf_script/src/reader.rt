@@ -7,7 +7,7 @@ ghost use Rattle.cf_script.specs.Gives.{Gives, GivesFault};
 
 use crate::block::Reader;
 use crate::fault::{LineFault, ScriptFault};
-use crate::lines::next_line;
+use crate::lines::{is_utf8, next_line};
 use cf_syntax::{Refusal, Script};
 use std::alloc::Global;
 
@@ -25,9 +25,8 @@ fn on_line(count: u32, fault: LineFault) -> ScriptFault
     }
 }
 
-/// The script that bytes are the text of. The bytes are read once, in time that is linear in them. They are at most
-/// 1,048,576. `Refused` comes exactly if they are the text of no script, unless memory runs out, and `NoMemory` for
-/// want of memory alone.
+/// The script that bytes are the text of, in time that is linear in them. They are at most 1,048,576. `Refused` comes
+/// exactly if they are the text of no script, unless memory runs out, and `NoMemory` for want of memory alone.
 pub fn read_script(alloc: Global, bytes: &[u8]) -> Result<Script, ScriptFault>
     requires { length bytes.now ≤ SCRIPT_BYTES }
     ensures { Gives result (script_of bytes.now) }
@@ -36,13 +35,13 @@ pub fn read_script(alloc: Global, bytes: &[u8]) -> Result<Script, ScriptFault>
         return Err(ScriptFault::NoMemory);
     };
     let mut found = Vec::new(alloc);
-    // A text of ASCII alone is UTF-8 in each line.
-    let is_ascii = bytes.is_ascii();
+    // Where a text is UTF-8, each of its lines is.
+    let is_known = is_utf8(bytes);
     let mut rest = bytes;
     while !rest.is_empty() {
         let (line, after) = next_line(rest);
         let count = reader.count;
-        if let Err(fault) = reader.after_line(alloc, &mut found, line, is_ascii) {
+        if let Err(fault) = reader.after_line(alloc, &mut found, line, is_known) {
             return Err(on_line(count, fault));
         }
         rest = after;

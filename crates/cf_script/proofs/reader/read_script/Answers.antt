@@ -12,7 +12,7 @@ pub loop-rest-init : goal.loop-rest-init
 loop-rest-init c = record {
   so_far = ap (λ (r : Reading). finish r (lines c.args.bytes.now)) c.in-Ok.ensures ∙ script_finish c.args.bytes.now;
   within = omega (arith, ap (λ (r : Reading). r.count) c.in-Ok.ensures, c.requires);
-  ascii = where_true c.is_ascii-is_ascii.result c.args.bytes.now c.is_ascii-is_ascii.ensures.cases;
+  utf8 = where_true c.is_utf8-is_known.result c.args.bytes.now c.is_utf8-is_known.ensures;
 }
 
 pub returns-in-Err : goal.returns-in-Err

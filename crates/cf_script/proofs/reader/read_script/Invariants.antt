@@ -1,7 +1,7 @@
 -- The loop invariants of `reader::read_script`.
 use Rattle.std.proofs.Common.{◌≡◌, ◌+◌, ◌≤◌, length}
 use Rattle.std.specs.Prelude.{IsTrue}
-use Rattle.std.specs.Str.{IsAscii}
+use Rattle.std.specs.Str.{IsUtf8}
 use Rattle.cf_syntax.specs.Lines.{lines}
 use Rattle.cf_syntax.specs.Text.{script_of}
 use Rattle.cf_script.specs.BlockViews.{reading_of}
@@ -13,7 +13,7 @@ abbrev pub invariant-loop-rest : goal.invariant-loop-rest
 invariant-loop-rest l = record {
   so_far : finish (reading_of l.reader) (lines l.rest) ≡ script_of l.bytes;
   within : l.reader.count + length l.rest ≤ 1048576;
-  ascii : IsTrue l.is_ascii → IsAscii l.rest;
+  utf8 : IsTrue l.is_known → IsUtf8 l.rest;
 }
 
 abbrev pub decreases-loop-rest : goal.decreases-loop-rest

@@ -119,8 +119,7 @@ enum Step {
     /// The third node is not freed while it is in the list.
     FreeLinked,
     Unlink,
-    FreeUnlinked,
-    FreeAgain,
+    Free,
     InsertBefore,
 }
 
@@ -137,8 +136,8 @@ const STEPS: [(Step, &str, &str); 6] = [
         "true [2, 1, 0, 0, 0] true",
         "the middle one out",
     ),
-    (Step::FreeUnlinked, "Some(3)", "freed"),
-    (Step::FreeAgain, "None Some(1)", "freed once"),
+    (Step::Free, "Some(3) Some(1)", "freed"),
+    (Step::Free, "None Some(1)", "freed once"),
     (
         Step::InsertBefore,
         "true [2, 4, 1, 0, 0] true true",
@@ -146,36 +145,67 @@ const STEPS: [(Step, &str, &str); 6] = [
     ),
 ];
 
+/// The values in a list, what a free of a node in it gives, and whether it is still there.
+fn free_linked(
+    alloc: Global,
+    links: &mut Links<u8>,
+    l: ListId,
+    n: Node,
+) -> Result<String, AllocError> {
+    let before = values(links, l);
+    let freed = links.free(n);
+    let is_there = links.list_of(n) == Some(l);
+    format!(in alloc; "{before:?} {freed:?} {is_there}")
+}
+
+/// Whether a node is taken out, the values that are left, and whether it is in no list.
+fn take_out(
+    alloc: Global,
+    links: &mut Links<u8>,
+    l: ListId,
+    n: Node,
+) -> Result<String, AllocError> {
+    let done = unlink(links, n);
+    let left = values(links, l);
+    let is_out = links.list_of(n).is_none();
+    format!(in alloc; "{done} {left:?} {is_out}")
+}
+
+/// What a free of a node gives, and the value of another node.
+fn free_beside(
+    alloc: Global,
+    links: &mut Links<u8>,
+    n: Node,
+    other: Node,
+) -> Result<String, AllocError> {
+    let freed = links.free(n);
+    format!(in alloc; "{freed:?} {:?}", links.value(other))
+}
+
+/// Whether a node is put before another, the values then, and whether it stands there and a third node first.
+fn put_before(
+    alloc: Global,
+    links: &mut Links<u8>,
+    l: ListId,
+    nodes: &[Node; 4],
+) -> Result<String, AllocError> {
+    let [at, first, _, n] = *nodes;
+    let done = insert_before(links, at, n);
+    let now = values(links, l);
+    let is_before = links.prev(at) == Some(n);
+    let is_first = links.prev(first).is_none();
+    format!(in alloc; "{done} {now:?} {is_before} {is_first}")
+}
+
 fn outcome_of(alloc: Global, fixture: &mut Fixture, step: Step) -> Result<String, AllocError> {
-    let [a, b, c, d] = fixture.nodes;
+    let [a, _, c, _] = fixture.nodes;
     let list = fixture.list;
-    let links = &mut fixture.links;
     match step {
         Step::Look => format!(in alloc; "{} {}", fixture.takes_none, fixture.is_pushed),
-        Step::FreeLinked => {
-            let before = values(links, list);
-            let freed = links.free(c);
-            let is_there = links.list_of(c) == Some(list);
-            format!(in alloc; "{before:?} {freed:?} {is_there}")
-        }
-        Step::Unlink => {
-            let done = unlink(links, c);
-            let left = values(links, list);
-            let is_out = links.list_of(c).is_none();
-            format!(in alloc; "{done} {left:?} {is_out}")
-        }
-        Step::FreeUnlinked => format!(in alloc; "{:?}", links.free(c)),
-        Step::FreeAgain => {
-            let freed = links.free(c);
-            format!(in alloc; "{freed:?} {:?}", links.value(a))
-        }
-        Step::InsertBefore => {
-            let done = insert_before(links, a, d);
-            let now = values(links, list);
-            let is_before = links.prev(a) == Some(d);
-            let is_first = links.prev(b).is_none();
-            format!(in alloc; "{done} {now:?} {is_before} {is_first}")
-        }
+        Step::FreeLinked => free_linked(alloc, &mut fixture.links, list, c),
+        Step::Unlink => take_out(alloc, &mut fixture.links, list, c),
+        Step::Free => free_beside(alloc, &mut fixture.links, c, a),
+        Step::InsertBefore => put_before(alloc, &mut fixture.links, list, &fixture.nodes),
     }
 }
 

@@ -151,27 +151,27 @@ fn leaves(rt: HostRuntime) -> Result<(), Fail> {
 #[derive(Clone, Copy)]
 enum Step {
     /// A class of one field, made with keys, is registered.
-    Register(&'static str),
-    /// So are 1,009 classes of names with three digits.
+    Register,
+    /// So are 1,009 classes, named from `000` on.
     Fill,
-    /// A class is looked up.
-    Class(TypeId),
+    /// The class of a number is looked up.
+    Class(u16),
 }
 
-// What each step gives: the answer, that of the last class, or the length of a class's name, its fields and what its
-// instances are compared by.
+// A step, the name that is registered or looked up, and what the step gives: the answer, that of the last class, or
+// the length of a class's name, its fields and what its instances are compared by.
 const STEPS: [(Step, &str, &str); 11] = [
-    (Step::Register("p"), "Ok(TypeId(14))", "the first class"),
-    (Step::Register("p"), "Err(Taken)", "the same name"),
-    (Step::Register("String"), "Err(Taken)", "a built-in name"),
-    (Step::Register("q"), "Ok(TypeId(15))", "the second class"),
-    (Step::Fill, "Ok(TypeId(1024))", "the last class"),
-    (Step::Register("z"), "Err(Full)", "a new name, full"),
-    (Step::Register("p"), "Err(Full)", "a taken name, full"),
-    (Step::Class(TypeId(1)), "4 0 identity", "the class 1"),
-    (Step::Class(TypeId(13)), "15 0 identity", "the class 13"),
-    (Step::Class(TypeId(14)), "1 1 key", "the class 14"),
-    (Step::Class(TypeId(1024)), "3 1 key", "the class 1024"),
+    (Step::Register, "p", "Ok(TypeId(14))"),
+    (Step::Register, "p", "Err(Taken)"),
+    (Step::Register, "String", "Err(Taken)"),
+    (Step::Register, "q", "Ok(TypeId(15))"),
+    (Step::Fill, "000 to :08", "Ok(TypeId(1024))"),
+    (Step::Register, "z", "Err(Full)"),
+    (Step::Register, "p", "Err(Full)"),
+    (Step::Class(1), "Null", "4 0 identity"),
+    (Step::Class(13), "RunLoopObserver", "15 0 identity"),
+    (Step::Class(14), "p", "1 1 key"),
+    (Step::Class(1024), ":08", "3 1 key"),
 ];
 
 fn registered(alloc: Global, registry: &mut Registry, name: &str) -> Result<TypeId, RegisterFault> {
@@ -206,9 +206,14 @@ fn description_of(alloc: Global, class: Option<&Class>) -> Result<String, AllocE
     }
 }
 
-fn outcome_of(alloc: Global, registry: &mut Registry, step: &Step) -> Result<String, AllocError> {
-    match *step {
-        Step::Register(name) => {
+fn outcome_of(
+    alloc: Global,
+    registry: &mut Registry,
+    step: Step,
+    name: &str,
+) -> Result<String, AllocError> {
+    match step {
+        Step::Register => {
             let answer = registered(alloc, registry, name);
             format!(in alloc; "{answer:?}")
         }
@@ -216,16 +221,17 @@ fn outcome_of(alloc: Global, registry: &mut Registry, step: &Step) -> Result<Str
             let answer = fill(alloc, registry);
             format!(in alloc; "{answer:?}")
         }
-        Step::Class(id) => description_of(alloc, registry.class(id)),
+        Step::Class(number @ 1..=1024) => description_of(alloc, registry.class(TypeId(number))),
+        Step::Class(_) => String::from_str(alloc, "no number of a class"),
     }
 }
 
 #[test]
 fn registry(rt: HostRuntime) -> Result<(), Fail> {
     let mut registry = Registry::new(rt.alloc())?;
-    for (i, (step, gives, about)) in STEPS.iter().enumerate() {
-        let outcome = outcome_of(rt.alloc(), &mut registry, step)?;
-        assert_gives(&rt, i, outcome.as_str(), gives, about);
+    for (i, &(step, name, gives)) in STEPS.iter().enumerate() {
+        let outcome = outcome_of(rt.alloc(), &mut registry, step, name)?;
+        assert_gives(&rt, i, outcome.as_str(), gives, name);
     }
     Ok(())
 }

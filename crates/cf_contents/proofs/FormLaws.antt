@@ -16,7 +16,6 @@ use Rattle.cf_syntax.specs.declared.script.ClassLine.{ClassLine}
 use Rattle.cf_syntax.specs.declared.statement.Statement.{Statement}
 use Rattle.cf_syntax.specs.declared.statement.Statement.TheVariants as forms
 use Rattle.cf_contents.specs.Contents.{Content, text_content, data_content, number_content, instance_content, array_content, dictionary_content, set_content, bag_content, heap_content, times, present, slots_in, size_of, instance_of}
-use Rattle.cf_syntax.specs.declared.mention.ThreadWord.TheVariants.{Own, Named}
 use Rattle.cf_syntax.specs.declared.mention.Ownership.{Ownership}
 use Rattle.cf_syntax.specs.declared.mention.Ownership.TheVariants.{Keeps, Binds, Retains, Releases}
 use Rattle.cf_syntax.specs.Mentions.{ownership_of, makes_object}
@@ -398,16 +397,12 @@ form_fits classes (forms.MakeTimer v first interval handler info) a b c = answer
 form_fits classes (forms.MakeObserver v mask repeats order handler info) a b c = answers (Binds v) true b c _ tt
 form_fits classes (forms.Add item thread mode) a b c = answers Keeps false b c _ tt
 form_fits classes (forms.Drop item thread mode) a b c = answers Keeps false b c _ tt
-form_fits classes (forms.Common Own mode) a b c = answers Keeps false b c _ tt
-form_fits classes (forms.Common (Named t) mode) a b c = answers Keeps false b c _ tt
+form_fits classes (forms.Common thread mode) a b c = answers Keeps false b c _ tt
 form_fits classes (forms.Signal source) a b c = answers Keeps false b c _ tt
 form_fits classes (forms.Invalidate item) a b c = answers Keeps false b c _ tt
-form_fits classes (forms.Wake Own) a b c = answers Keeps false b c _ tt
-form_fits classes (forms.Wake (Named t)) a b c = answers Keeps false b c _ tt
-form_fits classes (forms.Stop Own) a b c = answers Keeps false b c _ tt
-form_fits classes (forms.Stop (Named t)) a b c = answers Keeps false b c _ tt
+form_fits classes (forms.Wake thread) a b c = answers Keeps false b c _ tt
+form_fits classes (forms.Stop thread) a b c = answers Keeps false b c _ tt
 form_fits classes (forms.Run mode limit once) a b c = answers Keeps false b c _ tt
 form_fits classes (forms.Observe observer handler name filter) a b c = answers Keeps false b c _ tt
 form_fits classes (forms.Forget observer name filter) a b c = answers Keeps false b c _ tt
-form_fits classes (forms.Post name None) a b c = answers Keeps false b c _ tt
-form_fits classes (forms.Post name (Some v)) a b c = answers Keeps false b c _ tt
+form_fits classes (forms.Post name info) a b c = answers Keeps false b c _ tt

@@ -11,7 +11,6 @@ use Rattle.rl_turn.specs.declared.phases.Phase.TheVariants as phases
 use Rattle.cf_syntax.specs.declared.script.Script.{Script}
 use Rattle.cf_syntax.specs.declared.statement.Statement.{Statement}
 use Rattle.cf_syntax.specs.declared.statement.Statement.TheVariants as forms
-use Rattle.cf_syntax.specs.declared.mention.ThreadWord.TheVariants.{Own, Named}
 use Rattle.cf_syntax.specs.declared.mention.Ownership.{Ownership}
 use Rattle.cf_syntax.specs.declared.mention.Ownership.TheVariants.{Keeps, Binds, Retains, Releases}
 use Rattle.cf_syntax.specs.Mentions.{ownership_of, first_of}
@@ -72,14 +71,6 @@ CutBy _ c used = c ≡ None
 
 statement_cut : (x : Statement) (site : Site) → CutBy (ownership_of x) (cut_of (action_of x site)) site.used
 statement_cut (forms.Release v) site = refl
-statement_cut (forms.Common Own mode) site = refl
-statement_cut (forms.Common (Named u) mode) site = refl
-statement_cut (forms.Wake Own) site = refl
-statement_cut (forms.Wake (Named u)) site = refl
-statement_cut (forms.Stop Own) site = refl
-statement_cut (forms.Stop (Named u)) site = refl
-statement_cut (forms.Post name None) site = refl
-statement_cut (forms.Post name (Some v)) site = refl
 statement_cut x site = refl
 
 -- a step tells its finals where its flow takes away what its action says, or nothing

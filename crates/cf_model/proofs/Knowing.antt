@@ -96,11 +96,7 @@ abbrev Posts : ℕ → BlockLine → List ℕ → Type 0
 Posts n x list = is_post x ≡ true → AllBelow n list
 
 statement_posts : (c : Script) (t d : ℕ) (st : State) (x : Statement) (used : List (Option ℕ)) → Posts (length st.parts.registrations) (says x) (statement_step c t d st x used (ownership_of x)).list
-statement_posts c t d st (forms.Post name None) used e =
-    let n = length st.parts.registrations in
-    filter_below n (λ k. is_there_and (may_receive st.parts) (slice_index_or st.parts.registrations k None)) (receivers name (first_of used) st.parts.registrations)
-    (filter_below n (λ k. is_there_and (matches name (first_of used)) (slice_index_or st.parts.registrations k None)) (range_with_len 0 n) (range_below n 0 n (omega arith)))
-statement_posts c t d st (forms.Post name (Some v)) used e =
+statement_posts c t d st (forms.Post name info) used e =
     let n = length st.parts.registrations in
     filter_below n (λ k. is_there_and (may_receive st.parts) (slice_index_or st.parts.registrations k None)) (receivers name (first_of used) st.parts.registrations)
     (filter_below n (λ k. is_there_and (matches name (first_of used)) (slice_index_or st.parts.registrations k None)) (range_with_len 0 n) (range_below n 0 n (omega arith)))

@@ -6,7 +6,6 @@ use Rattle.cf_ids.specs.declared.answer.Answer.{Answer}
 use Rattle.cf_ids.specs.declared.answer.Answer.TheVariants as answers
 use Rattle.cf_syntax.specs.declared.statement.Statement.{Statement}
 use Rattle.cf_syntax.specs.declared.statement.Statement.TheVariants as forms
-use Rattle.cf_syntax.specs.declared.mention.ThreadWord.TheVariants.{Own, Named}
 use Rattle.cf_syntax.specs.declared.mention.Ownership.{Ownership}
 use Rattle.cf_syntax.specs.declared.mention.Ownership.TheVariants.{Releases}
 use Rattle.cf_syntax.specs.Mentions.{ownership_of, used_at}
@@ -51,14 +50,6 @@ LiveBy st _ used = (i o : ℕ) → used_at used i ≡ Some o → IsLive st o
 
 pub statement_live : (st : State) (t : ℕ) (owners : List Owner) (x : Statement) (site : Site) → MayUseAll st t owners (action_uses (action_of x site)) → LiveBy st (ownership_of x) site.used
 statement_live st t owners (forms.Release v) site h = tt
-statement_live st t owners (forms.Common Own mode) site h = all_live st t owners site.used h
-statement_live st t owners (forms.Common (Named u) mode) site h = all_live st t owners site.used h
-statement_live st t owners (forms.Wake Own) site h = all_live st t owners site.used h
-statement_live st t owners (forms.Wake (Named u)) site h = all_live st t owners site.used h
-statement_live st t owners (forms.Stop Own) site h = all_live st t owners site.used h
-statement_live st t owners (forms.Stop (Named u)) site h = all_live st t owners site.used h
-statement_live st t owners (forms.Post name None) site h = all_live st t owners site.used h
-statement_live st t owners (forms.Post name (Some v)) site h = all_live st t owners site.used h
 statement_live st t owners x site h = all_live st t owners site.used h
 
 -- an entry that does not skip uses what its action does

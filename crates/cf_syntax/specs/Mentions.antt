@@ -20,7 +20,8 @@ abbrev pub info_mention : Option ℕ → Option Mention
 info_mention None = None
 info_mention (Some v) = Some (Uses v)
 
--- the words of a line that name something, of which there are at most three
+-- the words of a line that name something, of which there are at most three. A line that may name nothing in its first
+-- place names nothing there, so that what it binds is seen from its form alone
 abbrev pub named : (first second third : Option Mention) → List (Option Mention)
 named first second third = first ∷ second ∷ third ∷ []
 
@@ -79,15 +80,15 @@ mentions_of (FieldClear v at) = named (Some (Uses v)) None None
 mentions_of (FieldTake v o at) = named (Some (Binds v)) (Some (Uses o)) None
 mentions_of (Add item thread mode) = named (Some (Uses item)) (thread_mention thread) None
 mentions_of (Drop item thread mode) = named (Some (Uses item)) (thread_mention thread) None
-mentions_of (Common thread mode) = named (thread_mention thread) None None
+mentions_of (Common thread mode) = named None (thread_mention thread) None
 mentions_of (Signal source) = named (Some (Uses source)) None None
 mentions_of (Invalidate item) = named (Some (Uses item)) None None
-mentions_of (Wake thread) = named (thread_mention thread) None None
-mentions_of (Stop thread) = named (thread_mention thread) None None
+mentions_of (Wake thread) = named None (thread_mention thread) None
+mentions_of (Stop thread) = named None (thread_mention thread) None
 mentions_of (Run mode limit once) = named None None None
 mentions_of (Observe v handler name filter) = named (Some (Uses v)) (Some (Handler handler)) (info_mention filter)
 mentions_of (Forget v name filter) = named (Some (Uses v)) (info_mention filter) None
-mentions_of (Post name info) = named (info_mention info) None None
+mentions_of (Post name info) = named None (info_mention info) None
 
 -- the variable that a word uses
 abbrev pub used : Option Mention → Option ℕ

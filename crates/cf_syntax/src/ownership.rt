@@ -230,7 +230,7 @@ impl Statement {
             ],
             Statement::Common { thread, .. }
             | Statement::Wake { thread }
-            | Statement::Stop { thread } => [thread_mention(thread), None, None],
+            | Statement::Stop { thread } => [None, thread_mention(thread), None],
             Statement::Signal { source } => [Some(Mention::Uses(*source)), None, None],
             Statement::Invalidate { item } => [Some(Mention::Uses(*item)), None, None],
             Statement::Run { .. } => [None, None, None],
@@ -249,7 +249,7 @@ impl Statement {
                 filter,
                 ..
             } => [Some(Mention::Uses(*observer)), info_mention(filter), None],
-            Statement::Post { info, .. } => [info_mention(info), None, None],
+            Statement::Post { info, .. } => [None, info_mention(info), None],
         }
     }
 

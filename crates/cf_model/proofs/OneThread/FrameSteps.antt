@@ -1,17 +1,15 @@
 -- The step of the action that a frame demands is that of the frame's statement.
-use Rattle.std.proofs.Common.{◌≡◌, ℕ, List, Option, Some, None, refl, sym, ap, ◌∙◌}
+use Rattle.std.proofs.Common.{◌≡◌, ℕ, List, Option, Some, None, refl, ap, ◌∙◌}
 use Rattle.cf_syntax.specs.declared.script.Script.{Script}
 use Rattle.cf_syntax.specs.declared.script.ClassLine.{ClassLine}
 use Rattle.cf_syntax.specs.declared.statement.Statement.{Statement}
 use Rattle.cf_syntax.specs.declared.statement.Statement.TheVariants as forms
 use Rattle.cf_syntax.specs.declared.mention.Ownership.{Ownership}
 use Rattle.cf_syntax.specs.declared.mention.Ownership.TheVariants.{Keeps, Binds, Retains, Releases}
-use Rattle.cf_syntax.specs.declared.mention.Mention.{Mention}
-use Rattle.cf_syntax.specs.Mentions.{mentions_of, ownership_of, bound_in}
+use Rattle.cf_syntax.specs.Mentions.{ownership_of}
 use Rattle.cf_ids.specs.declared.answer.Answer.{Answer}
 use Rattle.cf_ids.specs.declared.answer.Answer.TheVariants as answers
 use Rattle.cf_contents.specs.Deeds.{first_of}
-use Rattle.cf_model.proofs.OneThread.Fitting.{bound_takes}
 use Rattle.cf_model.specs.OneThread.State.{State, Frame}
 use Rattle.cf_next.specs.Actions.{Site, site_of, action_of}
 use Rattle.cf_model.specs.OneThread.Steps.{Step, cut_by, step_with, step_at, step_for, statement_step, done_step, statement_in}
@@ -59,25 +57,11 @@ final_none : (answer : Answer) → final_if answer None ≡ None
 final_none (answers.Final c) = refl
 final_none _ = refl
 
-final_bound : (ms : List (Option Mention)) (answer : Answer) (o : Option ℕ) → final_at (bound_in ms) answer o ≡ None
-final_bound ms answer o = bound_takes ms (λ ownership. final_at ownership answer o ≡ None) refl (λ v. refl)
-
-cut_bound : (ms : List (Option Mention)) (o : Option ℕ) → cut_by (bound_in ms) o ≡ None
-cut_bound ms o = bound_takes ms (λ ownership. cut_by ownership o ≡ None) refl (λ v. refl)
-
 pub final_of-action_of : (s : Statement) (site : Site) (answer : Answer) → final_of (action_of s site) answer ≡ final_at (ownership_of s) answer (first_of site.used)
 final_of-action_of (forms.Release v) site answer = refl
-final_of-action_of (forms.Common t m) site answer = final_none answer ∙ sym (final_bound (mentions_of (forms.Common t m)) answer (first_of site.used))
-final_of-action_of (forms.Wake t) site answer = final_none answer ∙ sym (final_bound (mentions_of (forms.Wake t)) answer (first_of site.used))
-final_of-action_of (forms.Stop t) site answer = final_none answer ∙ sym (final_bound (mentions_of (forms.Stop t)) answer (first_of site.used))
-final_of-action_of (forms.Post n i) site answer = final_none answer ∙ sym (final_bound (mentions_of (forms.Post n i)) answer (first_of site.used))
 final_of-action_of _ site answer = final_none answer
 
 -- the object to which a statement takes a reference away
 pub cut_of-action_of : (s : Statement) (site : Site) → cut_of (action_of s site) ≡ cut_by (ownership_of s) (first_of site.used)
 cut_of-action_of (forms.Release v) site = refl
-cut_of-action_of (forms.Common t m) site = sym (cut_bound (mentions_of (forms.Common t m)) (first_of site.used))
-cut_of-action_of (forms.Wake t) site = sym (cut_bound (mentions_of (forms.Wake t)) (first_of site.used))
-cut_of-action_of (forms.Stop t) site = sym (cut_bound (mentions_of (forms.Stop t)) (first_of site.used))
-cut_of-action_of (forms.Post n i) site = sym (cut_bound (mentions_of (forms.Post n i)) (first_of site.used))
 cut_of-action_of _ site = refl

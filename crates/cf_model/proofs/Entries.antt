@@ -78,7 +78,7 @@ module _ (s : Script) (st : State) where
       let second = subst (λ (w : ℕ). IsLegalStep s st (entry w b y)) (sym same) (q.legal s st (entry u b y) k) in
       subst (λ (w : ℕ). entry t a x ≡ entry w b y) same (step_same s st t a b x y (p.legal s st (entry t a x) h) second)
 
-  same_entry : (e f : Entry) → IsLegalEntry s st e → IsLegalEntry s st f → choice_in e.thread e.action ≡ choice_in f.thread f.action
+  pub same_entry : (e f : Entry) → IsLegalEntry s st e → IsLegalEntry s st f → choice_in e.thread e.action ≡ choice_in f.thread f.action
       → e ≡ f
   same_entry e f h k c = same_by e.thread f.thread e.action f.action e.answer f.answer (action_view e.action) (action_view f.action) h k c
 

@@ -166,7 +166,7 @@ stop_names : (st : State) (u : ℕ) (b : Bool) → has_run (stand_at u st.stands
 stop_names st u true e = rw e tt
 stop_names st u false e = rw e tt
 
-deal_names : (s : Script) (t : ℕ) (st : State) (x : Statement) (used : List (Option ℕ)) → NamesNone (deal_of s t st x used).answer
+pub deal_names : (s : Script) (t : ℕ) (st : State) (x : Statement) (used : List (Option ℕ)) → NamesNone (deal_of s t st x used).answer
 deal_names s t st (forms.Add v u m) used =
     names_thing st.parts (first_of used) (λ i x. with_used st.parts (thread_in t u) (λ w. add_deal s st w (place_in m) i x)) (λ i x. names_used st.parts (thread_in t u) (λ w. add_deal s st w (place_in m) i x)
     (λ w. add_names st.parts (not x.valid) (stays_in_one (kind_of x.item) && is_elsewhere s w i st.edges) (holds_at w i st.edges (place_in m)) (held_at w i (places_added s w i st (place_in m)))))

@@ -5,7 +5,7 @@ use Rattle.cf_model.specs.declared.entry.Entry.{Entry}
 use Rattle.cf_model.specs.declared.ending.Ending.{Ending}
 use Rattle.cf_model.specs.declared.ending.Ending.TheVariants as endings
 use Rattle.cf_model.specs.State.{State}
-use Rattle.cf_model.specs.Journals.{can_go, makes, After, all_done, has_stalled, IsWhole}
+use Rattle.cf_model.specs.Journals.{can_go, makes, After, has_stalled, IsWhole}
 
 -- as many objects were made as one run may make, and the next action of a thread makes another
 pub record IsFull (s : Script) (st : State) : Type 0 where
@@ -14,11 +14,11 @@ pub record IsFull (s : Script) (st : State) : Type 0 where
   pub making : IsTrue (makes s st thread)
   pub made : length st.parts.objects ≡ 65536
 
--- a journal that ends with a stall; one that is whole; one at its limit of which some thread is not done; and one
--- below it that can go no further, since a next action makes an object too many
+-- a journal that ends with a stall, and one that is whole; one that is neither, and as long as its limit; and one that
+-- is none of these, since the next action of a thread makes an object too many
 abbrev pub Ends : Script → (limit : ℕ) → List Entry → Ending → Type 0
 Ends s limit es endings.Stalled = IsTrue (has_stalled es)
 Ends s limit es endings.Done = IsWhole s es
-Ends s limit es endings.Limit =
-    (has_stalled es ≡ false) × (length es ≡ limit) × (all_done s (After s es) ≡ false)
-Ends s limit es endings.Full = (has_stalled es ≡ false) × (length es < limit) × IsFull s (After s es)
+Ends s limit es endings.Limit = (has_stalled es ≡ false) × (IsWhole s es → ⊥) × (length es ≡ limit)
+Ends s limit es endings.Full =
+    (has_stalled es ≡ false) × (IsWhole s es → ⊥) × (length es < limit) × IsFull s (After s es)

@@ -1,0 +1,8 @@
+-- Answers to the goals of `lines::lines_of_three_signals`.
+use Rattle.std.proofs.Common.{refl}
+use Rattle.cf_contents.proofs.OnLiterals.{description_on_literals}
+use Rattle.cf_render.proofs.lines.lines_of_three_signals.Goals as goal
+
+pub returns : goal.returns
+unfolding description_on_literals
+returns c = refl

@@ -1,0 +1,11 @@
+//! What is written of a journal: a line for each entry, a line for each object that is left, and the end line.
+#![tactic(auto)]
+
+mod lines;
+
+pub use lines::{
+    lines_of_a_common_item, lines_of_a_cycle, lines_of_a_key_that_stays, lines_of_a_plain_array,
+    lines_of_a_quiet_signal, lines_of_a_slow_clock, lines_of_a_stall, lines_of_a_worker,
+    lines_of_an_early_wake, lines_of_three_signals, lines_of_two_equal_elements,
+    lines_of_two_posts, lines_of_two_releases, lines_of_what_was_taken_out,
+};

@@ -7,3 +7,12 @@ pub mod Demands
 pub mod Advance
 pub mod Next
 pub mod Ahead
+pub mod Views
+pub mod Grids
+pub mod Lines
+pub mod Steps
+pub mod WorkSteps
+pub mod Stacks
+pub mod Standing
+pub mod Finding
+pub mod Advancing

@@ -1,6 +1,7 @@
 //! What a thread does, one entry of a journal each.
 ghost use Rattle.std.specs.Prelude.{◌≡◌};
 ghost use Rattle.cf_next.specs.Actions.{action_of, cut_of};
+ghost use Rattle.cf_next.specs.Standing.{is_retain, posts};
 
 use cf_ids::{HandlerId, ModeId, ObjId, ThreadId};
 use cf_syntax::Statement;
@@ -438,5 +439,19 @@ impl Action {
             Action::Owed(object) | Action::DropSlot { object, .. } => Some(*object),
             _ => None,
         }
+    }
+
+    /// Whether it is a retain.
+    pub(crate) fn is_retain(&self) -> bool
+        ensures { result ≡ is_retain self.now }
+    {
+        matches!(self, Action::Retain { .. })
+    }
+
+    /// Whether it is a `post`.
+    pub(crate) fn is_post(&self) -> bool
+        ensures { result ≡ posts self.now }
+    {
+        matches!(self, Action::Post { .. })
     }
 }

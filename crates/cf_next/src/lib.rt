@@ -3,5 +3,23 @@
 #![tactic(auto)]
 
 mod action;
+mod advance;
+mod calling;
+mod facts;
+mod finding;
+mod frames;
+mod lines;
+mod object;
+mod parts;
+mod rows;
+mod stack;
+mod step;
+mod turn;
+mod work;
 
 pub use action::Action;
+pub use facts::Facts;
+pub use frames::Frames;
+pub use object::{MaybeObject, Used};
+pub use parts::Callee;
+pub use step::Step;

@@ -1,0 +1,1 @@
+-- The files of lemmas of cf_next_parts.

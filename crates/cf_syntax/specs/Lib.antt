@@ -12,5 +12,6 @@ pub mod Refusals
 pub mod Examples
 pub mod Text
 pub mod Spaced
+pub mod Stage
 pub mod TextRows
 pub mod Words

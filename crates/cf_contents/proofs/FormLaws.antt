@@ -15,7 +15,7 @@ use Rattle.cf_types.specs.declared.cells.Cell.{Cell}
 use Rattle.cf_syntax.specs.declared.script.ClassLine.{ClassLine}
 use Rattle.cf_syntax.specs.declared.statement.Statement.{Statement}
 use Rattle.cf_syntax.specs.declared.statement.Statement.TheVariants as forms
-use Rattle.cf_contents.specs.Contents.{Content, text_content, data_content, number_content, instance_content, array_content, dictionary_content, set_content, bag_content, heap_content, times, present, slots_in, size_of, instance_of}
+use Rattle.cf_contents.specs.Contents.{Content, text_content, data_content, number_content, instance_content, array_content, dictionary_content, set_content, bag_content, heap_content, item_content, times, present, slots_in, size_of, instance_of}
 use Rattle.cf_syntax.specs.declared.mention.Ownership.{Ownership}
 use Rattle.cf_syntax.specs.declared.mention.Ownership.TheVariants.{Keeps, Binds, Retains, Releases}
 use Rattle.cf_syntax.specs.Mentions.{ownership_of, makes_object}
@@ -33,6 +33,40 @@ ChangesFor (Releases v) change = change ≡ unchanged
 abbrev pub NamesNone : Answer → Type 0
 NamesNone (words.Object o) = ⊥
 NamesNone _ = Unit {0}
+
+-- an answer of a statement that changes an object: it is not skipped
+abbrev pub Acts : Answer → Type 0
+Acts (words.Object o) = ⊥
+Acts words.Skip = ⊥
+Acts _ = Unit {0}
+
+acts_names : (a : Answer) → Acts a → NamesNone a
+acts_names (words.Object o) h = absurd h
+acts_names _ h = tt
+
+-- a statement that is skipped changes nothing
+abbrev pub SkipsAll : Answer → Change → Type 0
+SkipsAll words.Skip change = change ≡ unchanged
+SkipsAll _ change = Unit {0}
+
+acts_skips : (a : Answer) (change : Change) → Acts a → SkipsAll a change
+acts_skips words.Skip change h = absurd h
+acts_skips _ change h = tt
+
+nothing_skipped : (a : Answer) → SkipsAll a unchanged
+nothing_skipped words.Skip = refl
+nothing_skipped _ = tt
+
+-- no item of a run loop
+abbrev pub IsNoItem : Content → Type 0
+IsNoItem (item_content handler info valid item) = ⊥
+IsNoItem _ = Unit {0}
+
+-- what is new is no item of a run loop
+abbrev pub MakesNoItem : Origin → Type 0
+MakesNoItem nowhere = Unit {0}
+MakesNoItem (fresh ob) = IsNoItem ob.content
+MakesNoItem (there o) = Unit {0}
 
 -- only a form that makes objects gives a new one
 abbrev pub MakesOnly : Bool → Origin → Type 0
@@ -60,6 +94,8 @@ pub record Fits (ownership : Ownership) (making : Bool) (b c : Option Numbered) 
   pub only : MakesOnly making d.origin
   pub changes : ChangesFor ownership d.change
   pub names : NamesNone d.answer
+  pub skips : SkipsAll d.answer d.change
+  pub items : MakesNoItem d.origin
   pub used : AreUsed b c (named_in d.change)
 
 no_change : (ownership : Ownership) → ChangesFor ownership unchanged
@@ -110,7 +146,7 @@ pair_used b c k v first second = record { among = pair_among b c k v first secon
 
 module _ (ownership : Ownership) (making : Bool) (b c : Option Numbered) where
   answers : (a : Answer) → NamesNone a → Fits ownership making b c (answering a)
-  answers a names = record { makes = tt; small = tt; only = no_making making; changes = no_change ownership; names = names; used = none b c }
+  answers a names = record { makes = tt; small = tt; only = no_making making; changes = no_change ownership; names = names; skips = nothing_skipped a; items = tt; used = none b c }
 
   by_object : (o : Option Numbered) (f : Numbered → Deed)
       → ((u : Numbered) → number_of o ≡ Some u.number → Fits ownership making b c (f u))
@@ -231,26 +267,26 @@ module _ (ownership : Ownership) (making : Bool) (b c : Option Numbered) where
 
 -- a statement that makes an object, and one that binds what is there
 module _ (ownership : Ownership) (b c : Option Numbered) where
-  makes : (class : ℕ) (content : Content) → slots_in content ≡ [] → size_of content ≡ 0
+  makes : (class : ℕ) (content : Content) → slots_in content ≡ [] → size_of content ≡ 0 → IsNoItem content
       → Fits ownership true b c (creating class content)
-  makes class content empty small =
-      record { makes = empty; small = small; only = tt; changes = no_change ownership; names = tt; used = none b c }
+  makes class content empty small items =
+      record { makes = empty; small = small; only = tt; changes = no_change ownership; names = tt; skips = refl; items = items; used = none b c }
 
   takes : (o : Option ℕ) → Fits ownership false b c (binding o)
   takes None = answers ownership false b c _ tt
-  takes (Some o) = record { makes = tt; small = tt; only = tt; changes = no_change ownership; names = tt; used = none b c }
+  takes (Some o) = record { makes = tt; small = tt; only = tt; changes = no_change ownership; names = tt; skips = tt; items = tt; used = none b c }
 
   makes_instance : (class : ℕ) (key : ℤ) (line : Option ClassLine)
       → Fits ownership true b c (fresh_if (instance_of class key line))
   makes_instance class key None = answers ownership true b c _ tt
   makes_instance class key (Some line) =
-      record { makes = present-empty line.fields; small = refl; only = tt; changes = no_change ownership; names = tt; used = none b c }
+      record { makes = present-empty line.fields; small = refl; only = tt; changes = no_change ownership; names = tt; skips = refl; items = tt; used = none b c }
 
 -- a statement that changes an object
 module _ (b c : Option Numbered) where
-  changes : (a : Answer) (change : Change) → NamesNone a → AreUsed b c (named_in change)
+  changes : (a : Answer) (change : Change) → Acts a → AreUsed b c (named_in change)
       → Fits Keeps false b c (changing a change)
-  changes a change names used = record { makes = tt; small = tt; only = tt; changes = tt; names = names; used = used }
+  changes a change acts used = record { makes = tt; small = tt; only = tt; changes = tt; names = acts_names a acts; skips = acts_skips a change acts; items = tt; used = used }
 
   changes_text : (at len : ℕ) (other units : List ℕ) → Fits Keeps false b c (text_edit units at len other)
   changes_text at len other units = by_cut Keeps false b c (split_fault units at len) _ (changes _ _ tt (none b c))
@@ -268,8 +304,8 @@ module _ (b c : Option Numbered) where
 
   -- by a key that is the second object, and a value that is the third
   module _ (key : Cell) (value : ℕ) (first : number_of b ≡ Some key.id) (second : number_of c ≡ Some value) where
-    puts : (a : Answer) → NamesNone a → Fits Keeps false b c (putting a key value)
-    puts a names = changes a _ names (pair_used b c key.id value first second)
+    puts : (a : Answer) → Acts a → Fits Keeps false b c (putting a key value)
+    puts a acts = changes a _ acts (pair_used b c key.id value first second)
 
     adds_pair : (old : Option ℕ) → Fits Keeps false b c (adding_pair key value old)
     adds_pair None = puts _ tt
@@ -318,21 +354,21 @@ module _ (b c : Option Numbered) where
 
 pub form_fits : (classes : List ClassLine) (s : Statement) (a b c : Option Numbered)
     → Fits (ownership_of s) (makes_object s) b c (deed_of classes s a b c)
-form_fits classes (forms.MakeString v text) a b c = makes (Binds v) b c _ _ refl refl
-form_fits classes (forms.MakeMstring v text) a b c = makes (Binds v) b c _ _ refl refl
-form_fits classes (forms.MakeData v bytes) a b c = makes (Binds v) b c _ _ refl refl
-form_fits classes (forms.MakeMdata v bytes) a b c = makes (Binds v) b c _ _ refl refl
-form_fits classes (forms.MakeNumber v n) a b c = makes (Binds v) b c _ _ refl refl
-form_fits classes (forms.MakeArray v true) a b c = makes (Binds v) b c _ _ refl refl
-form_fits classes (forms.MakeArray v false) a b c = makes (Binds v) b c _ _ refl refl
-form_fits classes (forms.MakeDict v true) a b c = makes (Binds v) b c _ _ refl refl
-form_fits classes (forms.MakeDict v false) a b c = makes (Binds v) b c _ _ refl refl
-form_fits classes (forms.MakeSet v true) a b c = makes (Binds v) b c _ _ refl refl
-form_fits classes (forms.MakeSet v false) a b c = makes (Binds v) b c _ _ refl refl
-form_fits classes (forms.MakeBag v true) a b c = makes (Binds v) b c _ _ refl refl
-form_fits classes (forms.MakeBag v false) a b c = makes (Binds v) b c _ _ refl refl
-form_fits classes (forms.MakeHeap v true) a b c = makes (Binds v) b c _ _ refl refl
-form_fits classes (forms.MakeHeap v false) a b c = makes (Binds v) b c _ _ refl refl
+form_fits classes (forms.MakeString v text) a b c = makes (Binds v) b c _ _ refl refl tt
+form_fits classes (forms.MakeMstring v text) a b c = makes (Binds v) b c _ _ refl refl tt
+form_fits classes (forms.MakeData v bytes) a b c = makes (Binds v) b c _ _ refl refl tt
+form_fits classes (forms.MakeMdata v bytes) a b c = makes (Binds v) b c _ _ refl refl tt
+form_fits classes (forms.MakeNumber v n) a b c = makes (Binds v) b c _ _ refl refl tt
+form_fits classes (forms.MakeArray v true) a b c = makes (Binds v) b c _ _ refl refl tt
+form_fits classes (forms.MakeArray v false) a b c = makes (Binds v) b c _ _ refl refl tt
+form_fits classes (forms.MakeDict v true) a b c = makes (Binds v) b c _ _ refl refl tt
+form_fits classes (forms.MakeDict v false) a b c = makes (Binds v) b c _ _ refl refl tt
+form_fits classes (forms.MakeSet v true) a b c = makes (Binds v) b c _ _ refl refl tt
+form_fits classes (forms.MakeSet v false) a b c = makes (Binds v) b c _ _ refl refl tt
+form_fits classes (forms.MakeBag v true) a b c = makes (Binds v) b c _ _ refl refl tt
+form_fits classes (forms.MakeBag v false) a b c = makes (Binds v) b c _ _ refl refl tt
+form_fits classes (forms.MakeHeap v true) a b c = makes (Binds v) b c _ _ refl refl tt
+form_fits classes (forms.MakeHeap v false) a b c = makes (Binds v) b c _ _ refl refl tt
 form_fits classes (forms.New v None key) a b c = answers (Binds v) true b c _ tt
 form_fits classes (forms.New v (Some class) key) a b c = makes_instance (Binds v) b c class key (class_line classes class)
 form_fits classes (forms.Retain v) a b c = answers (Retains v) false b c _ tt
@@ -344,7 +380,7 @@ form_fits classes (forms.StrInsert v at text) a b c = by_mutable_text Keeps fals
 form_fits classes (forms.StrDelete v at len) a b c = by_mutable_text Keeps false b c a _ (changes_text b c at len [])
 form_fits classes (forms.StrReplace v at len text) a b c = by_mutable_text Keeps false b c a _ (changes_text b c at len text)
 form_fits classes (forms.StrSub v text at len) a b c =
-    by_text (Binds v) true b c a _ (λ units. by_cut (Binds v) true b c (split_fault units at len) _ (makes (Binds v) b c _ _ refl refl))
+    by_text (Binds v) true b c a _ (λ units. by_cut (Binds v) true b c (split_fault units at len) _ (makes (Binds v) b c _ _ refl refl tt))
 form_fits classes (forms.DataAppend v bytes) a b c = by_mutable_data Keeps false b c a _ (λ old. changes_data b c (length old) 0 bytes old)
 form_fits classes (forms.DataReplace v at len bytes) a b c = by_mutable_data Keeps false b c a _ (changes_data b c at len bytes)
 form_fits classes (forms.DataDelete v at len) a b c = by_mutable_data Keeps false b c a _ (changes_data b c at len [])

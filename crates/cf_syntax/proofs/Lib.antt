@@ -6,4 +6,5 @@ pub mod OnLiterals
 pub mod OwnedLaws
 pub mod RefusalLaws
 pub mod SpacedLaws
+pub mod StageLaws
 pub mod WordLaws

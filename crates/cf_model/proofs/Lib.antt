@@ -23,6 +23,9 @@ pub mod Using
 pub mod Sound
 pub mod OwnedNext
 pub mod Sharing
+pub mod Winning
+pub mod PlainDeals
+pub mod PlainStates
 pub mod Receiving
 pub mod Registering
 pub mod Going

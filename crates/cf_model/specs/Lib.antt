@@ -12,6 +12,7 @@ pub mod Serial
 pub mod Endings
 pub mod Coming
 pub mod Sharing
+pub mod Stage
 pub mod Tokens
 pub mod Owned
 pub mod Flowing

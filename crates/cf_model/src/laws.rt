@@ -1,5 +1,5 @@
 //! Laws of journals, which hold of every script.
-ghost use Rattle.std.specs.Prelude.{◌≡◌, ℕ, List, ◌∷◌, ◌++◌};
+ghost use Rattle.std.specs.Prelude.{◌≡◌, ◌<◌, ℕ, true, List, ◌∷◌, ◌++◌, Option, Some, slice_get};
 ghost use Rattle.cf_syntax.specs.declared.script.Script.{Script};
 ghost use Rattle.cf_model.specs.declared.entry.Entry.{Entry};
 ghost use Rattle.cf_model.specs.Choices.{IsDetermined};
@@ -13,6 +13,14 @@ ghost use Rattle.cf_model.specs.Sharing.{AllInView, IsEmpty, MadeWhereChanged, T
 ghost use Rattle.cf_model.specs.Tokens.{HeldAsTold};
 ghost use Rattle.cf_graph.specs.Edges.{Reference};
 ghost use Rattle.cf_syntax.specs.Owned.{Owned};
+ghost use Rattle.cf_syntax.specs.declared.statement.Statement.{Statement};
+ghost use Rattle.cf_syntax.specs.BlockLines.{says};
+ghost use Rattle.cf_syntax.specs.Stage.{is_of_stage, IsOfStage};
+ghost use Rattle.cf_next.specs.Stands.{Kind};
+ghost use Rattle.cf_next.specs.Demands.{Demand, frame_lines};
+ghost use Rattle.cf_model.specs.State.{State, stand_at};
+ghost use Rattle.cf_model.specs.Steps.{demanded};
+ghost use Rattle.cf_model.specs.Stage.{IsPlainStand, IsPlainState, IsPlainDemand, DealsPlainly};
 
 /// Two legal journals of a script with the same threads, and the same ticks and stalls of the lead, are equal: the
 /// answer and the effect of a legal entry are functions of the state.
@@ -134,4 +142,35 @@ pub fn lead_tells_the_times()
 /// A script without threads has no reference and no next action.
 pub fn nothing_without_threads()
     ensures { (s : Script) (es : List Entry) → s.thread_count ≡ 0 → IsEmpty s es }
+{}
+
+/// What a line of a frame says is of a form that the reader takes, where the script's statements are.
+pub fn lines_are_of_the_stage()
+    ensures { (s : Script) (kind : Kind) (block n : ℕ) (x : Statement) → IsOfStage s
+        → slice_get (frame_lines s kind block) n ≡ Some (says x) → is_of_stage x ≡ true }
+{}
+
+/// After every list of entries of a script whose statements are of the forms that the reader takes, each of its
+/// threads is in its block alone.
+pub fn stands_are_plain()
+    ensures { (s : Script) (es : List Entry) (t : ℕ) → IsOfStage s → t < s.thread_count
+        → IsPlainStand t (stand_at t (After s es).stands) }
+{}
+
+/// After every list of entries of such a script, no loop and no notice has anything.
+pub fn parts_are_plain()
+    ensures { (s : Script) (es : List Entry) → IsOfStage s → IsPlainState s (After s es) }
+{}
+
+/// In such a state a thread demands a claim, a statement that the reader takes, what setup packs, the end of its
+/// block, the release of what it was given out, or a slot of a finalised body.
+pub fn plain_demands()
+    ensures { (s : Script) (st : State) (t : ℕ) (d : Demand) → IsOfStage s → IsPlainState s st
+        → demanded s st t ≡ Some d → IsPlainDemand d }
+{}
+
+/// A statement of a form that the reader takes does what its deed says, and no more.
+pub fn plain_deals()
+    ensures { (s : Script) (t : ℕ) (st : State) (x : Statement) (used : List (Option ℕ)) → is_of_stage x ≡ true
+        → DealsPlainly s t st x used }
 {}

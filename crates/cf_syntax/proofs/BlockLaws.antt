@@ -110,7 +110,7 @@ take_within (suc n) i [] lt = refl
 take_within (suc n) zero (x ∷ xs) lt = refl
 take_within (suc n) (suc i) (x ∷ xs) lt = take_within n i xs (omega arith)
 
-past_first : {A : Type 0} (i : ℕ) (xs : List A) → slice_get (drop 1 xs) i ≡ slice_get xs (suc i)
+pub past_first : {A : Type 0} (i : ℕ) (xs : List A) → slice_get (drop 1 xs) i ≡ slice_get xs (suc i)
 past_first i [] = refl
 past_first i (x ∷ xs) = refl
 

@@ -27,14 +27,14 @@ lines_append P [] ys a b n y e = b n y e
 lines_append P (x ∷ xs) ys a b zero y e = a zero y e
 lines_append P (x ∷ xs) ys a b (suc n) y e = lines_append P xs ys (λ m z q. a (suc m) z q) b n y e
 
-one_more : (P : BlockLine → Type 0) (x : BlockLine) (xs : List BlockLine) → P x → AllLines P xs → AllLines P (x ∷ xs)
+pub one_more : (P : BlockLine → Type 0) (x : BlockLine) (xs : List BlockLine) → P x → AllLines P xs → AllLines P (x ∷ xs)
 one_more P x xs here rest zero y e = subst P (line_is x y e) here
 one_more P x xs here rest (suc n) y e = rest n y e
 
-no_lines : (P : BlockLine → Type 0) → AllLines P []
+pub no_lines : (P : BlockLine → Type 0) → AllLines P []
 no_lines P n y e = absurd cc
 
-said_lines : (P : BlockLine → Type 0) (xs : List Statement) → ((n : ℕ) (x : Statement) → slice_get xs n ≡ Some x → P (says x)) → AllLines P (map says xs)
+pub said_lines : (P : BlockLine → Type 0) (xs : List Statement) → ((n : ℕ) (x : Statement) → slice_get xs n ≡ Some x → P (says x)) → AllLines P (map says xs)
 said_lines P [] h = no_lines P
 said_lines P (x ∷ xs) h = one_more P (says x) (map says xs) (h zero x refl) (said_lines P xs (λ n z q. h (suc n) z q))
 

@@ -8,6 +8,7 @@ pub mod Lines
 pub mod Mentions
 pub mod Numbers
 pub mod Owned
+pub mod Packs
 pub mod Refusals
 pub mod Examples
 pub mod Text

@@ -26,6 +26,10 @@ pub mod Sharing
 pub mod Winning
 pub mod PlainDeals
 pub mod PlainStates
+pub mod FirstHeld
+pub mod ParcelSteps
+pub mod PackedLines
+pub mod Parcels
 pub mod Receiving
 pub mod Registering
 pub mod Going

@@ -56,22 +56,21 @@ module _ (P : Holder → Type 0) where
   moves_go k [] p = tt
   moves_go k (r ∷ rs) p = (p, moves_go k rs p)
 
-  module _ (r : Reference) (not_here : P r.holder → ⊥) where
-    apart : (q : Reference) → P q.holder → one r q ≡ 0
-    apart q p = holders_apart r q (λ e. not_here (subst P (sym e) p))
-
-    enters_none : (rs : List Reference) → AllHeld P rs → weigh (one r) rs ≡ 0
+  -- a weight of no reference of these holders
+  module _ (g : Reference → ℕ) (free : (q : Reference) → P q.holder → g q ≡ 0) where
+    enters_none : (rs : List Reference) → AllHeld P rs → weigh g rs ≡ 0
     enters_none [] h = refl
-    enters_none (q ∷ rs) h = omega (arith, apart q h.0, enters_none rs h.1)
+    enters_none (q ∷ rs) h = omega (arith, free q h.0, enters_none rs h.1)
 
-    moves_none : (ms : List Move) → AllGo P ms → won_by_moves (one r) ms ≡ 0
+    moves_none : (ms : List Move) → AllGo P ms → won_by_moves g ms ≡ 0
     moves_none [] h = refl
-    moves_none (m ∷ ms) h = omega (arith, apart (moved m.from m.to) h.0, moves_none ms h.1)
+    moves_none (m ∷ ms) h = omega (arith, free (moved m.from m.to) h.0, moves_none ms h.1)
 
-    pub flow_wins_none : (f : Flow) → FlowGoes P f → flow_won (one r) f ≡ 0
+    pub flow_wins_none : (f : Flow) → FlowGoes P f → flow_won g f ≡ 0
     flow_wins_none (grows rs ms) h = omega (arith, enters_none rs h.0, moves_none ms h.1)
     flow_wins_none (shrinks q) h = refl
 
-    -- a reference that no flow brings weighs no more after it
-    pub flow_brings_none : (f : Flow) (es : List Reference) → FlowGoes P f → weigh (one r) (flowed f es) ≤ weigh (one r) es
-    flow_brings_none f es h = omega (arith, flowed_le (one r) f es, flow_wins_none f h)
+  -- a reference that no flow brings weighs no more after it
+  pub flow_brings_none : (r : Reference) → (P r.holder → ⊥) → (f : Flow) (es : List Reference) → FlowGoes P f → weigh (one r) (flowed f es) ≤ weigh (one r) es
+  flow_brings_none r not_here f es h =
+      omega (arith, flowed_le (one r) f es, flow_wins_none (one r) (λ q p. holders_apart r q (λ e. not_here (subst P (sym e) p))) f h)

@@ -15,6 +15,7 @@ pub mod Sharing
 pub mod Stage
 pub mod Tokens
 pub mod Owned
+pub mod Parcels
 pub mod Flowing
 pub mod Choices
 pub mod Runs

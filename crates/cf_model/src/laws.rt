@@ -8,10 +8,12 @@ ghost use Rattle.cf_model.specs.Flowing.{ChangesGrow, GainsFew, GainsFit, HeldCh
 ghost use Rattle.cf_model.specs.Coming.{ComingIsHad, ComingStays, FirstIsNext, OwnStays};
 ghost use Rattle.cf_model.specs.Finals.{FinalsFit};
 ghost use Rattle.cf_model.specs.Journals.{After, IsLegal};
+ghost use Rattle.cf_model.specs.Parcels.{HasOneAtMost};
 ghost use Rattle.cf_model.specs.Owned.{GivesUp, NextIsLegal, ReleaseIsOwn, UsesFit};
 ghost use Rattle.cf_model.specs.Sharing.{AllInView, IsEmpty, MadeWhereChanged, TimesByLead};
 ghost use Rattle.cf_model.specs.Tokens.{HeldAsTold};
 ghost use Rattle.cf_graph.specs.Edges.{Reference};
+ghost use Rattle.cf_graph.specs.Holders.{parcel};
 ghost use Rattle.cf_syntax.specs.Owned.{Owned};
 ghost use Rattle.cf_syntax.specs.declared.statement.Statement.{Statement};
 ghost use Rattle.cf_syntax.specs.BlockLines.{says};
@@ -173,4 +175,9 @@ pub fn plain_demands()
 pub fn plain_deals()
     ensures { (s : Script) (t : ℕ) (st : State) (x : Statement) (used : List (Option ℕ)) → is_of_stage x ≡ true
         → DealsPlainly s t st x used }
+{}
+
+/// After every list of entries of every script a place of a parcel has one reference at most.
+pub fn parcels_have_one()
+    ensures { (s : Script) (es : List Entry) (u k : ℕ) → HasOneAtMost (parcel u k) (After s es).edges }
 {}

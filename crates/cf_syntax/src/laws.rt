@@ -1,7 +1,9 @@
 //! Laws of the text of a script and of its refusal, and of the words of a line.
-ghost use Rattle.std.specs.Prelude.{◌≡◌, ◌⊎◌, ℕ, List, Some};
+ghost use Rattle.std.specs.Prelude.{◌≡◌, ◌<◌, ◌⊎◌, ℕ, List, length, Option, Some, slice_get};
 ghost use Rattle.cf_syntax.specs.Words.{words};
 ghost use Rattle.cf_syntax.specs.Spaced.{Spaced};
+ghost use Rattle.cf_syntax.specs.BlockLines.{claims, packs, setup_lines, thread_block, thread_lines, uses_in};
+ghost use Rattle.cf_syntax.specs.Packs.{IsWithin};
 ghost use Rattle.cf_syntax.specs.Text.{Text};
 ghost use Rattle.cf_syntax.specs.Refusals.{Refused};
 ghost use Rattle.cf_syntax.specs.declared.script.Script.{Script};
@@ -19,4 +21,13 @@ pub fn each_text_is_read_or_refused()
 pub fn a_line_has_the_words_that_are_found()
     ensures found { (line : List ℕ) (ws : List (List ℕ)) → words line ≡ Some ws → Spaced line ws }
     ensures only { (line : List ℕ) (ws : List (List ℕ)) → Spaced line ws → words line ≡ Some ws }
+{}
+
+/// Each line of setup that packs does so for a thread after setup, and for the place of one of the words after `uses`
+/// of that thread's line; and each claim of a thread is of such a place.
+pub fn packs_are_within()
+    ensures packed { (s : Script) (n u k : ℕ) (v : Option ℕ) → slice_get (setup_lines s) n ≡ Some (packs u k v)
+        → IsWithin s u k }
+    ensures claimed { (s : Script) (t n k v : ℕ) → slice_get (thread_lines s t) n ≡ Some (claims k v)
+        → k < length (uses_in (thread_block s t)) }
 {}

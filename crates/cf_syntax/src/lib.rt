@@ -18,7 +18,9 @@ mod text_rows;
 pub use counts::Counts;
 pub use examples::{a_script_that_is_owned, an_owned_script_fits, scripts_that_are_not_owned};
 pub use form::{BlockKind, NameTable, Operand, StatementForm};
-pub use laws::{a_line_has_the_words_that_are_found, each_text_is_read_or_refused};
+pub use laws::{
+    a_line_has_the_words_that_are_found, each_text_is_read_or_refused, packs_are_within,
+};
 pub use literal::{DataLiteral, TextLiteral};
 pub use mention::{Mention, ModeWord, Ownership, ThreadWord};
 pub use place::Place;

@@ -4,6 +4,7 @@ pub mod CountLaws
 pub mod LineLaws
 pub mod OnLiterals
 pub mod OwnedLaws
+pub mod ReadingLaws
 pub mod PackLaws
 pub mod RefusalLaws
 pub mod SpacedLaws

@@ -4,6 +4,7 @@ ghost use Rattle.cf_syntax.specs.Words.{words};
 ghost use Rattle.cf_syntax.specs.Spaced.{Spaced};
 ghost use Rattle.cf_syntax.specs.BlockLines.{claims, packs, setup_lines, thread_block, thread_lines, uses_in};
 ghost use Rattle.cf_syntax.specs.Packs.{IsWithin};
+ghost use Rattle.cf_syntax.specs.Stage.{IsOfStage};
 ghost use Rattle.cf_syntax.specs.Text.{Text};
 ghost use Rattle.cf_syntax.specs.Refusals.{Refused};
 ghost use Rattle.cf_syntax.specs.declared.script.Script.{Script};
@@ -15,6 +16,11 @@ pub fn each_text_is_read_or_refused()
     ensures either { (bs : List ℕ) → ((s : Script) × Text bs s) ⊎ ((r : Refusal) × Refused bs r) }
     ensures not_both { (bs : List ℕ) (s : Script) (r : Refusal) → Text bs s → Refused bs r → ⊥ }
     ensures one_refusal { (bs : List ℕ) (r q : Refusal) → Refused bs r → Refused bs q → r ≡ q }
+{}
+
+/// Each statement of a text's script is of a form that the reader takes.
+pub fn texts_are_of_the_stage()
+    ensures { (bytes : List ℕ) (s : Script) → Text bytes s → IsOfStage s }
 {}
 
 /// The words that are found in a line are those that it has, and it has no others.

@@ -3,8 +3,9 @@
 use Rattle.std.proofs.Common.{◌≡◌, ℕ, zero, suc, ◌+◌, ◌<◌, ◌≤◌, ◌∙◌, ◌⊎◌, Bool, true, false, cond, List, [], ◌∷◌, ◌++◌, length, map, Option, Some, None, refl, sym, ap, subst, eqb, ltb, arith, inl, inr}
 use Rattle.std.proofs.lemmas.Bool.{cases_lt}
 use Rattle.std.proofs.lemmas.Bool.Decides.{eqb_tells}
-use Rattle.std.specs.Prelude.{slice_get, is_some}
-use Rattle.std.specs.List.{range_with_len}
+use Rattle.std.specs.Prelude.{slice_get, is_some, not, ◌&&◌, ◌||◌, IsTrue}
+use Rattle.std.specs.List.{range_with_len, list_all, list_any}
+use Rattle.rl_base.specs.Dates.{has_come}
 use Rattle.cf_ids.specs.declared.answer.Answer.{Answer}
 use Rattle.cf_syntax.specs.declared.script.Script.{Script}
 use Rattle.cf_syntax.specs.declared.statement.Statement.{Statement}
@@ -33,7 +34,7 @@ use Rattle.cf_model.specs.Known.{facts_of}
 use Rattle.cf_model.specs.Things.{thing_at, thing_of}
 use Rattle.cf_model.specs.Deals.{Deal, change_unless_skipped, change_deal, deal_of, posts_of}
 use Rattle.cf_model.specs.Steps.{Step, item_made, Made, found, made_from, bound_if, new_slots, bind_step, retain_step, cut_flow, cut_step, release_step, deal_step, statement_step, claim_step, pack_step, packed_holder, line_step, start_all, end_step, drop_step, step_of, step_answer, step_finals, stand_after, state_after, stopped_at, frames_at, demanded, done_by, acted, bindings_of, depth_of}
-use Rattle.cf_model.specs.Journals.{after_action, state_from, After, tick_flags, wake_at, ticked}
+use Rattle.cf_model.specs.Journals.{after_action, state_from, After, tick_flags, wake_at, ticked, is_going, is_asleep, sleeps, all_sleep, due_date, is_none, AllowsTick, AllowsStall, IsLegalAs, IsLegalFrom, IsLegal}
 use Rattle.cf_model.specs.Stage.{SpendsNothing, IsPlainStand, IsPlainParts, IsPlainState, IsPlainDemand, is_claim, is_statement, is_pack, is_over, is_owed, is_slot, deed_in, deed_deal, DealsPlainly}
 use Rattle.cf_model.proofs.Tokens.{at_own, at_other, frame}
 use Rattle.cf_model.proofs.Entries.{ActionView, is_tick, is_stall, is_step, action_view}
@@ -116,15 +117,16 @@ NotLoop (in_mode t m) = ⊥
 NotLoop (in_common t) = ⊥
 NotLoop _ = Unit {0}
 
-record StepPlain (s : Script) (step : Step) : Type 0 where
+record StepPlain (s : Script) (st : State) (step : Step) : Type 0 where
   parts : IsPlainParts s step.parts
+  time : step.parts.time ≡ st.parts.time
   stops : step.stops ≡ None
   flow : FlowGoes NotLoop step.flow
 
 module _ (s : Script) (t : ℕ) (st : State) (h : IsPlainParts s st.parts) where
   -- a step that leaves the parts as they are
-  quiet : (step : Step) → step.parts ≡ st.parts → step.stops ≡ None → FlowGoes NotLoop step.flow → StepPlain s step
-  quiet step parts stops flow = record { parts = subst (IsPlainParts s) (sym parts) h; stops = stops; flow = flow }
+  quiet : (step : Step) → step.parts ≡ st.parts → step.stops ≡ None → FlowGoes NotLoop step.flow → StepPlain s st step
+  quiet step parts stops flow = record { parts = subst (IsPlainParts s) (sym parts) h; time = ap (λ (p : Parts). p.time) parts; stops = stops; flow = flow }
 
   with_objects : (p : Parts) → p.registrations ≡ st.parts.registrations → p.commons ≡ st.parts.commons → p.flags ≡ st.parts.flags → ((i : ℕ) → thing_at p i ≡ None) → IsPlainParts s p
   with_objects p registrations commons flags things = record {
@@ -136,12 +138,13 @@ module _ (s : Script) (t : ℕ) (st : State) (h : IsPlainParts s st.parts) where
     flag_count = ap (λ (fs : List Flags). length fs) flags ∙ h.flag_count;
   }
 
-  change_plain : (a : Answer) (b : Option ℕ) (change : Change) (posts : List ℕ) → StepPlain s (deal_step t (change_deal st.parts a b change) posts)
+  change_plain : (a : Answer) (b : Option ℕ) (change : Change) (posts : List ℕ) → StepPlain s st (deal_step t (change_deal st.parts a b change) posts)
   change_plain a None change posts = quiet (deal_step t (change_deal st.parts a None change) posts) refl refl (tt, tt)
   change_plain a (Some b) change posts =
       let deal = change_deal st.parts a (Some b) change in
       record {
         parts = with_objects deal.parts refl refl refl (changed_no_things b change st.parts.objects h.things);
+        time = refl;
         stops = refl;
         flow = (held_all NotLoop (slot b) (taken_in (slice_get st.parts.objects b) change) tt, moves_go NotLoop (owed t) deal.leaves tt);
       }
@@ -151,47 +154,48 @@ module _ (s : Script) (t : ℕ) (st : State) (h : IsPlainParts s st.parts) where
   slots_plain n (fresh ob) = held_all NotLoop (slot n) (slots_in ob.content) tt
   slots_plain n (there o) = tt
 
-  bind_plain : (d v : ℕ) (x : Statement) (used : List (Option ℕ)) → StepPlain s (bind_step (variable t d v) st.parts (bound_if s st.parts x used None))
+  bind_plain : (d v : ℕ) (x : Statement) (used : List (Option ℕ)) → StepPlain s st (bind_step (variable t d v) st.parts (bound_if s st.parts x used None))
   bind_plain d v x used =
       let origin = (deed_in s st x used).origin in
       let step = bind_step (variable t d v) st.parts (bound_if s st.parts x used None) in
       record {
         parts = with_objects step.parts refl refl refl (append_no_things st.parts.objects (made_from origin) h.things (made_no_things origin (deed_fits s st x used).1));
+        time = refl;
         stops = refl;
         flow = (held_append NotLoop _ _ (held_some NotLoop (variable t d v) (found st.parts origin) tt) (slots_plain (length st.parts.objects) origin), tt);
       }
 
-  retain_plain : (k : Holder) (o : Option ℕ) → NotLoop k → StepPlain s (retain_step k st o)
+  retain_plain : (k : Holder) (o : Option ℕ) → NotLoop k → StepPlain s st (retain_step k st o)
   retain_plain k None not = quiet (retain_step k st None) refl refl (tt, tt)
   retain_plain k (Some o) not = quiet (retain_step k st (Some o)) refl refl ((not, tt), tt)
 
-  cut_plain : (k : Holder) (o : ℕ) → StepPlain s (cut_step t k st o)
+  cut_plain : (k : Holder) (o : ℕ) → StepPlain s st (cut_step t k st o)
   cut_plain k o = quiet (cut_step t k st o) refl refl (by (own_reference t k o st.edges))
     where
       by : (r : Option Reference) → FlowGoes NotLoop (cut_flow r)
       by None = (tt, tt)
       by (Some r) = tt
 
-  release_plain : (k : Holder) (o : Option ℕ) → StepPlain s (release_step t k st o)
+  release_plain : (k : Holder) (o : Option ℕ) → StepPlain s st (release_step t k st o)
   release_plain k None = quiet (release_step t k st None) refl refl (tt, tt)
   release_plain k (Some o) = cut_plain k o
 
-  statement_plain : (d : ℕ) (x : Statement) (used : List (Option ℕ)) (ownership : Ownership) → is_of_stage x ≡ true → StepPlain s (statement_step s t d st x used ownership)
+  statement_plain : (d : ℕ) (x : Statement) (used : List (Option ℕ)) (ownership : Ownership) → is_of_stage x ≡ true → StepPlain s st (statement_step s t d st x used ownership)
   statement_plain d x used Keeps of =
       let deed = deed_in s st x used in
-      subst (λ (deal : Deal). StepPlain s (deal_step t deal (posts_of st.parts x used))) (sym (deals_plainly s t st x used of).deal)
+      subst (λ (deal : Deal). StepPlain s st (deal_step t deal (posts_of st.parts x used))) (sym (deals_plainly s t st x used of).deal)
       (change_plain deed.answer (first_of used) (change_unless_skipped deed.answer deed.change) (posts_of st.parts x used))
   statement_plain d x used (Binds v) of =
-      subst (λ (made : Option Made). StepPlain s (bind_step (variable t d v) st.parts (bound_if s st.parts x used made))) (sym (deals_plainly s t st x used of).made)
+      subst (λ (made : Option Made). StepPlain s st (bind_step (variable t d v) st.parts (bound_if s st.parts x used made))) (sym (deals_plainly s t st x used of).made)
       (bind_plain d v x used)
   statement_plain d x used (Retains v) of = retain_plain (variable t d v) (first_of used) tt
   statement_plain d x used (Releases v) of = release_plain (variable t d v) (first_of used)
 
-  claim_plain : (k l : Holder) (o : Option ℕ) → NotLoop l → StepPlain s (claim_step st k o l)
+  claim_plain : (k l : Holder) (o : Option ℕ) → NotLoop l → StepPlain s st (claim_step st k o l)
   claim_plain k l None not = quiet (claim_step st k None l) refl refl (tt, tt)
   claim_plain k l (Some o) not = quiet (claim_step st k (Some o) l) refl refl (tt, (not, tt))
 
-  pack_plain : (k l : Holder) (o : Option ℕ) → NotLoop l → StepPlain s (pack_step t st k o l)
+  pack_plain : (k l : Holder) (o : Option ℕ) → NotLoop l → StepPlain s st (pack_step t st k o l)
   pack_plain k l None not = quiet (pack_step t st k None l) refl refl (tt, tt)
   pack_plain k l (Some o) not =
       quiet (pack_step t st k (Some o) l) refl refl (tt, moves_go NotLoop l (own_references t (held_by k o ∷ []) st.edges) not)
@@ -212,11 +216,15 @@ module _ (s : Script) (t : ℕ) (st : State) (h : IsPlainParts s st.parts) where
   started_count [] = refl
   started_count (f ∷ fs) = ap suc (started_count fs)
 
-  end_plain : StepPlain s (end_step t st)
-  end_plain = record { parts = by (eqb t 0); stops = refl; flow = (tt, tt) }
+  end_plain : StepPlain s st (end_step t st)
+  end_plain = record { parts = by (eqb t 0); time = same (eqb t 0); stops = refl; flow = (tt, tt) }
     where
       started : Parts
       started = record st.parts { flags = start_all st.parts.flags }
+
+      same : (b : Bool) → (cond b started st.parts).time ≡ st.parts.time
+      same true = refl
+      same false = refl
 
       by : (b : Bool) → IsPlainParts s (cond b started st.parts)
       by true = record {
@@ -229,10 +237,10 @@ module _ (s : Script) (t : ℕ) (st : State) (h : IsPlainParts s st.parts) where
       }
       by false = h
 
-  drop_plain : (b o : ℕ) → StepPlain s (drop_step st b o)
-  drop_plain b o = record { parts = with_objects (drop_step st b o).parts refl refl refl h.things; stops = refl; flow = tt }
+  drop_plain : (b o : ℕ) → StepPlain s st (drop_step st b o)
+  drop_plain b o = record { parts = with_objects (drop_step st b o).parts refl refl refl h.things; time = refl; stops = refl; flow = tt }
 
-  step_plain : (fs : List Frame) (d : Demand) → IsPlainDemand d → StepPlain s (step_of s t st fs d)
+  step_plain : (fs : List Frame) (d : Demand) → IsPlainDemand d → StepPlain s st (step_of s t st fs d)
   step_plain fs _ (is_claim k v) = claim_plain (parcel t k) (variable t (depth_of fs) v) (first_held (parcel t k) st.edges) tt
   step_plain fs _ (is_statement x of) = statement_plain (depth_of fs) x (used_objects (bindings_of fs) (says x)) (ownership_of x) of
   step_plain fs _ (is_pack u k v) = pack_plain (packed_holder t (depth_of fs) v) (parcel u k) (object_at (bindings_of fs) v) tt
@@ -337,7 +345,7 @@ module _ (s : Script) (st : State) (t : ℕ) (d : Demand) (of : IsOfStage s) (h 
   plain : IsPlainDemand d
   plain = plain_demand s st t d of h e
 
-  step_is : StepPlain s the_step
+  step_is : StepPlain s st the_step
   step_is = step_plain s t st h.parts (frames_at t st) d plain
 
   post_free : (x : Statement) → is_of_stage x ≡ true → is_post (says x) ≡ false
@@ -438,6 +446,51 @@ pub plain_from : (s : Script) (st : State) (es : List Entry) → IsOfStage s →
 plain_from s st [] of h = h
 plain_from s st (e ∷ es) of h = plain_from s (after_action s e.thread st e.action) es of (plain_after_action s st e.thread e.action of h)
 
+-- ---- no loop sleeps, so no tick and no stall is legal
+
+going_awake : (going asleep : ℕ → Bool) (ts : List ℕ) → ((t : ℕ) → asleep t ≡ false) → (list_any going ts && list_all (λ t. not (going t) || asleep t) ts) ≡ false
+going_awake going asleep [] h = refl
+going_awake going asleep (t ∷ ts) h = by (going t) (asleep t) (h t) (going_awake going asleep ts h)
+  where
+    and_false : (a b : Bool) → b ≡ false → (a && b) ≡ false
+    and_false true b e = e
+    and_false false b e = refl
+
+    by : (a b : Bool) → b ≡ false → (list_any going ts && list_all (λ t. not (going t) || asleep t) ts) ≡ false
+        → ((a || list_any going ts) && ((not a || b) && list_all (λ t. not (going t) || asleep t) ts)) ≡ false
+    by true true e rest = absurd cc
+    by true false e rest = refl
+    by false b e rest = rest
+
+pub none_sleeps : (s : Script) (st : State) → IsPlainState s st → all_sleep s st ≡ false
+none_sleeps s st h = going_awake (is_going st) (sleeps st) (threads_of s) (λ t. ap is_asleep (h.parts.is_awake t))
+
+not_allowed : (a b : Bool) → a ≡ false → IsTrue (a && b) → ⊥
+not_allowed true b e h = absurd cc
+not_allowed false b e h = absurd cc
+
+pub no_tick : (s : Script) (st : State) (n : ℕ) → IsPlainState s st → AllowsTick s st n → ⊥
+no_tick s st n h allowed = not_allowed (all_sleep s st) (has_come (due_date s st) n) (none_sleeps s st h) allowed
+
+pub no_stall : (s : Script) (st : State) → IsPlainState s st → AllowsStall s st → ⊥
+no_stall s st h allowed = not_allowed (all_sleep s st) (is_none (due_date s st)) (none_sleeps s st h) allowed
+
+acted_time : (s : Script) (st : State) (t : ℕ) (d : Option Demand) → IsOfStage s → IsPlainState s st → demanded s st t ≡ d → (acted s t st d).parts.time ≡ st.parts.time
+acted_time s st t None of h e = refl
+acted_time s st t (Some d) of h e = (step_is s st t d of h e).time
+
+entry_time : (s : Script) (st : State) (e : Entry) (a : Action) → IsOfStage s → IsPlainState s st → ActionView a → IsLegalAs s st e a → (after_action s e.thread st a).parts.time ≡ st.parts.time
+entry_time s st e _ of h (is_tick n) legal = absurd (no_tick s st n h legal.2)
+entry_time s st e _ of h is_stall legal = absurd (no_stall s st h legal.2)
+entry_time s st e a of h (is_step _ step) legal =
+    ap (λ (x : State). x.parts.time) (step.after s e.thread st) ∙ acted_time s st e.thread (demanded s st e.thread) of h refl
+
+time_from : (s : Script) (st : State) (es : List Entry) → IsOfStage s → IsPlainState s st → IsLegalFrom s st es → (state_from s st es).parts.time ≡ st.parts.time
+time_from s st [] of h legal = refl
+time_from s st (e ∷ es) of h legal =
+    time_from s (after_action s e.thread st e.action) es of (plain_after_action s st e.thread e.action of h) legal.2
+    ∙ entry_time s st e e.action of h (action_view e.action) legal.0
+
 -- ---- the start
 
 opening_at : (n k t : ℕ) → t < n → stand_at t (map opening_stand (range_with_len k n)) ≡ opening_stand (k + t)
@@ -506,3 +559,6 @@ pub line_of_stage : (s : Script) (k : Kind) (b n : ℕ) (x : Statement) → IsOf
 line_of_stage s of_block b n x of e = thread_line s b of n (says x) e
 line_of_stage s (of_handler k) h n x of e = handler_line s h of n (says x) e
 line_of_stage s (of_run r) b n x of e = absurd cc
+
+pub time_stands : (s : Script) (es : List Entry) → IsOfStage s → IsLegal s es → (After s es).parts.time ≡ 0
+time_stands s es of legal = time_from s (start s) es of (start_plain s) legal

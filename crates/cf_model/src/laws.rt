@@ -1,5 +1,5 @@
 //! Laws of journals, which hold of every script.
-ghost use Rattle.std.specs.Prelude.{◌≡◌, ◌<◌, ℕ, true, List, ◌∷◌, ◌++◌, Option, Some, slice_get};
+ghost use Rattle.std.specs.Prelude.{◌≡◌, ◌<◌, ℕ, true, false, List, ◌∷◌, ◌++◌, Option, Some, slice_get};
 ghost use Rattle.cf_syntax.specs.declared.script.Script.{Script};
 ghost use Rattle.cf_model.specs.declared.entry.Entry.{Entry};
 ghost use Rattle.cf_model.specs.Choices.{IsDetermined};
@@ -7,7 +7,7 @@ ghost use Rattle.cf_model.specs.Changes.{ChangesCount, IsOneWay};
 ghost use Rattle.cf_model.specs.Flowing.{ChangesGrow, GainsFew, GainsFit, HeldChanges};
 ghost use Rattle.cf_model.specs.Coming.{ComingIsHad, ComingStays, FirstIsNext, OwnStays};
 ghost use Rattle.cf_model.specs.Finals.{FinalsFit};
-ghost use Rattle.cf_model.specs.Journals.{After, IsLegal};
+ghost use Rattle.cf_model.specs.Journals.{After, IsLegal, all_sleep};
 ghost use Rattle.cf_model.specs.Parcels.{HasOneAtMost};
 ghost use Rattle.cf_model.specs.Owned.{GivesUp, NextIsLegal, ReleaseIsOwn, UsesFit};
 ghost use Rattle.cf_model.specs.Sharing.{AllInView, IsEmpty, MadeWhereChanged, TimesByLead};
@@ -180,4 +180,10 @@ pub fn plain_deals()
 /// After every list of entries of every script a place of a parcel has one reference at most.
 pub fn parcels_have_one()
     ensures { (s : Script) (es : List Entry) (u k : ℕ) → HasOneAtMost (parcel u k) (After s es).edges }
+{}
+
+/// In such a state no loop sleeps, so a legal journal of such a script has no tick and no stall, and time stands at 0.
+pub fn plain_time_stands()
+    ensures awake { (s : Script) (st : State) → IsPlainState s st → all_sleep s st ≡ false }
+    ensures time { (s : Script) (es : List Entry) → IsOfStage s → IsLegal s es → (After s es).parts.time ≡ 0 }
 {}

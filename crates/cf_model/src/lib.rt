@@ -24,6 +24,6 @@ pub use laws::{
     journals_are_determined, lead_tells_the_times, lines_are_of_the_stage,
     made_objects_have_changes, next_actions_of_owned_scripts, next_retains_are_had,
     next_retains_stay, nothing_without_threads, own_references_stay, parcels_have_one,
-    parts_are_plain, plain_deals, plain_demands, references_in_view_and_of_others,
-    releases_take_their_own, stands_are_plain,
+    parts_are_plain, plain_deals, plain_demands, plain_time_stands,
+    references_in_view_and_of_others, releases_take_their_own, stands_are_plain,
 };

@@ -1,7 +1,8 @@
 //! The script of a text.
-ghost use Rattle.std.specs.Prelude.{◌≤◌, ◌+◌, ◌<◌, ◌^◌, length};
+ghost use Rattle.std.specs.Prelude.{◌≤◌, ◌+◌, ◌<◌, ◌^◌, length, IfOk};
 ghost use Rattle.cf_ids.specs.declared.limits.TheConstants.{SCRIPT_BYTES};
 ghost use Rattle.cf_syntax.specs.Lines.{lines};
+ghost use Rattle.cf_syntax.specs.Stage.{IsOfStage};
 ghost use Rattle.cf_syntax.specs.Text.{start, read_from, script_of};
 ghost use Rattle.cf_script.specs.Gives.{Gives, GivesFault};
 
@@ -29,7 +30,8 @@ fn on_line(count: u32, fault: LineFault) -> ScriptFault
 /// exactly if they are the text of no script, unless memory runs out, and `NoMemory` for want of memory alone.
 pub fn read_script(alloc: Global, bytes: &[u8]) -> Result<Script, ScriptFault>
     requires { length bytes.now ≤ SCRIPT_BYTES }
-    ensures { Gives result (script_of bytes.now) }
+    ensures read { Gives result (script_of bytes.now) }
+    ensures stage { IfOk result (λ s. IsOfStage s) }
 {
     let Ok(mut reader) = Reader::new(alloc) else {
         return Err(ScriptFault::NoMemory);

@@ -25,6 +25,8 @@ pub mod OwnedNext
 pub mod Sharing
 pub mod Winning
 pub mod PlainDeals
+pub mod PlainSteps
+pub mod PlainStands
 pub mod PlainStates
 pub mod FirstHeld
 pub mod ParcelSteps

@@ -1,45 +1,37 @@
 -- After every list of entries of a script whose statements are of the forms that the reader takes, each thread is in
 -- its block alone, and no loop and no notice has anything.
-use Rattle.std.proofs.Common.{◌≡◌, ℕ, zero, suc, ◌+◌, ◌<◌, ◌≤◌, ◌∙◌, ◌⊎◌, Bool, true, false, cond, List, [], ◌∷◌, ◌++◌, length, map, Option, Some, None, refl, sym, ap, subst, eqb, ltb, arith, inl, inr}
+use Rattle.std.proofs.Common.{◌≡◌, ℕ, zero, suc, ◌+◌, ◌<◌, ◌≤◌, ◌∙◌, Bool, true, false, cond, List, [], ◌∷◌, length, map, Option, Some, None, refl, sym, ap, subst, eqb, ltb, arith, inl, inr}
 use Rattle.std.proofs.lemmas.Bool.{cases_lt}
 use Rattle.std.proofs.lemmas.Bool.Decides.{eqb_tells}
-use Rattle.std.specs.Prelude.{slice_get, is_some, not, ◌&&◌, ◌||◌, IsTrue}
+use Rattle.std.specs.Prelude.{slice_get, not, ◌&&◌, ◌||◌, IsTrue}
 use Rattle.std.specs.List.{range_with_len, list_all, list_any}
 use Rattle.rl_base.specs.Dates.{has_come}
 use Rattle.cf_ids.specs.declared.answer.Answer.{Answer}
 use Rattle.cf_syntax.specs.declared.script.Script.{Script}
 use Rattle.cf_syntax.specs.declared.statement.Statement.{Statement}
-use Rattle.cf_syntax.specs.declared.mention.Ownership.{Ownership}
-use Rattle.cf_syntax.specs.declared.mention.Ownership.TheVariants.{Keeps, Binds, Retains, Releases}
-use Rattle.cf_syntax.specs.Mentions.{first_of, ownership_of}
 use Rattle.cf_syntax.specs.BlockLines.{BlockLine, begins, claims, says, packs, thread_lines}
 use Rattle.cf_syntax.specs.Stage.{is_of_stage, IsOfStage}
-use Rattle.cf_syntax.proofs.StageLaws.{IsThreadLine, thread_line, handler_line}
-use Rattle.cf_contents.specs.Contents.{slots_in}
-use Rattle.cf_contents.specs.Deeds.{Origin, nowhere, fresh, there, Change, taken_in, given_out}
-use Rattle.cf_graph.specs.Holders.{Holder, variable, callout, owed, parcel, slot, in_mode, in_common}
-use Rattle.cf_graph.specs.Edges.{Reference, held_by, held_if, weigh, one, has}
-use Rattle.cf_graph.specs.Flows.{Flow, grows, shrinks, still, flowed}
+use Rattle.cf_syntax.proofs.StageLaws.{thread_line, handler_line}
+use Rattle.cf_graph.specs.Holders.{Holder, slot, in_mode, in_common}
+use Rattle.cf_graph.specs.Edges.{Reference, held_by, weigh, one, has}
 use Rattle.cf_next.specs.Facts.{Facts}
-use Rattle.cf_next.specs.Stands.{Binding, Callee, Kind, callee, as_receiver, of_block, of_handler, of_run, Frame, Work, release_of, spend_of, slots_of, Stand, opening_stand}
-use Rattle.cf_next.specs.Demands.{Demand, does, ends, returns, owes, spends, drops, calls, enters, closes, line_or, or_else, slot_if, work_demand, work_left, frame_demand, frame_lines, demand}
-use Rattle.cf_next.specs.Advance.{is_post, owed_by, receivers_in, run_frames, on_top, line_done, is_entered, frames_after, work_after, bodies_of, advanced}
-use Rattle.cf_next.specs.Next.{used_objects, object_at}
+use Rattle.cf_next.specs.Stands.{Binding, Callee, Kind, of_block, of_handler, of_run, Frame, Work, release_of, spend_of, slots_of, Stand, opening_stand}
+use Rattle.cf_next.specs.Demands.{Demand, does, ends, owes, drops, line_or, or_else, slot_if, work_demand, frame_demand, frame_lines, demand}
+use Rattle.cf_next.specs.Advance.{is_post, run_frames, is_entered}
 use Rattle.cf_next.specs.declared.action.Action.{Action}
-use Rattle.cf_next.specs.declared.action.Action.TheVariants as actions
 use Rattle.cf_model.specs.declared.entry.Entry.{Entry}
-use Rattle.cf_model.specs.State.{Sleeping, awake, until, Flags, Parts, State, CommonMode, at_or, with_at, blank, stand_at, with_stand, flags_at, flags_of, start, threads_of, first_held}
-use Rattle.cf_model.specs.Own.{own_reference, own_references, moves_to}
+use Rattle.cf_model.specs.State.{awake, Flags, State, with_at, blank, stand_at, with_stand, flags_at, flags_of, start, threads_of}
 use Rattle.cf_model.specs.Known.{facts_of}
-use Rattle.cf_model.specs.Things.{thing_at, thing_of}
-use Rattle.cf_model.specs.Deals.{Deal, change_unless_skipped, change_deal, deal_of, posts_of}
-use Rattle.cf_model.specs.Steps.{Step, item_made, Made, found, made_from, bound_if, new_slots, bind_step, retain_step, cut_flow, cut_step, release_step, deal_step, statement_step, claim_step, pack_step, packed_holder, line_step, start_all, end_step, drop_step, step_of, step_answer, step_finals, stand_after, state_after, stopped_at, frames_at, demanded, done_by, acted, bindings_of, depth_of}
+use Rattle.cf_model.specs.Things.{thing_of}
+use Rattle.cf_model.specs.Steps.{Step, step_of, step_answer, step_finals, stand_after, stopped_at, frames_at, demanded, done_by, acted}
 use Rattle.cf_model.specs.Journals.{after_action, state_from, After, tick_flags, wake_at, ticked, is_going, is_asleep, sleeps, all_sleep, due_date, is_none, AllowsTick, AllowsStall, IsLegalAs, IsLegalFrom, IsLegal}
-use Rattle.cf_model.specs.Stage.{SpendsNothing, IsPlainStand, IsPlainParts, IsPlainState, IsPlainDemand, is_claim, is_statement, is_pack, is_over, is_owed, is_slot, deed_in, deed_deal, DealsPlainly}
+use Rattle.cf_model.specs.Stage.{SpendsNothing, IsPlainStand, IsPlainState, IsPlainDemand, is_claim, is_statement, is_pack, is_over, is_owed, is_slot}
 use Rattle.cf_model.proofs.Tokens.{at_own, at_other, frame}
 use Rattle.cf_model.proofs.Entries.{ActionView, is_tick, is_stall, is_step, action_view}
-use Rattle.cf_model.proofs.Winning.{AllHeld, AllGo, FlowGoes, held_append, held_all, held_some, moves_go, flow_brings_none}
-use Rattle.cf_model.proofs.PlainDeals.{deed_fits, deals_plainly, changed_no_things, append_no_things, made_no_things}
+use Rattle.cf_model.proofs.Winning.{flow_brings_none}
+use Rattle.cf_model.proofs.PlainDeals.{deals_plainly}
+use Rattle.cf_model.proofs.PlainSteps.{NotLoop, StepPlain, step_plain}
+use Rattle.cf_model.proofs.PlainStands.{advanced_plain}
 
 -- ---- what a plain stand demands
 
@@ -109,218 +101,6 @@ demands_within s st t d h e = elim (cases_lt t s.thread_count) [
 
 pub plain_demand : (s : Script) (st : State) (t : ℕ) (d : Demand) → IsOfStage s → IsPlainState s st → demanded s st t ≡ Some d → IsPlainDemand d
 plain_demand s st t d of h e = stand_plain s (facts_of st) t (stand_at t st.stands) d of (h.stands t (demands_within s st t d h e)) e
-
--- ---- steps
-
-abbrev NotLoop : Holder → Type 0
-NotLoop (in_mode t m) = ⊥
-NotLoop (in_common t) = ⊥
-NotLoop _ = Unit {0}
-
-record StepPlain (s : Script) (st : State) (step : Step) : Type 0 where
-  parts : IsPlainParts s step.parts
-  time : step.parts.time ≡ st.parts.time
-  stops : step.stops ≡ None
-  flow : FlowGoes NotLoop step.flow
-
-module _ (s : Script) (t : ℕ) (st : State) (h : IsPlainParts s st.parts) where
-  -- a step that leaves the parts as they are
-  quiet : (step : Step) → step.parts ≡ st.parts → step.stops ≡ None → FlowGoes NotLoop step.flow → StepPlain s st step
-  quiet step parts stops flow = record { parts = subst (IsPlainParts s) (sym parts) h; time = ap (λ (p : Parts). p.time) parts; stops = stops; flow = flow }
-
-  with_objects : (p : Parts) → p.registrations ≡ st.parts.registrations → p.commons ≡ st.parts.commons → p.flags ≡ st.parts.flags → ((i : ℕ) → thing_at p i ≡ None) → IsPlainParts s p
-  with_objects p registrations commons flags things = record {
-    things = things;
-    registrations = registrations ∙ h.registrations;
-    commons = commons ∙ h.commons;
-    is_awake = λ u. ap (λ (fs : List Flags). (flags_at u fs).sleep) flags ∙ h.is_awake u;
-    is_unwoken = λ u. ap (λ (fs : List Flags). (flags_at u fs).is_woken) flags ∙ h.is_unwoken u;
-    flag_count = ap (λ (fs : List Flags). length fs) flags ∙ h.flag_count;
-  }
-
-  change_plain : (a : Answer) (b : Option ℕ) (change : Change) (posts : List ℕ) → StepPlain s st (deal_step t (change_deal st.parts a b change) posts)
-  change_plain a None change posts = quiet (deal_step t (change_deal st.parts a None change) posts) refl refl (tt, tt)
-  change_plain a (Some b) change posts =
-      let deal = change_deal st.parts a (Some b) change in
-      record {
-        parts = with_objects deal.parts refl refl refl (changed_no_things b change st.parts.objects h.things);
-        time = refl;
-        stops = refl;
-        flow = (held_all NotLoop (slot b) (taken_in (slice_get st.parts.objects b) change) tt, moves_go NotLoop (owed t) deal.leaves tt);
-      }
-
-  slots_plain : (n : ℕ) (origin : Origin) → AllHeld NotLoop (new_slots n origin)
-  slots_plain n nowhere = tt
-  slots_plain n (fresh ob) = held_all NotLoop (slot n) (slots_in ob.content) tt
-  slots_plain n (there o) = tt
-
-  bind_plain : (d v : ℕ) (x : Statement) (used : List (Option ℕ)) → StepPlain s st (bind_step (variable t d v) st.parts (bound_if s st.parts x used None))
-  bind_plain d v x used =
-      let origin = (deed_in s st x used).origin in
-      let step = bind_step (variable t d v) st.parts (bound_if s st.parts x used None) in
-      record {
-        parts = with_objects step.parts refl refl refl (append_no_things st.parts.objects (made_from origin) h.things (made_no_things origin (deed_fits s st x used).1));
-        time = refl;
-        stops = refl;
-        flow = (held_append NotLoop _ _ (held_some NotLoop (variable t d v) (found st.parts origin) tt) (slots_plain (length st.parts.objects) origin), tt);
-      }
-
-  retain_plain : (k : Holder) (o : Option ℕ) → NotLoop k → StepPlain s st (retain_step k st o)
-  retain_plain k None not = quiet (retain_step k st None) refl refl (tt, tt)
-  retain_plain k (Some o) not = quiet (retain_step k st (Some o)) refl refl ((not, tt), tt)
-
-  cut_plain : (k : Holder) (o : ℕ) → StepPlain s st (cut_step t k st o)
-  cut_plain k o = quiet (cut_step t k st o) refl refl (by (own_reference t k o st.edges))
-    where
-      by : (r : Option Reference) → FlowGoes NotLoop (cut_flow r)
-      by None = (tt, tt)
-      by (Some r) = tt
-
-  release_plain : (k : Holder) (o : Option ℕ) → StepPlain s st (release_step t k st o)
-  release_plain k None = quiet (release_step t k st None) refl refl (tt, tt)
-  release_plain k (Some o) = cut_plain k o
-
-  statement_plain : (d : ℕ) (x : Statement) (used : List (Option ℕ)) (ownership : Ownership) → is_of_stage x ≡ true → StepPlain s st (statement_step s t d st x used ownership)
-  statement_plain d x used Keeps of =
-      let deed = deed_in s st x used in
-      subst (λ (deal : Deal). StepPlain s st (deal_step t deal (posts_of st.parts x used))) (sym (deals_plainly s t st x used of).deal)
-      (change_plain deed.answer (first_of used) (change_unless_skipped deed.answer deed.change) (posts_of st.parts x used))
-  statement_plain d x used (Binds v) of =
-      subst (λ (made : Option Made). StepPlain s st (bind_step (variable t d v) st.parts (bound_if s st.parts x used made))) (sym (deals_plainly s t st x used of).made)
-      (bind_plain d v x used)
-  statement_plain d x used (Retains v) of = retain_plain (variable t d v) (first_of used) tt
-  statement_plain d x used (Releases v) of = release_plain (variable t d v) (first_of used)
-
-  claim_plain : (k l : Holder) (o : Option ℕ) → NotLoop l → StepPlain s st (claim_step st k o l)
-  claim_plain k l None not = quiet (claim_step st k None l) refl refl (tt, tt)
-  claim_plain k l (Some o) not = quiet (claim_step st k (Some o) l) refl refl (tt, (not, tt))
-
-  pack_plain : (k l : Holder) (o : Option ℕ) → NotLoop l → StepPlain s st (pack_step t st k o l)
-  pack_plain k l None not = quiet (pack_step t st k None l) refl refl (tt, tt)
-  pack_plain k l (Some o) not =
-      quiet (pack_step t st k (Some o) l) refl refl (tt, moves_go NotLoop l (own_references t (held_by k o ∷ []) st.edges) not)
-
-  started_awake : (fs : List Flags) (u : ℕ) → ((w : ℕ) → (flags_at w fs).sleep ≡ awake) → (flags_at u (start_all fs)).sleep ≡ awake
-  started_awake [] zero a = refl
-  started_awake [] (suc u) a = refl
-  started_awake (f ∷ fs) zero a = a zero
-  started_awake (f ∷ fs) (suc u) a = started_awake fs u (λ w. a (suc w))
-
-  started_unwoken : (fs : List Flags) (u : ℕ) → ((w : ℕ) → (flags_at w fs).is_woken ≡ false) → (flags_at u (start_all fs)).is_woken ≡ false
-  started_unwoken [] zero a = refl
-  started_unwoken [] (suc u) a = refl
-  started_unwoken (f ∷ fs) zero a = a zero
-  started_unwoken (f ∷ fs) (suc u) a = started_unwoken fs u (λ w. a (suc w))
-
-  started_count : (fs : List Flags) → length (start_all fs) ≡ length fs
-  started_count [] = refl
-  started_count (f ∷ fs) = ap suc (started_count fs)
-
-  end_plain : StepPlain s st (end_step t st)
-  end_plain = record { parts = by (eqb t 0); time = same (eqb t 0); stops = refl; flow = (tt, tt) }
-    where
-      started : Parts
-      started = record st.parts { flags = start_all st.parts.flags }
-
-      same : (b : Bool) → (cond b started st.parts).time ≡ st.parts.time
-      same true = refl
-      same false = refl
-
-      by : (b : Bool) → IsPlainParts s (cond b started st.parts)
-      by true = record {
-        things = h.things;
-        registrations = h.registrations;
-        commons = h.commons;
-        is_awake = λ u. started_awake st.parts.flags u h.is_awake;
-        is_unwoken = λ u. started_unwoken st.parts.flags u h.is_unwoken;
-        flag_count = started_count st.parts.flags ∙ h.flag_count;
-      }
-      by false = h
-
-  drop_plain : (b o : ℕ) → StepPlain s st (drop_step st b o)
-  drop_plain b o = record { parts = with_objects (drop_step st b o).parts refl refl refl h.things; time = refl; stops = refl; flow = tt }
-
-  step_plain : (fs : List Frame) (d : Demand) → IsPlainDemand d → StepPlain s st (step_of s t st fs d)
-  step_plain fs _ (is_claim k v) = claim_plain (parcel t k) (variable t (depth_of fs) v) (first_held (parcel t k) st.edges) tt
-  step_plain fs _ (is_statement x of) = statement_plain (depth_of fs) x (used_objects (bindings_of fs) (says x)) (ownership_of x) of
-  step_plain fs _ (is_pack u k v) = pack_plain (packed_holder t (depth_of fs) v) (parcel u k) (object_at (bindings_of fs) v) tt
-  step_plain fs _ is_over = end_plain
-  step_plain fs _ (is_owed o) = cut_plain (owed t) o
-  step_plain fs _ (is_slot b k o) = drop_plain b o
-
--- ---- stands
-
-both_spend_nothing : (xs ys : List Work) → SpendsNothing xs → SpendsNothing ys → SpendsNothing (xs ++ ys)
-both_spend_nothing [] ys a b = b
-both_spend_nothing (release_of o ∷ xs) ys a b = both_spend_nothing xs ys a b
-both_spend_nothing (spend_of i ∷ xs) ys a b = absurd a
-both_spend_nothing (slots_of c k ∷ xs) ys a b = both_spend_nothing xs ys a b
-
-bodies_spend_nothing : (os : List ℕ) → SpendsNothing (bodies_of os)
-bodies_spend_nothing [] = tt
-bodies_spend_nothing (o ∷ os) = bodies_spend_nothing os
-
-releases_spend_nothing : (os : List ℕ) → SpendsNothing (map release_of os)
-releases_spend_nothing [] = tt
-releases_spend_nothing (o ∷ os) = releases_spend_nothing os
-
-left_spends_nothing : (facts : Facts) (work : List Work) → SpendsNothing work → SpendsNothing (work_left facts work)
-left_spends_nothing facts [] h = tt
-left_spends_nothing facts (release_of o ∷ work) h = h
-left_spends_nothing facts (spend_of i ∷ work) h = absurd h
-left_spends_nothing facts (slots_of b k ∷ work) h = by (is_some (facts.slot b k)) (left_spends_nothing facts work h)
-  where
-    by : (test : Bool) → SpendsNothing (work_left facts work) → SpendsNothing (cond test work (work_left facts work))
-    by true rest = h
-    by false rest = rest
-
-owed_spends_nothing : (x : BlockLine) (list : List ℕ) → SpendsNothing (owed_by x list)
-owed_spends_nothing x list = by (is_post x)
-  where
-    by : (b : Bool) → SpendsNothing (cond b [] (map release_of list))
-    by true = tt
-    by false = releases_spend_nothing list
-
-module _ (s : Script) (facts : Facts) (t : ℕ) (answer : Answer) (finals list : List ℕ) (stand : Stand) (h : IsPlainStand t stand) where
-  work_after_plain : (d : Demand) → IsPlainDemand d → SpendsNothing (work_after facts stand.frames d list stand.work)
-  work_after_plain _ (is_claim k v) = owed_spends_nothing (claims k v) list
-  work_after_plain _ (is_statement x of) = owed_spends_nothing (says x) list
-  work_after_plain _ (is_pack u k v) = owed_spends_nothing (packs u k v) list
-  work_after_plain _ is_over = tt
-  work_after_plain _ (is_owed o) = left_spends_nothing facts stand.work h.work
-  work_after_plain _ (is_slot b k o) = left_spends_nothing facts stand.work h.work
-
-  all_work_plain : (d : Demand) → IsPlainDemand d → SpendsNothing (bodies_of finals ++ work_after facts stand.frames d list stand.work)
-  all_work_plain d p = both_spend_nothing (bodies_of finals) (work_after facts stand.frames d list stand.work) (bodies_spend_nothing finals) (work_after_plain d p)
-
-  -- a line that calls nobody and begins no run
-  line_stand : (x : BlockLine) → IsPlainDemand (does x) → is_post x ≡ false → run_frames facts.time x (is_entered answer) ≡ [] → IsPlainStand t (advanced facts t (does x) answer finals list stand)
-  line_stand x p post runs = record {
-    top = line_done facts t x answer list h.top;
-    frames = ap (λ (fs : List Frame). fs ++ on_top (line_done facts t x answer list) stand.frames) runs ∙ ap (on_top (line_done facts t x answer list)) h.frames;
-    kind = h.kind;
-    block = h.block;
-    collected = ap (λ (b : Bool). cond b (map (callee as_receiver) list) []) post;
-    work = all_work_plain (does x) p;
-  }
-
-  same_frames : (d : Demand) → IsPlainDemand d → frames_after facts t d answer list stand.frames ≡ stand.frames → IsPlainStand t (advanced facts t d answer finals list stand)
-  same_frames d p same = record {
-    top = h.top;
-    frames = same ∙ h.frames;
-    kind = h.kind;
-    block = h.block;
-    collected = h.collected;
-    work = all_work_plain d p;
-  }
-
-  advanced_plain : (d : Demand) → IsPlainDemand d → ((x : Statement) → is_of_stage x ≡ true → is_post (says x) ≡ false) → ((x : Statement) → is_of_stage x ≡ true → run_frames facts.time (says x) (is_entered answer) ≡ []) → IsPlainStand t (advanced facts t d answer finals list stand)
-  advanced_plain _ (is_claim k v) posts runs = line_stand (claims k v) (is_claim k v) refl refl
-  advanced_plain _ (is_statement x of) posts runs = line_stand (says x) (is_statement x of) (posts x of) (runs x of)
-  advanced_plain _ (is_pack u k v) posts runs = line_stand (packs u k v) (is_pack u k v) refl refl
-  advanced_plain _ is_over posts runs = same_frames ends is_over refl
-  advanced_plain _ (is_owed o) posts runs = same_frames (owes o) (is_owed o) refl
-  advanced_plain _ (is_slot b k o) posts runs = same_frames (drops b k o) (is_slot b k o) refl
 
 -- ---- states
 

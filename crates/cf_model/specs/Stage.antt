@@ -82,7 +82,8 @@ deed_deal p deed used = change_deal p deed.answer (first_of used) (change_unless
 -- anyway; it posts to nobody, makes no item, and begins no run
 pub record DealsPlainly (s : Script) (t : ℕ) (st : State) (x : Statement) (used : List (Option ℕ)) : Type 0 where
   pub deal : deal_of s t st x used ≡ deed_deal st.parts (deed_in s st x used) used
-  pub skips : change_unless_skipped (deed_in s st x used).answer (deed_in s st x used).change ≡ (deed_in s st x used).change
+  pub skips :
+      change_unless_skipped (deed_in s st x used).answer (deed_in s st x used).change ≡ (deed_in s st x used).change
   pub posts : posts_of st.parts x used ≡ []
   pub made : item_made x ≡ None
   pub post : is_post (says x) ≡ false

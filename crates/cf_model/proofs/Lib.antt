@@ -42,4 +42,5 @@ pub mod Owners
 pub mod ChangeLaws
 pub mod Held
 pub mod Gaining
+pub mod Growth
 pub mod OneThread

@@ -10,6 +10,7 @@ pub mod Finals
 pub mod Changes
 pub mod Serial
 pub mod Endings
+pub mod Growing
 pub mod Coming
 pub mod Sharing
 pub mod Tokens

@@ -7,6 +7,7 @@ ghost use Rattle.cf_model.specs.Changes.{ChangesCount, IsOneWay};
 ghost use Rattle.cf_model.specs.Flowing.{ChangesGrow, GainsFew, GainsFit, HeldChanges};
 ghost use Rattle.cf_model.specs.Coming.{ComingIsHad, ComingStays, FirstIsNext, OwnStays};
 ghost use Rattle.cf_model.specs.Finals.{FinalsFit};
+ghost use Rattle.cf_model.specs.Growing.{GrowsBy};
 ghost use Rattle.cf_model.specs.Journals.{After, IsLegal};
 ghost use Rattle.cf_model.specs.Owned.{GivesUp, NextIsLegal, ReleaseIsOwn, UsesFit};
 ghost use Rattle.cf_model.specs.Sharing.{AllInView, IsEmpty, MadeWhereChanged, TimesByLead};
@@ -134,4 +135,10 @@ pub fn lead_tells_the_times()
 /// A script without threads has no reference and no next action.
 pub fn nothing_without_threads()
     ensures { (s : Script) (es : List Entry) → s.thread_count ≡ 0 → IsEmpty s es }
+{}
+
+/// A journal with one entry more: the state after it, where the pointer of the serial order stands, and when it is
+/// legal and in the serial order.
+pub fn journals_grow()
+    ensures { (s : Script) (es : List Entry) (e : Entry) → GrowsBy s es e }
 {}

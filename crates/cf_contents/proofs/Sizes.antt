@@ -6,7 +6,7 @@ use Rattle.std.specs.Map.{lookup, set_value, remove_entry}
 use Rattle.std.proofs.lemmas.List.{length-take, length-drop}
 use Rattle.std.proofs.lemmas.Map.{length-set_value}
 use Rattle.cf_types.specs.declared.cells.Cell.{Cell}
-use Rattle.cf_contents.specs.Contents.{Content, text_content, data_content, instance_content, array_content, dictionary_content, set_content, bag_content, heap_content, Object, order_of, size_of, size_at, item_content}
+use Rattle.cf_contents.specs.Contents.{Content, text_content, data_content, instance_content, array_content, dictionary_content, set_content, bag_content, heap_content, Object, present, order_of, size_of, size_at, item_content}
 use Rattle.cf_contents.specs.Keys.{equal_to}
 use Rattle.cf_contents.specs.Deeds.{Splice, Change, unchanged, in_text, in_data, in_places, put_pair, remove_pair, add_member, put_member, remove_member, remove_least, elements, text_after, data_after, places_after, put_after, removed_after, added_after, put_member_after, removed_member_after, least_after, content_after, with_change, objects_after, in_item, item_after}
 use Rattle.cf_contents.specs.Items.{Item}
@@ -51,6 +51,22 @@ put_size key value (dictionary_content plain pairs) =
     omega (arith, length-put (equal_to plain key) key value pairs (is_some (lookup (equal_to plain key) pairs)))
 put_size key value _ = omega arith
 
+-- a change adds one member at most to a collection
+abbrev pub AddsOne : Change → Type 0
+AddsOne (in_places e) = length (present e.enter) ≤ 1
+AddsOne _ = Unit {0}
+
+places_one : (e : Splice (Option ℕ)) (c : Content) → length (present e.enter) ≤ 1
+    → size_of (places_after e c) ≤ size_of c + 1
+places_one e (instance_content key fields) one = omega arith
+places_one e (array_content plain os) one = omega (arith, length-splice os e.at e.out (elements e).enter, one)
+places_one e _ one = omega arith
+
+put_one : (key : Cell) (value : ℕ) (c : Content) → size_of (put_after key value c) ≤ size_of c + 1
+put_one key value (dictionary_content plain pairs) =
+    length-put (equal_to plain key) key value pairs (is_some (lookup (equal_to plain key) pairs))
+put_one key value _ = omega arith
+
 removed_size : (key : Cell) (c : Content) → size_of (removed_after key c) ≤ size_of c
 removed_size key (dictionary_content plain pairs) = length-removed (equal_to plain key) pairs
 removed_size key _ = omega arith
@@ -92,6 +108,33 @@ content_size (put_member x) c = member_size x c
 content_size (remove_member x) c = omega (arith, gone_size x c)
 content_size remove_least c = omega (arith, least_size c)
 content_size (in_item valid item) c = omega (arith, item_size valid item c)
+
+one_size : (change : Change) (c : Content) → AddsOne change → size_of (content_after change c) ≤ size_of c + 1
+one_size unchanged c one = omega arith
+one_size (in_text e) c one = omega (arith, text_size e c)
+one_size (in_data e) c one = omega (arith, data_size e c)
+one_size (in_places e) c one = places_one e c one
+one_size (put_pair key value) c one = put_one key value c
+one_size (remove_pair key) c one = omega (arith, removed_size key c)
+one_size (add_member x) c one = added_size x c
+one_size (put_member x) c one = member_size x c
+one_size (remove_member x) c one = omega (arith, gone_size x c)
+one_size remove_least c one = omega (arith, least_size c)
+one_size (in_item valid item) c one = omega (arith, item_size valid item c)
+
+one_more : (o : ℕ) (change : Change) (objects : List Object) (p : ℕ) → AddsOne change
+    → size_at (slice_get (with_change o change objects) p) ≤ size_at (slice_get objects p) + 1
+one_more o change [] p one = omega arith
+one_more zero change (ob ∷ obs) zero one = one_size change ob.content one
+one_more zero change (ob ∷ obs) (suc p) one = omega arith
+one_more (suc o) change (ob ∷ obs) zero one = omega arith
+one_more (suc o) change (ob ∷ obs) (suc p) one = one_more o change obs p one
+
+-- the size of each object after a change of one of them that adds one member at most
+pub size-one_more : (o : Option ℕ) (change : Change) (objects : List Object) (p : ℕ) → AddsOne change
+    → size_at (slice_get (objects_after o change objects) p) ≤ size_at (slice_get objects p) + 1
+size-one_more None change objects p one = omega arith
+size-one_more (Some o) change objects p one = one_more o change objects p one
 
 change_size : (o : ℕ) (change : Change) (objects : List Object) (p : ℕ)
     → size_at (slice_get (with_change o change objects) p) ≤ size_at (slice_get objects p) + length (named_in change)

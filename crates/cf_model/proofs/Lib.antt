@@ -43,4 +43,5 @@ pub mod ChangeLaws
 pub mod Held
 pub mod Gaining
 pub mod Growth
+pub mod Adding
 pub mod OneThread

@@ -11,6 +11,7 @@ pub mod Changes
 pub mod Serial
 pub mod Endings
 pub mod Growing
+pub mod Bounds
 pub mod Coming
 pub mod Sharing
 pub mod Tokens

@@ -2,6 +2,7 @@
 ghost use Rattle.std.specs.Prelude.{◌≡◌, ℕ, List, ◌∷◌, ◌++◌};
 ghost use Rattle.cf_syntax.specs.declared.script.Script.{Script};
 ghost use Rattle.cf_model.specs.declared.entry.Entry.{Entry};
+ghost use Rattle.cf_model.specs.Bounds.{AddsFew, AreFew};
 ghost use Rattle.cf_model.specs.Choices.{IsDetermined};
 ghost use Rattle.cf_model.specs.Changes.{ChangesCount, IsOneWay};
 ghost use Rattle.cf_model.specs.Flowing.{ChangesGrow, GainsFew, GainsFit, HeldChanges};
@@ -141,4 +142,15 @@ pub fn nothing_without_threads()
 /// legal and in the serial order.
 pub fn journals_grow()
     ensures { (s : Script) (es : List Entry) (e : Entry) → GrowsBy s es e }
+{}
+
+/// Each entry makes one object at most and finalises one at most, and each collection has one member more at most.
+pub fn entries_add_little()
+    ensures { (s : Script) (es : List Entry) (e : Entry) → AddsFew s es e }
+{}
+
+/// After so many entries no more objects were made, no more were finalised, and no collection has more members; so
+/// each may have one more, as long as a run may be.
+pub fn sizes_stay_small()
+    ensures { (s : Script) (es : List Entry) → AreFew s es }
 {}

@@ -1,0 +1,29 @@
+-- What one entry adds at most, and so how much there can be after so many entries. This project's own.
+use Rattle.std.specs.Prelude.{◌≡◌, ℕ, ◌+◌, ◌≤◌, ◌⊎◌, IsTrue, List, length, slice_get}
+use Rattle.cf_syntax.specs.declared.script.Script.{Script}
+use Rattle.cf_contents.specs.Contents.{size_at}
+use Rattle.cf_contents.specs.Stores.{Held, objects_of, MayGrow}
+use Rattle.cf_model.specs.declared.entry.Entry.{Entry}
+use Rattle.cf_model.specs.State.{State}
+use Rattle.cf_model.specs.Journals.{makes, after_action, After}
+
+-- an entry makes one object at most, and that only if its thread's next statement is of such a form; it finalises one
+-- at most; and each collection has one member more at most
+pub record EntryAdds (s : Script) (t : ℕ) (st next : State) : Type 0 where
+  pub objects : (length next.parts.objects ≡ length st.parts.objects)
+      ⊎ (IsTrue (makes s st t) × (length next.parts.objects ≡ length st.parts.objects + 1))
+  pub finalised : length next.parts.finalised ≤ length st.parts.finalised + 1
+  pub sizes : (o : ℕ) → size_at (slice_get next.parts.objects o) ≤ size_at (slice_get st.parts.objects o) + 1
+
+-- the same of an entry after a journal
+abbrev pub AddsFew : Script → List Entry → Entry → Type 0
+AddsFew s es e = let st = After s es in EntryAdds s e.thread st (after_action s e.thread st e.action)
+
+-- after so many entries no more objects were made, and no more were finalised; no collection has more members, so
+-- that each may have one more
+pub record AreFew (s : Script) (es : List Entry) : Type 0 where
+  pub objects : length (After s es).parts.objects ≤ length es
+  pub finalised : length (After s es).parts.finalised ≤ length es
+  pub sizes : (o : ℕ) → size_at (slice_get (After s es).parts.objects o) ≤ length es
+  pub grow : (bodies : List Held) → objects_of bodies ≡ (After s es).parts.objects → length es ≤ 4000000
+      → MayGrow bodies

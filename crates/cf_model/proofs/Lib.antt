@@ -44,4 +44,5 @@ pub mod Held
 pub mod Gaining
 pub mod Growth
 pub mod Adding
+pub mod Numbering
 pub mod OneThread

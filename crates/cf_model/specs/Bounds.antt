@@ -1,11 +1,13 @@
 -- What one entry adds at most, and so how much there can be after so many entries. This project's own.
 use Rattle.std.specs.Prelude.{◌≡◌, ℕ, ◌+◌, ◌≤◌, ◌⊎◌, IsTrue, List, length, slice_get}
 use Rattle.cf_syntax.specs.declared.script.Script.{Script}
+use Rattle.cf_syntax.specs.Owned.{Owned}
 use Rattle.cf_contents.specs.Contents.{size_at}
 use Rattle.cf_contents.specs.Stores.{Held, objects_of, MayGrow}
 use Rattle.cf_model.specs.declared.entry.Entry.{Entry}
 use Rattle.cf_model.specs.State.{State}
 use Rattle.cf_model.specs.Journals.{makes, after_action, After}
+use Rattle.cf_model.specs.Serial.{pointer_of}
 
 -- an entry makes one object at most, and that only if its thread's next statement is of such a form; it finalises one
 -- at most; and each collection has one member more at most
@@ -27,3 +29,11 @@ pub record AreFew (s : Script) (es : List Entry) : Type 0 where
   pub sizes : (o : ℕ) → size_at (slice_get (After s es).parts.objects o) ≤ length es
   pub grow : (bodies : List Held) → objects_of bodies ≡ (After s es).parts.objects → length es ≤ 4000000
       → MayGrow bodies
+
+-- each thread has its stand, and its flags; of an owned script, in which each thread that is named is there, there are
+-- no more flags; and the pointer of the serial order is a thread's number or one more than the last
+pub record NumbersOfLists (s : Script) (es : List Entry) : Type 0 where
+  pub stands : length (After s es).stands ≡ s.thread_count
+  pub flags : Owned s → length (After s es).parts.flags ≡ s.thread_count
+  pub some : s.thread_count ≤ length (After s es).parts.flags
+  pub pointer : pointer_of s es ≤ s.thread_count

@@ -2,7 +2,7 @@
 ghost use Rattle.std.specs.Prelude.{◌≡◌, ℕ, List, ◌∷◌, ◌++◌};
 ghost use Rattle.cf_syntax.specs.declared.script.Script.{Script};
 ghost use Rattle.cf_model.specs.declared.entry.Entry.{Entry};
-ghost use Rattle.cf_model.specs.Bounds.{AddsFew, AreFew};
+ghost use Rattle.cf_model.specs.Bounds.{AddsFew, AreFew, NumbersOfLists};
 ghost use Rattle.cf_model.specs.Choices.{IsDetermined};
 ghost use Rattle.cf_model.specs.Changes.{ChangesCount, IsOneWay};
 ghost use Rattle.cf_model.specs.Flowing.{ChangesGrow, GainsFew, GainsFit, HeldChanges};
@@ -153,4 +153,10 @@ pub fn entries_add_little()
 /// each may have one more, as long as a run may be.
 pub fn sizes_stay_small()
     ensures { (s : Script) (es : List Entry) → AreFew s es }
+{}
+
+/// There is one stand for each thread, and one record of flags, after every list of entries; and the pointer of the
+/// serial order stays within the threads.
+pub fn numbers_of_lists()
+    ensures { (s : Script) (es : List Entry) → NumbersOfLists s es }
 {}

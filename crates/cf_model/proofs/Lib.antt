@@ -45,4 +45,5 @@ pub mod Gaining
 pub mod Growth
 pub mod Adding
 pub mod Numbering
+pub mod Leading
 pub mod OneThread

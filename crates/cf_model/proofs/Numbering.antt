@@ -93,7 +93,7 @@ flags_set may u f fs same there = record {
   ];
 }
 
-start_each : (fs : List Flags) (t : ℕ) → t < length fs → IsStarted (start_all fs) t
+pub start_each : (fs : List Flags) (t : ℕ) → t < length fs → IsStarted (start_all fs) t
 start_each [] t h = absurd (omega (arith, h))
 start_each (f ∷ fs) zero h = refl
 start_each (f ∷ fs) (suc t) h = start_each fs t (omega (arith, h))
@@ -459,7 +459,7 @@ numbered_from c st [] own h = h
 numbered_from c st (e ∷ es) own h =
     numbered_from c (after_action c e.thread st e.action) es own (entry_numbered c e.thread st e.action own h)
 
-start_flags : (c : Script) → length (start c).parts.flags ≡ c.thread_count
+pub start_flags : (c : Script) → length (start c).parts.flags ≡ c.thread_count
 start_flags c = length-map-range_with_len (λ t. flags_of (t == 0)) 0 c.thread_count
 
 pub numbered_along : (c : Script) (es : List Entry) → FitsByBlock c → AreNumbered c (After c es)

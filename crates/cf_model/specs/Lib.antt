@@ -12,6 +12,7 @@ pub mod Serial
 pub mod Endings
 pub mod Growing
 pub mod Bounds
+pub mod Leading
 pub mod Coming
 pub mod Sharing
 pub mod Tokens

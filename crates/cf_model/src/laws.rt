@@ -10,6 +10,7 @@ ghost use Rattle.cf_model.specs.Coming.{ComingIsHad, ComingStays, FirstIsNext, O
 ghost use Rattle.cf_model.specs.Finals.{FinalsFit};
 ghost use Rattle.cf_model.specs.Growing.{GrowsBy};
 ghost use Rattle.cf_model.specs.Journals.{After, IsLegal};
+ghost use Rattle.cf_model.specs.Leading.{LeadTells};
 ghost use Rattle.cf_model.specs.Owned.{GivesUp, NextIsLegal, ReleaseIsOwn, UsesFit};
 ghost use Rattle.cf_model.specs.Sharing.{AllInView, IsEmpty, MadeWhereChanged, TimesByLead};
 ghost use Rattle.cf_model.specs.Tokens.{HeldAsTold};
@@ -159,4 +160,11 @@ pub fn sizes_stay_small()
 /// serial order stays within the threads.
 pub fn numbers_of_lists()
     ensures { (s : Script) (es : List Entry) → NumbersOfLists s es }
+{}
+
+/// What the serial run finds after every list of entries: without a stall a legal journal of an owned script is whole
+/// if the lead has nothing more to do; the lead is busy exactly if the pointer picks a thread; and it ticks and stalls
+/// where it may.
+pub fn lead_ends_the_run()
+    ensures { (s : Script) (es : List Entry) → LeadTells s es }
 {}

@@ -84,7 +84,7 @@ step_tells s st u a step after flow fits = record {
   changed = λ o. rw (after, flow) (flow_apart o step.flow st.edges fits.there);
 }
 
-entry_tells : (s : Script) (st : State) (u : ℕ) (a : Action) (x : Answer) → IsSteady st → ActionView a → IsLegalAs s st (record { thread = u; action = a; answer = x }) a → FlowTells s st u a
+pub entry_tells : (s : Script) (st : State) (u : ℕ) (a : Action) (x : Answer) → IsSteady st → ActionView a → IsLegalAs s st (record { thread = u; action = a; answer = x }) a → FlowTells s st u a
 entry_tells s st u _ x h (is_tick n) legal = record { held = λ ts o among. refl; gained = λ o some. absurd (omega (arith, some)); changed = λ o. omega arith }
 entry_tells s st u _ x h is_stall legal = record { held = λ ts o among. refl; gained = λ o some. absurd (omega (arith, some)); changed = λ o. omega arith }
 entry_tells s st u a x h (is_step _ step) legal =

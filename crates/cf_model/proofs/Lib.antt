@@ -46,4 +46,5 @@ pub mod Growth
 pub mod Adding
 pub mod Numbering
 pub mod Leading
+pub mod Limiting
 pub mod OneThread

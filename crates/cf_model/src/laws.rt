@@ -2,7 +2,7 @@
 ghost use Rattle.std.specs.Prelude.{◌≡◌, ℕ, List, ◌∷◌, ◌++◌};
 ghost use Rattle.cf_syntax.specs.declared.script.Script.{Script};
 ghost use Rattle.cf_model.specs.declared.entry.Entry.{Entry};
-ghost use Rattle.cf_model.specs.Bounds.{AddsFew, AreFew, NumbersOfLists};
+ghost use Rattle.cf_model.specs.Bounds.{AddsFew, AreFew, FewOfLegal, FewReferences, NumbersOfLists};
 ghost use Rattle.cf_model.specs.Choices.{IsDetermined};
 ghost use Rattle.cf_model.specs.Changes.{ChangesCount, IsOneWay};
 ghost use Rattle.cf_model.specs.Flowing.{ChangesGrow, GainsFew, GainsFit, HeldChanges};
@@ -167,4 +167,14 @@ pub fn numbers_of_lists()
 /// where it may.
 pub fn lead_ends_the_run()
     ensures { (s : Script) (es : List Entry) → LeadTells s es }
+{}
+
+/// A legal journal makes at most 65,536 objects, and finalises only such, each once at most.
+pub fn few_objects_are_made()
+    ensures { (s : Script) (es : List Entry) → IsLegal s es → FewOfLegal s es }
+{}
+
+/// After so many entries of a legal journal an object has at most 1,025 times as many changes and references.
+pub fn references_stay_few()
+    ensures { (s : Script) (es : List Entry) (o : ℕ) → IsLegal s es → FewReferences s es o }
 {}

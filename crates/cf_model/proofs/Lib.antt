@@ -47,4 +47,5 @@ pub mod Adding
 pub mod Numbering
 pub mod Leading
 pub mod Limiting
+pub mod Listing
 pub mod OneThread

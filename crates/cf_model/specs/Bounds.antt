@@ -3,6 +3,7 @@ use Rattle.std.specs.Prelude.{◌≡◌, ℕ, ◌+◌, ◌*◌, ◌<◌, ◌≤�
 use Rattle.cf_syntax.specs.declared.script.Script.{Script}
 use Rattle.cf_syntax.specs.Owned.{Owned}
 use Rattle.cf_graph.specs.Edges.{degree}
+use Rattle.cf_graph.specs.Flows.{gained_by, gains}
 use Rattle.cf_contents.specs.Contents.{size_at}
 use Rattle.cf_contents.specs.Stores.{Held, objects_of, MayGrow}
 use Rattle.cf_model.specs.declared.entry.Entry.{Entry}
@@ -10,6 +11,7 @@ use Rattle.cf_model.specs.State.{State, times}
 use Rattle.cf_model.specs.Journals.{makes, after_action, After}
 use Rattle.cf_model.specs.Serial.{pointer_of}
 use Rattle.cf_model.specs.Changes.{changes}
+use Rattle.cf_model.specs.Flowing.{flow_in}
 
 -- an entry makes one object at most, and that only if its thread's next statement is of such a form; it finalises one
 -- at most; and each collection has one member more at most
@@ -53,3 +55,10 @@ pub record FewOfLegal (s : Script) (es : List Entry) : Type 0 where
 pub record FewReferences (s : Script) (es : List Entry) (o : ℕ) : Type 0 where
   pub moves : length s.modes ≤ 1024 → changes s o es ≤ 1025 * length es
   pub references : length s.modes ≤ 1024 → degree o (After s es).edges ≤ 1025 * length es
+
+-- the objects to which an entry adds references, one for each, are a list: an object stands in it as often as it gains
+-- a reference, and it has no more numbers than the script has modes and the run has objects, and two
+pub record GainsAreListed (s : Script) (es : List Entry) (e : Entry) : Type 0 where
+  pub listed : (o : ℕ) → let flow = flow_in s e.thread (After s es) e.action in gains o flow ≡ times o (gained_by flow)
+  pub few : length (gained_by (flow_in s e.thread (After s es) e.action))
+      ≤ length s.modes + length (After s es).parts.objects + 2

@@ -2,7 +2,7 @@
 ghost use Rattle.std.specs.Prelude.{◌≡◌, ℕ, List, ◌∷◌, ◌++◌};
 ghost use Rattle.cf_syntax.specs.declared.script.Script.{Script};
 ghost use Rattle.cf_model.specs.declared.entry.Entry.{Entry};
-ghost use Rattle.cf_model.specs.Bounds.{AddsFew, AreFew, FewOfLegal, FewReferences, NumbersOfLists};
+ghost use Rattle.cf_model.specs.Bounds.{AddsFew, AreFew, FewOfLegal, FewReferences, GainsAreListed, NumbersOfLists};
 ghost use Rattle.cf_model.specs.Choices.{IsDetermined};
 ghost use Rattle.cf_model.specs.Changes.{ChangesCount, IsOneWay};
 ghost use Rattle.cf_model.specs.Flowing.{ChangesGrow, GainsFew, GainsFit, HeldChanges};
@@ -177,4 +177,9 @@ pub fn few_objects_are_made()
 /// After so many entries of a legal journal an object has at most 1,025 times as many changes and references.
 pub fn references_stay_few()
     ensures { (s : Script) (es : List Entry) (o : ℕ) → IsLegal s es → FewReferences s es o }
+{}
+
+/// The objects to which an entry adds references are a list, which is not long.
+pub fn gains_are_listed()
+    ensures { (s : Script) (es : List Entry) (e : Entry) → GainsAreListed s es e }
 {}

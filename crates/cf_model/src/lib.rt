@@ -20,10 +20,11 @@ pub use examples::{
 pub use laws::{
     changes_count_references, changes_grow_by_flows, entries_add_few_references,
     entries_add_little, entries_go_one_way, few_objects_are_made, finalised_bodies_give_up,
-    finals_of_legal_journals, first_is_next, gains_are_live_or_new, held_along_journals,
-    held_references_change_by_flows, journals_are_determined, journals_grow, lead_ends_the_run,
-    lead_tells_the_times, made_objects_have_changes, next_actions_of_owned_scripts,
-    next_retains_are_had, next_retains_stay, nothing_without_threads, numbers_of_lists,
-    own_references_stay, references_in_view_and_of_others, references_stay_few,
-    releases_take_their_own, sizes_stay_small,
+    finals_of_legal_journals, first_is_next, gains_are_listed, gains_are_live_or_new,
+    held_along_journals, held_references_change_by_flows, journals_are_determined, journals_grow,
+    lead_ends_the_run, lead_tells_the_times, made_objects_have_changes,
+    next_actions_of_owned_scripts, next_retains_are_had, next_retains_stay,
+    nothing_without_threads, numbers_of_lists, own_references_stay,
+    references_in_view_and_of_others, references_stay_few, releases_take_their_own,
+    sizes_stay_small,
 };

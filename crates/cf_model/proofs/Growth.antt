@@ -57,6 +57,17 @@ legal-more s st (f ∷ es) e h none last = (
   legal-more s (after_action s f.thread st f.action) es e h.2 (none_second (is_stall f.action) (has_stalled es) none) last,
 )
 
+-- a beginning of a legal journal is legal
+last_begin : (a : Action) (es fs : List Entry) → IsLastIf a (es ++ fs) → IsLastIf a es
+last_begin actions.Stall [] fs h = refl
+last_begin actions.Stall (e ∷ es) fs h = absurd cc
+last_begin a es fs h = tt
+
+pub legal-begin : (s : Script) (st : State) (es fs : List Entry) → IsLegalFrom s st (es ++ fs) → IsLegalFrom s st es
+legal-begin s st [] fs h = tt
+legal-begin s st (e ∷ es) fs h =
+    (h.0, last_begin e.action es fs h.1, legal-begin s (after_action s e.thread st e.action) es fs h.2)
+
 -- ---- the serial order
 
 pub serial-more : (s : Script) (st : State) (p : ℕ) (es : List Entry) (e : Entry) → IsSerialFrom s st p es
@@ -75,6 +86,7 @@ pub grows_by : (s : Script) (es : List Entry) (e : Entry) → GrowsBy s es e
 grows_by s es e = record {
   after = after-more s es e;
   legal = λ h none last. legal-more s (start s) es e h none last;
+  begun = λ h. legal-begin s (start s) es (e ∷ []) h;
   stalled = stalled-more es e;
   order = λ h q. serial-more s (start s) 0 es e h q;
   pointer = pointer-more s (start s) 0 es e;

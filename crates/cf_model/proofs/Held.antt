@@ -62,7 +62,7 @@ module _ (ts : List ℕ) (u : ℕ) (among : list_any (λ t. t == u) ts ≡ true)
   flow_held o (shrinks r) es own can = omega (arith, weigh-flow (held_with ts o) (shrinks r) es can, one_held o r own)
 
 -- a flow moves the number of references to an object by all that it adds and takes away, since it does not do both
-flow_apart : (o : ℕ) (f : Flow) (es : List Reference) → IsThere f es → apart (degree o es) (degree o (flowed f es)) ≡ gains o f + cuts o f
+pub flow_apart : (o : ℕ) (f : Flow) (es : List Reference) → IsThere f es → apart (degree o es) (degree o (flowed f es)) ≡ gains o f + cuts o f
 flow_apart o (grows ins ms) es can = omega (arith, degree-flow o (grows ins ms) es can)
 flow_apart o (shrinks r) es can = omega (arith, degree-flow o (shrinks r) es can)
 

@@ -1,26 +1,35 @@
 -- What a legal journal makes and finalises at most, and how many references it can leave to an object.
-use Rattle.std.proofs.Common.{◌≡◌, ℕ, zero, suc, ◌+◌, ◌*◌, ◌<◌, ◌≤◌, Bool, true, false, cond, List, [], ◌∷◌, length, eqb, ltb, refl, ap, subst, arith, inl, inr}
+use Rattle.std.proofs.Common.{◌≡◌, ℕ, zero, suc, ◌+◌, ◌*◌, ◌<◌, ◌≤◌, Bool, true, false, cond, List, [], ◌∷◌, length, Option, Some, None, eqb, ltb, refl, ap, subst, arith, inl, inr}
 use Rattle.std.proofs.lemmas.Bool.{cases_lt, ltb-true}
 use Rattle.std.proofs.lemmas.Bool.Decides.{eqb_tells, nat_tests}
 use Rattle.cf_ids.specs.declared.answer.Answer.{Answer}
 use Rattle.cf_syntax.specs.declared.script.Script.{Script}
+use Rattle.cf_syntax.specs.Owned.{FitsByBlock, Owned}
+use Rattle.cf_syntax.proofs.BlockLaws.{owned_fits}
 use Rattle.cf_graph.specs.Edges.{counted, degree}
 use Rattle.cf_graph.specs.Flows.{Flow, grows, shrinks, gains, cuts}
 use Rattle.cf_next.specs.declared.action.Action.{Action}
+use Rattle.cf_next.specs.Demands.{Demand}
+use Rattle.cf_next.specs.Next.{action_in}
 use Rattle.cf_model.specs.declared.entry.Entry.{Entry}
 use Rattle.cf_model.specs.State.{State, start, times}
-use Rattle.cf_model.specs.Journals.{after_action, state_from, After, IsLegalAs, IsLegal}
-use Rattle.cf_model.specs.Flowing.{flow_in}
+use Rattle.cf_model.specs.Known.{facts_of}
+use Rattle.cf_model.specs.Steps.{step_of, frames_at, demanded, step_answer, acted}
+use Rattle.cf_model.specs.Journals.{after_action, state_from, After, owners_of, IsLegalAs, IsLegal}
+use Rattle.cf_model.specs.Flowing.{flow_if, flow_in}
 use Rattle.cf_model.specs.Changes.{apart, changes_from, changes}
 use Rattle.cf_model.specs.Bounds.{FewOfLegal, FewReferences}
+use Rattle.cf_model.proofs.Acting.{demand_fits}
 use Rattle.cf_model.proofs.Adding.{entry_adds}
 use Rattle.cf_model.proofs.Balance.{IsBalanced}
 use Rattle.cf_model.proofs.ChangeLaws.{references_most}
 use Rattle.cf_model.proofs.Entries.{ActionView, is_tick, is_stall, is_step, action_view}
 use Rattle.cf_model.proofs.Finality.{IsLegalPart, part_of_legal, kept, legal_keeps}
 use Rattle.cf_model.proofs.Gaining.{few_gained}
-use Rattle.cf_model.proofs.Held.{entry_tells}
+use Rattle.cf_model.proofs.Held.{entry_tells, flow_apart}
+use Rattle.cf_model.proofs.Sound.{entry_sound, start_sound, uses_at_most}
 use Rattle.cf_model.proofs.Steady.{IsSteady, start_steady}
+use Rattle.cf_model.proofs.Using.{IsSound, demand_may}
 
 -- ---- objects
 
@@ -140,7 +149,42 @@ changes_most s st o (e ∷ es) modes h legal =
     let one : apart (degree o st.edges) (degree o next.edges) ≤ 1025 = omega (arith, tells.changed o, flow_most o flow (few_gained s st e.thread e.action o modes)) in
     omega (arith, one, changes_most s next o es modes (legal_keeps s st e h legal.0).steady legal.1)
 
+-- the same of every list of entries of an owned script
+module _ (c : Script) (own : FitsByBlock c) (modes : length c.modes ≤ 1024) where
+  acted_most : (t : ℕ) (st : State) (d : Option Demand) (o : ℕ) → IsSound c st → demanded c st t ≡ d
+      → gains o (flow_if c t st d) ≤ 1025 → apart (degree o st.edges) (degree o (acted c t st d).edges) ≤ 1025
+  acted_most t st None o h e few = omega arith
+  acted_most t st (Some d) o h e few =
+      let step = step_of c t st (frames_at t st) d in
+      let a = action_in c (facts_of st) t (frames_at t st) d in
+      let may = uses_at_most st t (owners_of a) a (step_answer step st) (demand_may c t st h own d e) in
+      let fits = demand_fits c t st d h.steady e may in
+      omega (arith, flow_apart o step.flow st.edges fits.there, flow_most o step.flow few)
+
+  entry_most : (t : ℕ) (st : State) (a : Action) (o : ℕ) → IsSound c st
+      → apart (degree o st.edges) (degree o (after_action c t st a).edges) ≤ 1025
+  entry_most t st a o h = by a (action_view a)
+    where
+      by : (a : Action) → ActionView a → apart (degree o st.edges) (degree o (after_action c t st a).edges) ≤ 1025
+      by _ (is_tick n) = omega arith
+      by _ is_stall = omega arith
+      by a (is_step _ step) =
+          let few = few_gained c st t a o modes in
+          rw (step.after c t st)
+          (acted_most t st (demanded c st t) o h refl (subst (λ (f : Flow). gains o f ≤ 1025) (step.flow c t st) few))
+
+  owned_most : (st : State) (o : ℕ) (es : List Entry) → IsSound c st → changes_from c st o es ≤ 1025 * length es
+  owned_most st o [] h = omega arith
+  owned_most st o (e ∷ es) h =
+      let next = after_action c e.thread st e.action in
+      omega (arith, entry_most e.thread st e.action o h, owned_most next o es (entry_sound c e.thread st e.action own h))
+
 pub few_references : (s : Script) (es : List Entry) (o : ℕ) → IsLegal s es → FewReferences s es o
 few_references s es o legal =
     let most = λ (modes : length s.modes ≤ 1024). changes_most s (start s) o es modes (start_steady s) (part_of_legal s (start s) es legal) in
+    record { moves = most; references = λ modes. omega (arith, references_most s es o, most modes) }
+
+pub few_of_owned : (s : Script) (es : List Entry) (o : ℕ) → Owned s → FewReferences s es o
+few_of_owned s es o own =
+    let most = λ (modes : length s.modes ≤ 1024). owned_most s (owned_fits s own) modes (start s) o es (start_sound s) in
     record { moves = most; references = λ modes. omega (arith, references_most s es o, most modes) }

@@ -50,8 +50,8 @@ pub record FewOfLegal (s : Script) (es : List Entry) : Type 0 where
   pub made : (o : ℕ) → 0 < times o (After s es).parts.finalised → o < length (After s es).parts.objects
   pub finalised : length (After s es).parts.finalised ≤ length (After s es).parts.objects
 
--- after so many entries of a legal journal an object has at most so many changes, and so many references to it, if
--- the script has no more modes than it may
+-- after so many entries an object has at most so many changes, and so many references to it, if the script has no more
+-- modes than it may
 pub record FewReferences (s : Script) (es : List Entry) (o : ℕ) : Type 0 where
   pub moves : length s.modes ≤ 1024 → changes s o es ≤ 1025 * length es
   pub references : length s.modes ≤ 1024 → degree o (After s es).edges ≤ 1025 * length es

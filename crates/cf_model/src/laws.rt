@@ -174,9 +174,11 @@ pub fn few_objects_are_made()
     ensures { (s : Script) (es : List Entry) → IsLegal s es → FewOfLegal s es }
 {}
 
-/// After so many entries of a legal journal an object has at most 1,025 times as many changes and references.
+/// After so many entries an object has at most 1,025 times as many changes and references, of a legal journal of every
+/// script, and of every list of entries of an owned script.
 pub fn references_stay_few()
-    ensures { (s : Script) (es : List Entry) (o : ℕ) → IsLegal s es → FewReferences s es o }
+    ensures legal { (s : Script) (es : List Entry) (o : ℕ) → IsLegal s es → FewReferences s es o }
+    ensures owned { (s : Script) (es : List Entry) (o : ℕ) → Owned s → FewReferences s es o }
 {}
 
 /// The objects to which an entry adds references are a list, which is not long.

@@ -1,5 +1,5 @@
 -- What one entry adds at most: one object, one that is finalised, and one member of each collection.
-use Rattle.std.proofs.Common.{◌≡◌, ℕ, zero, ◌+◌, ◌<◌, ◌≤◌, ◌⊎◌, Bool, true, false, cond, List, [], ◌∷◌, ◌++◌, length, map, Option, Some, None, refl, sym, ap, ◌∙◌, subst, arith, inl, inr, append-nil, length-append, ◌==◌}
+use Rattle.std.proofs.Common.{◌≡◌, ℕ, ◌+◌, ◌<◌, ◌≤◌, ◌⊎◌, Bool, true, false, cond, List, [], ◌∷◌, ◌++◌, length, map, Option, Some, None, refl, sym, ap, ◌∙◌, subst, arith, inl, inr, append-nil, length-append, ◌==◌}
 use Rattle.std.specs.Prelude.{slice_get, not, ◌&&◌}
 use Rattle.cf_ids.specs.declared.answer.Answer.{Answer}
 use Rattle.cf_ids.specs.declared.answer.Answer.TheVariants as answers
@@ -14,13 +14,13 @@ use Rattle.cf_syntax.specs.Mentions.{ownership_of, makes_object, used_at, first_
 use Rattle.cf_syntax.specs.BlockLines.{BlockLine, begins, claims, says, packs}
 use Rattle.cf_contents.specs.Items.{Item, source_item, kind_of, class_of}
 use Rattle.cf_contents.specs.Contents.{Object, item_content, size_of, size_at}
-use Rattle.cf_contents.specs.Deeds.{Origin, nowhere, fresh, there, Change, unchanged, in_item, deed_at, objects_after}
+use Rattle.cf_contents.specs.Deeds.{Origin, nowhere, fresh, there, Change, in_item, deed_at, objects_after}
 use Rattle.cf_contents.specs.Keys.{numbered}
 use Rattle.cf_contents.specs.Stores.{Held, objects_of, MayGrow}
 use Rattle.cf_contents.proofs.ContentLaws.{length-objects_after}
-use Rattle.cf_contents.proofs.FormLaws.{Fits, MakesOnly, MakesSmall, form_fits}
+use Rattle.cf_contents.proofs.FormLaws.{MakesOnly, MakesSmall, form_fits}
 use Rattle.cf_contents.proofs.Sizes.{AddsOne, size-one_more, size-more}
-use Rattle.cf_graph.specs.Holders.{Holder, variable, owed, parcel, in_mode}
+use Rattle.cf_graph.specs.Holders.{Holder, variable, parcel, in_mode}
 use Rattle.cf_graph.specs.Edges.{Reference, held_by, degree, has}
 use Rattle.cf_graph.specs.Flows.{cut_of}
 use Rattle.cf_next.specs.declared.action.Action.{Action}
@@ -29,12 +29,12 @@ use Rattle.cf_next.specs.Demands.{Demand, does, ends, returns, owes, spends, dro
 use Rattle.cf_next.specs.Advance.{top_kind}
 use Rattle.cf_next.specs.Next.{object_at, used_objects}
 use Rattle.cf_model.specs.declared.entry.Entry.{Entry}
-use Rattle.cf_model.specs.State.{Flags, Parts, State, start, stand_at, is_common, first_held}
+use Rattle.cf_model.specs.State.{Parts, State, start, stand_at, is_common, first_held}
 use Rattle.cf_model.specs.Things.{Thing, thing_at}
 use Rattle.cf_model.specs.Own.{present_of}
 use Rattle.cf_model.specs.Deals.{Deal, answering, okay, with_used, thing_deal, with_thing, with_filter, change_unless_skipped, change_deal, with_item, thread_in, place_in, holds_at, held_at, stays_in_one, is_elsewhere, places_added, places_dropped, entering, leaving, add_deal, drop_deal, common_items, common_deal, signal_deal, every_place, invalidate_deal, wake_parts, stop_deal, observe_deal, forget_deal, deal_of}
-use Rattle.cf_model.specs.Steps.{Step, Made, item_made, bound_if, found, bind_step, retain_step, cut_step, release_step, statement_step, claim_step, pack_step, packed_holder, start_all, spend_if, fired, fire, fire_if, phase_step, close_step, bindings_of, depth_of, step_of, step_finals, finals_of, edges_after, frames_at, demanded, state_after, acted, done_by}
-use Rattle.cf_model.specs.Journals.{makes_line, makes, after_action, state_from, After}
+use Rattle.cf_model.specs.Steps.{Step, Made, item_made, bound_if, bind_step, retain_step, release_step, statement_step, claim_step, pack_step, packed_holder, start_all, spend_if, fired, fire, fire_if, close_step, bindings_of, depth_of, step_of, step_finals, finals_of, edges_after, frames_at, demanded, acted, done_by}
+use Rattle.cf_model.specs.Journals.{makes_line, after_action, state_from, After}
 use Rattle.cf_model.specs.Bounds.{EntryAdds, AreFew}
 use Rattle.cf_model.proofs.Entries.{ActionView, is_tick, is_stall, is_step, action_view}
 use Rattle.cf_model.proofs.Phases.{phase_case}
@@ -47,7 +47,8 @@ pub record PartsAdd (making : Bool) (st : State) (p : Parts) : Type 0 where
       ⊎ ((making ≡ true) × (length p.objects ≡ length st.parts.objects + 1))
   pub sizes : (o : ℕ) → size_at (slice_get p.objects o) ≤ size_at (slice_get st.parts.objects o) + 1
 
-same_objects : (making : Bool) (st : State) (p : Parts) → p.finalised ≡ st.parts.finalised → p.objects ≡ st.parts.objects
+same_objects : (making : Bool) (st : State) (p : Parts) → p.finalised ≡ st.parts.finalised
+    → p.objects ≡ st.parts.objects
     → PartsAdd making st p
 same_objects making st p finals e = record {
   finalised = finals;
@@ -105,7 +106,8 @@ module _ (making : Bool) (st : State) where
 
   adds_invalidate : (s : Script) (i : ℕ) (x : Thing) → Adds (invalidate_deal s st i x)
   adds_invalidate s i x =
-      adds_either x.valid (leaving (with_item st.parts i false x.item) (present_of (every_place s i st.edges) st.edges))
+      adds_either x.valid
+      (leaving (with_item st.parts i false x.item) (present_of (every_place s i st.edges) st.edges))
       (answering st.parts answers.Invalid) (adds_item i false x.item) (adds_answer answers.Invalid)
 
   adds_change : (answer : Answer) (b : Option ℕ) (change : Change) → AddsOne change
@@ -121,7 +123,8 @@ module _ (making : Bool) (st : State) where
     adds_add : (u : ℕ) (p : Place) (i : ℕ) (x : Thing) → Adds (add_deal s st u p i x)
     adds_add u p i x =
         adds_either (not x.valid) (answering st.parts answers.Invalid) _ (adds_answer answers.Invalid)
-        (adds_either (stays_in_one (kind_of x.item) && is_elsewhere s u i st.edges) (answering st.parts answers.Elsewhere) _
+        (adds_either (stays_in_one (kind_of x.item) && is_elsewhere s u i st.edges)
+        (answering st.parts answers.Elsewhere) _
         (adds_answer answers.Elsewhere)
         (adds_either (holds_at u i st.edges p) (answering st.parts answers.Present)
         (entering st.parts (held_at u i (places_added s u i st p))) (adds_answer answers.Present)
@@ -166,14 +169,16 @@ module _ (making : Bool) (st : State) where
     adds_deal (forms.Run m limit once) used = same_objects making st _ refl refl
     adds_deal (forms.Observe v k name x) used =
         adds_used (first_of used) (λ q. with_filter st.parts x (used_at used 1) (observe_deal st.parts k name q))
-        (λ q. adds_filter x (used_at used 1) (observe_deal st.parts k name q) (λ z. same_objects making st _ refl refl))
+        (λ q. adds_filter x (used_at used 1) (observe_deal st.parts k name q)
+        (λ z. same_objects making st _ refl refl))
     adds_deal (forms.Forget v name x) used =
         adds_used (first_of used) (λ q. with_filter st.parts x (used_at used 1) (forget_deal st.parts name q))
         (λ q. adds_filter x (used_at used 1) (forget_deal st.parts name q) (λ z. same_objects making st _ refl refl))
     adds_deal (forms.Post name info) used = same_objects making st _ refl refl
     adds_deal x used =
         let deed = deed_at s.classes st.parts.objects x used in
-        let fits = form_fits s.classes x (numbered st.parts.objects (used_at used 0)) (numbered st.parts.objects (used_at used 1)) (numbered st.parts.objects (used_at used 2)) in
+        let fits = form_fits s.classes x (numbered st.parts.objects (used_at used 0))
+        (numbered st.parts.objects (used_at used 1)) (numbered st.parts.objects (used_at used 2)) in
         adds_change deed.answer (first_of used) (change_unless_skipped deed.answer deed.change)
         (unless_skipped deed.answer deed.change fits.one)
 
@@ -207,12 +212,17 @@ item_makes x m e = absurd cc
 adds_bound : (s : Script) (h : Holder) (st : State) (x : Statement) (used : List (Option ℕ)) (made : Option Made)
     → item_made x ≡ made → PartsAdd (makes_object x) st (bind_step h st.parts (bound_if s st.parts x used made)).parts
 adds_bound s h st x used (Some m) e =
-    let ob : Object = record { class = class_of m.item; content = item_content m.handler (first_of used) true m.item } in
+    let ob : Object = record {
+      class = class_of m.item;
+      content = item_content m.handler
+          (first_of used) true m.item;
+    } in
     subst (λ (b : Bool). PartsAdd b st (bind_step h st.parts (bound_if s st.parts x used (Some m))).parts)
     (sym (item_makes x m e)) (adds_object st _ ob refl refl refl)
 adds_bound s h st x used None e =
     let deed = deed_at s.classes st.parts.objects x used in
-    let fits = form_fits s.classes x (numbered st.parts.objects (used_at used 0)) (numbered st.parts.objects (used_at used 1)) (numbered st.parts.objects (used_at used 2)) in
+    let fits = form_fits s.classes x (numbered st.parts.objects (used_at used 0))
+    (numbered st.parts.objects (used_at used 1)) (numbered st.parts.objects (used_at used 2)) in
     adds_origin (makes_object x) h st deed.answer deed.origin fits.only fits.small
 
 -- ---- steps
@@ -236,7 +246,8 @@ module _ (s : Script) (t : ℕ) (st : State) where
       by None = nothing (makes_object x)
       by (Some o) = nothing (makes_object x)
 
-  adds_line : (fs : List Frame) (x : BlockLine) → PartsAdd (makes_line (Some (does x))) st (step_of s t st fs (does x)).parts
+  adds_line : (fs : List Frame) (x : BlockLine)
+      → PartsAdd (makes_line (Some (does x))) st (step_of s t st fs (does x)).parts
   adds_line fs (begins v) = nothing false
   adds_line fs (claims k v) = by (first_held (parcel t k) st.edges)
     where
@@ -257,7 +268,8 @@ module _ (s : Script) (t : ℕ) (st : State) where
   adds_spend : (i : ℕ) (x : Option Thing) → PartsAdd false st (spend_if s st i x).parts
   adds_spend i None = nothing false
   adds_spend i (Some x) =
-      adds_either false st x.valid (invalidate_deal s st i x) (okay st.parts) (adds_invalidate false st s i x) (nothing false)
+      adds_either false st x.valid (invalidate_deal s st i x) (okay st.parts) (adds_invalidate false st s i x)
+      (nothing false)
 
   adds_fire : (item : Option ℕ) → PartsAdd false st (fire_if st.parts item)
   adds_fire None = nothing false
@@ -303,17 +315,26 @@ one_final (Some o) es = by (degree o es == 0)
 no_entry : (s : Script) (t : ℕ) (st : State) → EntryAdds s t st st
 no_entry s t st = record { objects = inl refl; finalised = omega arith; sizes = λ o. omega arith }
 
-step_adds : (s : Script) (t : ℕ) (st : State) (d : Demand) → demanded s st t ≡ Some d → EntryAdds s t st (done_by s t st d)
+step_adds : (s : Script) (t : ℕ) (st : State) (d : Demand) → demanded s st t ≡ Some d
+    → EntryAdds s t st (done_by s t st d)
 step_adds s t st d e =
     let step = step_of s t st (frames_at t st) d in
     let parts = adds_demand s t st (frames_at t st) d in
     record {
-      objects = subst (λ (x : Option Demand). (length step.parts.objects ≡ length st.parts.objects) ⊎ ((makes_line x ≡ true) × (length step.parts.objects ≡ length st.parts.objects + 1))) (sym e) parts.objects;
-      finalised = omega (arith, length-append (step_finals step st) step.parts.finalised, one_final (cut_of step.flow) (edges_after step st), ap length parts.finalised);
+      objects = subst
+          (λ (x : Option Demand). (length step.parts.objects ≡ length st.parts.objects) ⊎
+          ((makes_line x ≡ true) × (length step.parts.objects ≡ length st.parts.objects + 1))) (sym e) parts.objects;
+      finalised = omega (
+        arith,
+        length-append (step_finals step st) step.parts.finalised,
+        one_final (cut_of step.flow) (edges_after step st),
+        ap length parts.finalised,
+      );
       sizes = parts.sizes;
     }
 
-acted_adds : (s : Script) (t : ℕ) (st : State) (d : Option Demand) → demanded s st t ≡ d → EntryAdds s t st (acted s t st d)
+acted_adds : (s : Script) (t : ℕ) (st : State) (d : Option Demand) → demanded s st t ≡ d
+    → EntryAdds s t st (acted s t st d)
 acted_adds s t st None e = no_entry s t st
 acted_adds s t st (Some d) e = step_adds s t st d e
 
@@ -323,23 +344,34 @@ entry_adds s t st a = by a (action_view a)
     by : (a : Action) → ActionView a → EntryAdds s t st (after_action s t st a)
     by _ (is_tick n) = record { objects = inl refl; finalised = omega arith; sizes = λ o. omega arith }
     by _ is_stall = no_entry s t st
-    by a (is_step _ step) = subst (EntryAdds s t st) (sym (step.after s t st)) (acted_adds s t st (demanded s st t) refl)
+    by a (is_step _ step) =
+        subst (EntryAdds s t st) (sym (step.after s t st)) (acted_adds s t st (demanded s st t) refl)
 
 -- ---- journals
 
 one_object : (a m : ℕ) (B : Type 0) → (a ≡ m) ⊎ (B × (a ≡ m + 1)) → a ≤ m + 1
 one_object a m B h = elim h [ inl e ↦ omega (arith, e) | inr e ↦ omega (arith, e.1) ]
 
-few_objects_from : (s : Script) (st : State) (es : List Entry) → length (state_from s st es).parts.objects ≤ length st.parts.objects + length es
+few_objects_from : (s : Script) (st : State) (es : List Entry)
+    → length (state_from s st es).parts.objects ≤ length st.parts.objects + length es
 few_objects_from s st [] = omega arith
 few_objects_from s st (e ∷ es) =
     let next = after_action s e.thread st e.action in
-    omega (arith, one_object (length next.parts.objects) (length st.parts.objects) _ (entry_adds s e.thread st e.action).objects, few_objects_from s next es)
+    omega (
+      arith,
+      one_object (length next.parts.objects) (length st.parts.objects) _ (entry_adds s e.thread st e.action).objects,
+      few_objects_from s next es,
+    )
 
-few_finals_from : (s : Script) (st : State) (es : List Entry) → length (state_from s st es).parts.finalised ≤ length st.parts.finalised + length es
+few_finals_from : (s : Script) (st : State) (es : List Entry)
+    → length (state_from s st es).parts.finalised ≤ length st.parts.finalised + length es
 few_finals_from s st [] = omega arith
 few_finals_from s st (e ∷ es) =
-    omega (arith, (entry_adds s e.thread st e.action).finalised, few_finals_from s (after_action s e.thread st e.action) es)
+    omega (
+      arith,
+      (entry_adds s e.thread st e.action).finalised,
+      few_finals_from s (after_action s e.thread st e.action) es,
+    )
 
 small_from : (s : Script) (st : State) (es : List Entry) (o : ℕ)
     → size_at (slice_get (state_from s st es).parts.objects o) ≤ size_at (slice_get st.parts.objects o) + length es
@@ -347,10 +379,12 @@ small_from s st [] o = omega arith
 small_from s st (e ∷ es) o =
     omega (arith, (entry_adds s e.thread st e.action).sizes o, small_from s (after_action s e.thread st e.action) es o)
 
-pub sizes_stay_small : (s : Script) (es : List Entry) (o : ℕ) → size_at (slice_get (After s es).parts.objects o) ≤ length es
+pub sizes_stay_small : (s : Script) (es : List Entry) (o : ℕ)
+    → size_at (slice_get (After s es).parts.objects o) ≤ length es
 sizes_stay_small s es o = omega (arith, small_from s (start s) es o)
 
-pub bodies_may_grow : (s : Script) (es : List Entry) (bodies : List Held) → objects_of bodies ≡ (After s es).parts.objects
+pub bodies_may_grow : (s : Script) (es : List Entry) (bodies : List Held)
+    → objects_of bodies ≡ (After s es).parts.objects
     → length es ≤ 4000000 → MayGrow bodies
 bodies_may_grow s es bodies same few o =
     let size = size_at (slice_get (After s es).parts.objects o) in

@@ -5,14 +5,15 @@ use Rattle.cf_next.specs.declared.action.Action.{Action}
 use Rattle.cf_next.specs.declared.action.Action.TheVariants as actions
 use Rattle.cf_model.specs.declared.entry.Entry.{Entry}
 use Rattle.cf_model.specs.State.{State, start}
-use Rattle.cf_model.specs.Journals.{after_action, state_from, After, IsLegalEntry, IsLastIf, IsLegalFrom, IsLegal, is_stall, has_stalled}
-use Rattle.cf_model.specs.Serial.{picked, picked_or_lead, moved_by, IsSerialFrom, pointer_after, pointer_of}
+use Rattle.cf_model.specs.Journals.{after_action, state_from, After, IsLegalEntry, IsLastIf, IsLegalFrom, is_stall, has_stalled}
+use Rattle.cf_model.specs.Serial.{picked, picked_or_lead, moved_by, IsSerialFrom, pointer_after}
 use Rattle.cf_model.specs.Growing.{GrowsBy}
 use Rattle.cf_model.proofs.Entries.{state-append}
 
 -- ---- the state
 
-pub after-more : (s : Script) (es : List Entry) (e : Entry) → After s (es ++ e ∷ []) ≡ after_action s e.thread (After s es) e.action
+pub after-more : (s : Script) (es : List Entry) (e : Entry)
+    → After s (es ++ e ∷ []) ≡ after_action s e.thread (After s es) e.action
 after-more s es e = state-append s (start s) es (e ∷ [])
 
 -- ---- stalls
@@ -36,7 +37,8 @@ none_second false b e = e
 pub stalled-more : (es : List Entry) (e : Entry) → has_stalled (es ++ e ∷ []) ≡ (has_stalled es || is_stall e.action)
 stalled-more [] e = sym (or_right (is_stall e.action))
 stalled-more (f ∷ es) e =
-    ap (λ (b : Bool). is_stall f.action || b) (stalled-more es e) ∙ or_three (is_stall f.action) (has_stalled es) (is_stall e.action)
+    ap (λ (b : Bool). is_stall f.action || b) (stalled-more es e) ∙ or_three (is_stall f.action) (has_stalled es)
+    (is_stall e.action)
 
 -- ---- legal journals
 
@@ -54,7 +56,8 @@ legal-more s st [] e h none last = (last, last_alone e.action, tt)
 legal-more s st (f ∷ es) e h none last = (
   h.0,
   last_unless_stall f.action (es ++ e ∷ []) (none_first (is_stall f.action) (has_stalled es) none),
-  legal-more s (after_action s f.thread st f.action) es e h.2 (none_second (is_stall f.action) (has_stalled es) none) last,
+  legal-more s (after_action s f.thread st f.action) es e h.2
+      (none_second (is_stall f.action) (has_stalled es) none) last,
 )
 
 -- a beginning of a legal journal is legal
@@ -71,13 +74,15 @@ legal-begin s st (e ∷ es) fs h =
 -- ---- the serial order
 
 pub serial-more : (s : Script) (st : State) (p : ℕ) (es : List Entry) (e : Entry) → IsSerialFrom s st p es
-    → e.thread ≡ picked_or_lead (picked s (state_from s st es) (pointer_after s st p es)) → IsSerialFrom s st p (es ++ e ∷ [])
+    → e.thread ≡ picked_or_lead (picked s (state_from s st es) (pointer_after s st p es)) → IsSerialFrom s st p
+    (es ++ e ∷ [])
 serial-more s st p [] e h q = (q, tt)
 serial-more s st p (f ∷ es) e h q =
     (h.0, serial-more s (after_action s f.thread st f.action) (moved_by p (picked s st p)) es e h.1 q)
 
 pub pointer-more : (s : Script) (st : State) (p : ℕ) (es : List Entry) (e : Entry)
-    → let q = pointer_after s st p es in pointer_after s st p (es ++ e ∷ []) ≡ moved_by q (picked s (state_from s st es) q)
+    → let q = pointer_after s st p es in pointer_after s st p (es ++ e ∷ []) ≡ moved_by q
+    (picked s (state_from s st es) q)
 pointer-more s st p [] e = refl
 pointer-more s st p (f ∷ es) e =
     pointer-more s (after_action s f.thread st f.action) (moved_by p (picked s st p)) es e

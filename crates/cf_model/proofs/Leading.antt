@@ -1,6 +1,6 @@
 -- What the serial run finds after a journal: a thread that is done has no work left, and once the block of setup is at
 -- its end each thread is started.
-use Rattle.std.proofs.Common.{◌≡◌, ℕ, zero, suc, ◌+◌, ◌-◌, ◌<◌, ◌≤◌, ◌⊎◌, Bool, true, false, cond, List, [], ◌∷◌, ◌++◌, map, length, Option, Some, None, eqb, leb, refl, sym, ap, ◌∙◌, subst, arith, inl, inr}
+use Rattle.std.proofs.Common.{◌≡◌, ℕ, zero, suc, ◌+◌, ◌-◌, ◌<◌, ◌≤◌, Bool, true, false, cond, List, [], ◌∷◌, ◌++◌, map, length, Option, Some, None, eqb, leb, refl, sym, ap, ◌∙◌, subst, arith, inl, inr}
 use Rattle.std.specs.Prelude.{not, ◌&&◌, ◌||◌, find}
 use Rattle.std.specs.List.{list_all, list_any, range_with_len}
 use Rattle.std.proofs.lemmas.Bool.{and_parts, and_from, cases_lt}
@@ -11,13 +11,13 @@ use Rattle.cf_syntax.specs.Owned.{Owned}
 use Rattle.cf_syntax.proofs.BlockLaws.{owned_fits}
 use Rattle.cf_next.specs.declared.action.Action.{Action}
 use Rattle.cf_next.specs.declared.action.Action.TheVariants as actions
-use Rattle.cf_next.specs.Stands.{Frame, Stand, opening_stand, stop_stand}
+use Rattle.cf_next.specs.Stands.{Stand, opening_stand, stop_stand}
 use Rattle.cf_next.specs.Demands.{Demand, ends}
 use Rattle.cf_next.specs.Advance.{is_end}
 use Rattle.cf_model.specs.declared.entry.Entry.{Entry}
 use Rattle.cf_model.specs.State.{State, start, at_or, blank, stand_at, with_stand, threads_of, flags_of, flags_at}
 use Rattle.cf_model.specs.Steps.{step_of, frames_at, demanded, stand_after, stopped_at, acted, done_by}
-use Rattle.cf_model.specs.Journals.{is_going, sleeps, can_go, all_sleep, is_none, AllowsTick, AllowsStall, LeadNext, over, busy, ticks, stalls, all_done, due_date, tick_or_stall, lead_next_in, lead_next, has_stalled, after_action, state_from, After, IsLegal, HasGivenUp, IsWhole}
+use Rattle.cf_model.specs.Journals.{is_going, sleeps, can_go, all_sleep, is_none, LeadNext, over, busy, ticks, stalls, all_done, due_date, tick_or_stall, lead_next_in, has_stalled, after_action, state_from, After, IsLegal, IsWhole}
 use Rattle.cf_model.specs.Serial.{round, picked}
 use Rattle.cf_model.specs.Owned.{AllIdle}
 use Rattle.cf_model.specs.Leading.{LeadTells}
@@ -31,7 +31,8 @@ use Rattle.cf_model.proofs.Waits.{given_up_along}
 abbrev IsIdle : State → Type 0
 IsIdle st = (u : ℕ) → (stand_at u st.stands).is_done ≡ true → (stand_at u st.stands).work ≡ []
 
-stopped_done : (stops : Option ℕ) (u : ℕ) (ss : List Stand) → (stand_at u (stopped_at stops ss)).is_done ≡ (stand_at u ss).is_done
+stopped_done : (stops : Option ℕ) (u : ℕ) (ss : List Stand)
+    → (stand_at u (stopped_at stops ss)).is_done ≡ (stand_at u ss).is_done
 stopped_done None u ss = refl
 stopped_done (Some w) u ss = elim (eqb_tells u w) [
   | inl e ↦ subst (λ (n : ℕ). (stand_at n (stopped_at (Some w) ss)).is_done ≡ (stand_at n ss).is_done) (sym e.1)
@@ -52,7 +53,8 @@ done_idle s t st d h u done =
     let before : (stand_at u ss).is_done ≡ true = sym (stopped_done step.stops u ss) ∙ done in
     stopped_work step.stops u ss ∙ elim (eqb_tells u t) [
       | inl e ↦
-          let mine : stand_at u ss ≡ new = subst (λ (n : ℕ). stand_at n ss ≡ new) (sym e.1) (at_own blank t new st.stands) in
+          let mine : stand_at u ss ≡ new = subst (λ (n : ℕ). stand_at n ss ≡ new) (sym e.1)
+          (at_own blank t new st.stands) in
           ap (λ (x : Stand). x.work) mine ∙ new_idle s t st d (sym (ap (λ (x : Stand). x.is_done) mine) ∙ before)
       | inr e ↦
           let other = at_other blank u t new st.stands e.1 in
@@ -89,7 +91,8 @@ all_at p a (suc n) k h from to =
     above : (a k : ℕ) → a ≤ k → (a ≡ k → ⊥) → a + 1 ≤ k
     above a k h n = grind (arith, nat_tests)
 
-all_from : (p : ℕ → Bool) (a n : ℕ) → ((k : ℕ) → a ≤ k → k < a + n → p k ≡ true) → list_all p (range_with_len a n) ≡ true
+all_from : (p : ℕ → Bool) (a n : ℕ) → ((k : ℕ) → a ≤ k → k < a + n → p k ≡ true)
+    → list_all p (range_with_len a n) ≡ true
 all_from p a zero h = refl
 all_from p a (suc n) h =
     and_from (p a) (list_all p (range_with_len (a + 1) n)) (h a (omega arith) (omega arith))
@@ -170,8 +173,11 @@ module _ (s : Script) (st : State) where
 
   pub can_not_sleep : (t : ℕ) → t < s.thread_count → can_go st t ≡ true → all_sleep s st ≡ true → ⊥
   can_not_sleep t lt go asleep =
-      let each = (and_parts (list_any (is_going st) (threads_of s)) (list_all (λ t. not (is_going st t) || sleeps st t) (threads_of s)) asleep).1 in
-      let here : (not (is_going st t) || sleeps st t) ≡ true = all_at (λ t. not (is_going st t) || sleeps st t) 0 s.thread_count t each (omega arith) (omega (arith, lt)) in
+      let each =
+      (and_parts (list_any (is_going st) (threads_of s))
+      (list_all (λ t. not (is_going st t) || sleeps st t) (threads_of s)) asleep).1 in
+      let here : (not (is_going st t) || sleeps st t) ≡ true = all_at
+      (λ t. not (is_going st t) || sleeps st t) 0 s.thread_count t each (omega arith) (omega (arith, lt)) in
       no_both (can_go st t) go (goes_of (is_going st t) (sleeps st t) here)
 
 -- ---- once setup is done each thread is started
@@ -181,14 +187,16 @@ record Begun (s : Script) (st : State) : Type 0 where
   first : 0 < s.thread_count → IsStarted st.parts.flags 0
   all : (stand_at 0 st.stands).is_done ≡ true → (t : ℕ) → t < s.thread_count → IsStarted st.parts.flags t
 
-setup_ends : (s : Script) (st : State) (d : Demand) → s.thread_count ≤ length st.parts.flags → is_end d ≡ true → (t : ℕ)
+setup_ends : (s : Script) (st : State) (d : Demand) → s.thread_count ≤ length st.parts.flags → is_end d ≡ true
+    → (t : ℕ)
     → t < s.thread_count → IsStarted (done_by s 0 st d).parts.flags t
 setup_ends s st ends most e t lt = start_each st.parts.flags t (omega (arith, most, lt))
 setup_ends s st d most e t lt = absurd cc
 
 done_all : (s : Script) (u : ℕ) (st : State) (d : Demand) → Begun s st
     → ((t : ℕ) → IsStarted st.parts.flags t → IsStarted (done_by s u st d).parts.flags t)
-    → (stand_at 0 (done_by s u st d).stands).is_done ≡ true → (t : ℕ) → t < s.thread_count → IsStarted (done_by s u st d).parts.flags t
+    → (stand_at 0 (done_by s u st d).stands).is_done ≡ true → (t : ℕ) → t < s.thread_count → IsStarted
+    (done_by s u st d).parts.flags t
 done_all s zero st d h stay is t lt =
     let step = step_of s 0 st (frames_at 0 st) d in
     let new = stand_after 0 d step st in
@@ -205,7 +213,8 @@ done_all s (suc u) st d h stay is t lt =
 
 acted_all : (s : Script) (u : ℕ) (st : State) (d : Option Demand) → Begun s st
     → ((t : ℕ) → IsStarted st.parts.flags t → IsStarted (acted s u st d).parts.flags t)
-    → (stand_at 0 (acted s u st d).stands).is_done ≡ true → (t : ℕ) → t < s.thread_count → IsStarted (acted s u st d).parts.flags t
+    → (stand_at 0 (acted s u st d).stands).is_done ≡ true → (t : ℕ) → t < s.thread_count → IsStarted
+    (acted s u st d).parts.flags t
 acted_all s u st None h stay is t lt = h.all is t lt
 acted_all s u st (Some d) h stay is t lt = done_all s u st d h stay is t lt
 
@@ -228,7 +237,8 @@ entry_begun s u st a h =
 
 begun_from : (s : Script) (st : State) (es : List Entry) → Begun s st → Begun s (state_from s st es)
 begun_from s st [] h = h
-begun_from s st (e ∷ es) h = begun_from s (after_action s e.thread st e.action) es (entry_begun s e.thread st e.action h)
+begun_from s st (e ∷ es) h =
+    begun_from s (after_action s e.thread st e.action) es (entry_begun s e.thread st e.action h)
 
 opening_going : (ts : List ℕ) (u : ℕ) → (at_or blank u (map opening_stand ts)).is_done ≡ false
 opening_going [] zero = refl
@@ -249,10 +259,12 @@ begun_along s es = begun_from s (start s) es (record {
 
 -- ---- where no thread can go on, all sleep or all are done
 
-none_going : (s : Script) (st : State) → Begun s st → list_any (is_going st) (threads_of s) ≡ false → all_done s st ≡ true
+none_going : (s : Script) (st : State) → Begun s st → list_any (is_going st) (threads_of s) ≡ false
+    → all_done s st ≡ true
 none_going s st h none =
     all_from (done s st) 0 s.thread_count (λ t from to.
-    let not_one = λ (u : ℕ) (lt : u < s.thread_count). none_any (is_going st) 0 s.thread_count u none (omega arith) (omega (arith, lt)) in
+    let not_one = λ (u : ℕ) (lt : u < s.thread_count). none_any (is_going st) 0 s.thread_count u none (omega arith)
+    (omega (arith, lt)) in
     let some : 0 < s.thread_count = omega (arith, to) in
     let setup : done s st 0 ≡ true = not_going (started s st 0) (done s st 0) (not_one 0 some) (h.first some) in
     not_going (started s st t) (done s st t) (not_one t (omega (arith, to))) (h.all setup t (omega (arith, to))))
@@ -284,7 +296,8 @@ in_range P a (suc n) k h from to = elim (eqb_tells a k) [
     above : (a k : ℕ) → a ≤ k → (a ≡ k → ⊥) → a + 1 ≤ k
     above a k h n = grind (arith, nat_tests)
 
-none_picked : (s : Script) (st : State) (pointer t : ℕ) → picked s st pointer ≡ None → t < s.thread_count → can_go st t ≡ false
+none_picked : (s : Script) (st : State) (pointer t : ℕ) → picked s st pointer ≡ None → t < s.thread_count
+    → can_go st t ≡ false
 none_picked s st pointer t e lt =
     let P = λ (u : ℕ). can_go st u ≡ false in
     let later = range_with_len pointer (s.thread_count - pointer) in
@@ -292,7 +305,8 @@ none_picked s st pointer t e lt =
     let each = none_found (can_go st) (round s.thread_count pointer) e in
     elim (cases_lt t pointer) [
       | inl below ↦ in_range P 0 pointer t (in_second P later earlier each) (omega arith) (omega (arith, below))
-      | inr above ↦ in_range P pointer (s.thread_count - pointer) t (in_first P later earlier each) above (omega (arith, above, lt))
+      | inr above ↦ in_range P pointer (s.thread_count - pointer) t (in_first P later earlier each) above
+          (omega (arith, above, lt))
     ]
 
 all_wait : (s : Script) (st : State) (pointer : ℕ) → Begun s st → picked s st pointer ≡ None → all_done s st ≡ false
@@ -319,21 +333,24 @@ over_done false true None e = absurd cc
 over_done false true (Some n) e = absurd cc
 over_done false false due e = absurd cc
 
-busy_is : (d stalled asleep : Bool) (due : Option ℕ) → next_by d stalled asleep due ≡ busy → (d ≡ false) × (asleep ≡ false)
+busy_is : (d stalled asleep : Bool) (due : Option ℕ) → next_by d stalled asleep due ≡ busy
+    → (d ≡ false) × (asleep ≡ false)
 busy_is true stalled asleep due e = absurd cc
 busy_is false true asleep due e = absurd cc
 busy_is false false true None e = absurd cc
 busy_is false false true (Some n) e = absurd cc
 busy_is false false false due e = (refl, refl)
 
-tick_is : (d stalled asleep : Bool) (due : Option ℕ) (n : ℕ) → next_by d stalled asleep due ≡ ticks n → (asleep ≡ true) × (due ≡ Some n)
+tick_is : (d stalled asleep : Bool) (due : Option ℕ) (n : ℕ) → next_by d stalled asleep due ≡ ticks n
+    → (asleep ≡ true) × (due ≡ Some n)
 tick_is true stalled asleep due n e = absurd cc
 tick_is false true asleep due n e = absurd cc
 tick_is false false true None n e = absurd cc
 tick_is false false true (Some m) n e = let same : m ≡ n = cc in (refl, ap (λ (k : ℕ). Some k) same)
 tick_is false false false due n e = absurd cc
 
-stall_is : (d stalled asleep : Bool) (due : Option ℕ) → next_by d stalled asleep due ≡ stalls → (asleep ≡ true) × (due ≡ None)
+stall_is : (d stalled asleep : Bool) (due : Option ℕ) → next_by d stalled asleep due ≡ stalls
+    → (asleep ≡ true) × (due ≡ None)
 stall_is true stalled asleep due e = absurd cc
 stall_is false true asleep due e = absurd cc
 stall_is false false true None e = (refl, refl)
@@ -351,13 +368,16 @@ all_idle [] h = tt
 all_idle (s ∷ ss) h = (h 0, all_idle ss (λ t. h (suc t)))
 
 -- where all are done no thread has work left
-none_works : (s : Script) (es : List Entry) → all_done s (After s es) ≡ true → (t : ℕ) → (stand_at t (After s es).stands).work ≡ []
+none_works : (s : Script) (es : List Entry) → all_done s (After s es) ≡ true → (t : ℕ)
+    → (stand_at t (After s es).stands).work ≡ []
 none_works s es h t = elim (cases_lt t s.thread_count) [
   | inl lt ↦ idle_along s es t (done_at s (After s es) h t lt)
-  | inr past ↦ ap (λ (x : Stand). x.work) (at_past blank t (After s es).stands (omega (arith, past, stands_of_threads s es)))
+  | inr past ↦ ap (λ (x : Stand). x.work)
+      (at_past blank t (After s es).stands (omega (arith, past, stands_of_threads s es)))
 ]
 
-pub whole_where_done : (s : Script) (es : List Entry) → Owned s → IsLegal s es → all_done s (After s es) ≡ true → IsWhole s es
+pub whole_where_done : (s : Script) (es : List Entry) → Owned s → IsLegal s es → all_done s (After s es) ≡ true
+    → IsWhole s es
 whole_where_done s es own legal h = record {
   legal = legal;
   done = h;
@@ -370,13 +390,19 @@ lead_tells s es =
     let due = due_date s st in
     record {
       whole = λ own legal none e.
-          whole_where_done s es own legal (over_done (all_done s st) (all_sleep s st) due (sym (ap (λ (b : Bool). lead_next_in s st b) none) ∙ e));
+          whole_where_done s es own legal
+          (over_done (all_done s st) (all_sleep s st) due (sym (ap (λ (b : Bool). lead_next_in s st b) none) ∙ e));
       ended = λ is. ap (λ (b : Bool). next_by b (has_stalled es) (all_sleep s st) due) is.done;
       going = λ t lt go is. can_not_done s st t lt go is.done;
       asleep = λ asleep is. sleep_not_done s st asleep is.done;
       goes = λ pointer t most e none.
           let here = picked_is s st pointer t most e in
-          rw (is_false (all_done s st) (can_not_done s st t here.0 here.1), none, is_false (all_sleep s st) (can_not_sleep s st t here.0 here.1)) refl;
+          rw (
+            is_false (all_done s st) (can_not_done s st t here.0 here.1),
+            none,
+            is_false (all_sleep s st)
+                (can_not_sleep s st t here.0 here.1),
+          ) refl;
       waits = λ pointer most e is.
           let open_done = busy_is (all_done s st) (has_stalled es) (all_sleep s st) due is in
           no_both (all_sleep s st) (all_wait s st pointer (begun_along s es) e open_done.0) open_done.1;

@@ -1,6 +1,6 @@
 -- What a legal journal makes and finalises at most, and how many references it can leave to an object.
-use Rattle.std.proofs.Common.{◌≡◌, ℕ, zero, suc, ◌+◌, ◌*◌, ◌<◌, ◌≤◌, Bool, true, false, cond, List, [], ◌∷◌, length, Option, Some, None, eqb, ltb, refl, ap, subst, arith, inl, inr}
-use Rattle.std.proofs.lemmas.Bool.{cases_lt, ltb-true}
+use Rattle.std.proofs.Common.{◌≡◌, ℕ, zero, suc, ◌+◌, ◌*◌, ◌<◌, ◌≤◌, Bool, true, false, List, [], ◌∷◌, length, Option, Some, None, eqb, ltb, refl, ap, subst, arith, inl, inr}
+use Rattle.std.proofs.lemmas.Bool.{ltb-true}
 use Rattle.std.proofs.lemmas.Bool.Decides.{eqb_tells, nat_tests}
 use Rattle.cf_ids.specs.declared.answer.Answer.{Answer}
 use Rattle.cf_syntax.specs.declared.script.Script.{Script}
@@ -17,7 +17,7 @@ use Rattle.cf_model.specs.Known.{facts_of}
 use Rattle.cf_model.specs.Steps.{step_of, frames_at, demanded, step_answer, acted}
 use Rattle.cf_model.specs.Journals.{after_action, state_from, After, owners_of, IsLegalAs, IsLegal}
 use Rattle.cf_model.specs.Flowing.{flow_if, flow_in}
-use Rattle.cf_model.specs.Changes.{apart, changes_from, changes}
+use Rattle.cf_model.specs.Changes.{apart, changes_from}
 use Rattle.cf_model.specs.Bounds.{FewOfLegal, FewReferences}
 use Rattle.cf_model.proofs.Acting.{demand_fits}
 use Rattle.cf_model.proofs.Adding.{entry_adds}
@@ -40,7 +40,11 @@ entry_few s st t _ x (is_tick n) legal few = few
 entry_few s st t _ x is_stall legal few = few
 entry_few s st t a x (is_step _ step) legal few = elim (entry_adds s t st a).objects [
   | inl same ↦ omega (arith, same, few)
-  | inr more ↦ omega (arith, more.1, (step.legal s st (record { thread = t; action = a; answer = x }) legal).room more.0)
+  | inr more ↦ omega (
+    arith,
+    more.1,
+    (step.legal s st (record { thread = t; action = a; answer = x }) legal).room more.0,
+  )
 ]
 
 few_from : (s : Script) (st : State) (es : List Entry) → IsLegalPart s st es → length st.parts.objects ≤ 65536
@@ -108,7 +112,11 @@ length_below : (n : ℕ) (xs : List ℕ) → ((o : ℕ) → 0 < times o xs → o
 length_below n [] h = omega (arith, none_below n)
 length_below n (x ∷ xs) h =
     let own : counted (eqb x x) ≡ 1 = itself x in
-    omega (arith, more_below n x xs (h x (omega (arith, own))), length_below n xs (λ o some. h o (omega (arith, some))))
+    omega (
+      arith,
+      more_below n x xs (h x (omega (arith, own))),
+      length_below n xs (λ o some. h o (omega (arith, some))),
+    )
   where
     itself : (x : ℕ) → counted (eqb x x) ≡ 1
     itself x = grind (arith, nat_tests)
@@ -126,7 +134,11 @@ few_of_legal s es legal =
       once = final_once st balance;
       made = final_made st balance;
       finalised =
-          omega (arith, length_below (length st.parts.objects) st.parts.finalised (final_made st balance), sum_most (length st.parts.objects) st.parts.finalised (final_once st balance));
+          omega (
+            arith,
+            length_below (length st.parts.objects) st.parts.finalised (final_made st balance),
+            sum_most (length st.parts.objects) st.parts.finalised (final_once st balance),
+          );
     }
 
 -- ---- references
@@ -139,14 +151,19 @@ flow_most : (o : ℕ) (f : Flow) → gains o f ≤ 1025 → gains o f + cuts o f
 flow_most o (grows ins ms) h = omega (arith, h)
 flow_most o (shrinks r) h = omega (arith, one_most (eqb r.object o))
 
-changes_most : (s : Script) (st : State) (o : ℕ) (es : List Entry) → length s.modes ≤ 1024 → IsSteady st → IsLegalPart s st es
+changes_most : (s : Script) (st : State) (o : ℕ) (es : List Entry) → length s.modes ≤ 1024 → IsSteady st
+    → IsLegalPart s st es
     → changes_from s st o es ≤ 1025 * length es
 changes_most s st o [] modes h legal = omega arith
 changes_most s st o (e ∷ es) modes h legal =
     let next = after_action s e.thread st e.action in
     let flow = flow_in s e.thread st e.action in
     let tells = entry_tells s st e.thread e.action e.answer h (action_view e.action) legal.0 in
-    let one : apart (degree o st.edges) (degree o next.edges) ≤ 1025 = omega (arith, tells.changed o, flow_most o flow (few_gained s st e.thread e.action o modes)) in
+    let one : apart (degree o st.edges) (degree o next.edges) ≤ 1025 = omega (
+      arith,
+      tells.changed o,
+      flow_most o flow (few_gained s st e.thread e.action o modes),
+    ) in
     omega (arith, one, changes_most s next o es modes (legal_keeps s st e h legal.0).steady legal.1)
 
 -- the same of every list of entries of an owned script
@@ -177,14 +194,20 @@ module _ (c : Script) (own : FitsByBlock c) (modes : length c.modes ≤ 1024) wh
   owned_most st o [] h = omega arith
   owned_most st o (e ∷ es) h =
       let next = after_action c e.thread st e.action in
-      omega (arith, entry_most e.thread st e.action o h, owned_most next o es (entry_sound c e.thread st e.action own h))
+      omega (
+        arith,
+        entry_most e.thread st e.action o h,
+        owned_most next o es (entry_sound c e.thread st e.action own h),
+      )
 
 pub few_references : (s : Script) (es : List Entry) (o : ℕ) → IsLegal s es → FewReferences s es o
 few_references s es o legal =
-    let most = λ (modes : length s.modes ≤ 1024). changes_most s (start s) o es modes (start_steady s) (part_of_legal s (start s) es legal) in
+    let most = λ (modes : length s.modes ≤ 1024). changes_most s (start s) o es modes (start_steady s)
+    (part_of_legal s (start s) es legal) in
     record { moves = most; references = λ modes. omega (arith, references_most s es o, most modes) }
 
 pub few_of_owned : (s : Script) (es : List Entry) (o : ℕ) → Owned s → FewReferences s es o
 few_of_owned s es o own =
-    let most = λ (modes : length s.modes ≤ 1024). owned_most s (owned_fits s own) modes (start s) o es (start_sound s) in
+    let most = λ (modes : length s.modes ≤ 1024). owned_most s (owned_fits s own) modes (start s) o es
+    (start_sound s) in
     record { moves = most; references = λ modes. omega (arith, references_most s es o, most modes) }

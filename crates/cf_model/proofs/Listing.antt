@@ -1,5 +1,5 @@
 -- The list of objects to which an entry adds references, and how long it is at most.
-use Rattle.std.proofs.Common.{◌≡◌, ℕ, ◌+◌, ◌≤◌, Bool, true, false, cond, List, [], ◌∷◌, ◌++◌, length, map, Option, Some, None, eqb, refl, ap, subst, arith, length-append}
+use Rattle.std.proofs.Common.{◌≡◌, ℕ, ◌+◌, ◌≤◌, Bool, true, false, cond, List, [], ◌∷◌, ◌++◌, length, map, Option, Some, None, refl, ap, subst, arith, length-append}
 use Rattle.std.specs.Prelude.{slice_get, not, ◌&&◌, filter}
 use Rattle.std.proofs.lemmas.List.{length-map}
 use Rattle.std.proofs.lemmas.List.FromFn.{length-range_with_len}
@@ -24,7 +24,7 @@ use Rattle.cf_contents.proofs.SlotLaws.{MakesEmpty, named_in}
 use Rattle.cf_contents.proofs.FormLaws.{form_fits}
 use Rattle.cf_contents.proofs.Sizes.{taken_few}
 use Rattle.cf_graph.specs.Holders.{Holder, variable, callout, owed, parcel, slot, in_mode, in_common}
-use Rattle.cf_graph.specs.Edges.{Reference, held_by, held_if, counted, degree, has}
+use Rattle.cf_graph.specs.Edges.{Reference, held_by, held_if, degree, has}
 use Rattle.cf_graph.specs.Flows.{Flow, grows, shrinks, gained_by, gains}
 use Rattle.cf_next.specs.declared.action.Action.{Action}
 use Rattle.cf_next.specs.Stands.{item_of, Kind, of_block, of_handler, of_run, Frame, has_run}
@@ -58,7 +58,8 @@ filter_most : {A : Type 0} (p : A → Bool) (xs : List A) → length (filter p x
 filter_most p [] = omega arith
 filter_most p (x ∷ xs) = by (p x) (filter_most p xs)
   where
-    by : (b : Bool) → length (filter p xs) ≤ length xs → length (cond b (x ∷ filter p xs) (filter p xs)) ≤ length (x ∷ xs)
+    by : (b : Bool) → length (filter p xs) ≤ length xs
+        → length (cond b (x ∷ filter p xs) (filter p xs)) ≤ length (x ∷ xs)
     by true h = omega (arith, h)
     by false h = omega (arith, h)
 
@@ -74,22 +75,39 @@ items_length : (h : Holder) (xs : List ℕ) → length (map (held_by h) xs) ≡ 
 items_length h [] = refl
 items_length h (x ∷ xs) = omega (arith, items_length h xs)
 
-added_length : (s : Script) (u i : ℕ) (st : State) (p : Place) → length (held_at u i (places_added s u i st p)) ≤ length s.modes + 1
+added_length : (s : Script) (u i : ℕ) (st : State) (p : Place)
+    → length (held_at u i (places_added s u i st p)) ≤ length s.modes + 1
 added_length s u i st Common =
     let cm = common_modes s u st.parts in
     let few : length cm ≤ length (modes_of s) = filter_most (is_common u st.parts.commons) (modes_of s) in
     let modes : length (modes_of s) ≡ length s.modes = length-range_with_len 0 (length s.modes) in
-    omega (arith, held_length u i (places_entered (holds_at u i st.edges) cm), filter_most (λ p. not (holds_at u i st.edges p)) (places cm), modes_length cm, few, modes)
+    omega (
+      arith,
+      held_length u i (places_entered (holds_at u i st.edges) cm),
+      filter_most (λ p. not (holds_at u i st.edges p)) (places cm),
+      modes_length cm,
+      few,
+      modes,
+    )
 added_length s u i st (Mode m) = omega (arith, held_length u i (Mode m ∷ []))
 
 gained_length : (u m : ℕ) (st : State)
-    → length (map (held_by (in_mode u m)) (items_gained (λ i. has (in_mode u m) i st.edges) (common_items st u))) ≤ length st.parts.objects
+    → length (map (held_by (in_mode u m)) (items_gained (λ i. has (in_mode u m) i st.edges) (common_items st u)))
+    ≤ length st.parts.objects
 gained_length u m st =
     let items = common_items st u in
-    let all : length (objects_of st.parts) ≡ length st.parts.objects = length-range_with_len 0 (length st.parts.objects) in
-    omega (arith, items_length (in_mode u m) (items_gained (λ i. has (in_mode u m) i st.edges) items), filter_most (λ i. not (has (in_mode u m) i st.edges)) items, filter_most (λ i. has (in_common u) i st.edges) (objects_of st.parts), all)
+    let all : length (objects_of st.parts) ≡ length st.parts.objects = length-range_with_len 0
+    (length st.parts.objects) in
+    omega (
+      arith,
+      items_length (in_mode u m) (items_gained (λ i. has (in_mode u m) i st.edges) items),
+      filter_most (λ i. not (has (in_mode u m) i st.edges)) items,
+      filter_most (λ i. has (in_common u) i st.edges) (objects_of st.parts),
+      all,
+    )
 
-named_few : (answer : Answer) (change : Change) → length (named_in change) ≤ 2 → length (named_in (change_unless_skipped answer change)) ≤ 2
+named_few : (answer : Answer) (change : Change) → length (named_in change) ≤ 2
+    → length (named_in (change_unless_skipped answer change)) ≤ 2
 named_few answers.Skip change few = omega arith
 named_few _ change few = few
 
@@ -106,7 +124,8 @@ module _ (s : Script) (t : ℕ) (st : State) where
   few_used None deal h = omega arith
   few_used (Some i) deal h = h i
 
-  few_thing : (used : Option ℕ) (deal : ℕ → Thing → Deal) → ((i : ℕ) (x : Thing) → Few (deal i x)) → Few (with_thing st.parts used deal)
+  few_thing : (used : Option ℕ) (deal : ℕ → Thing → Deal) → ((i : ℕ) (x : Thing) → Few (deal i x))
+      → Few (with_thing st.parts used deal)
   few_thing None deal h = omega arith
   few_thing (Some i) deal h = by (thing_at st.parts i)
     where
@@ -114,7 +133,8 @@ module _ (s : Script) (t : ℕ) (st : State) where
       by None = omega arith
       by (Some x) = h i x
 
-  few_filter : (v object : Option ℕ) (deal : Option ℕ → Deal) → ((q : Option ℕ) → Few (deal q)) → Few (with_filter st.parts v object deal)
+  few_filter : (v object : Option ℕ) (deal : Option ℕ → Deal) → ((q : Option ℕ) → Few (deal q))
+      → Few (with_filter st.parts v object deal)
   few_filter None object deal h = h None
   few_filter (Some v) object deal h = few_used object (λ q. deal (Some q)) (λ q. h (Some q))
 
@@ -132,7 +152,8 @@ module _ (s : Script) (t : ℕ) (st : State) where
       few_either x.valid (leaving (with_item st.parts i false x.item) (present_of (every_place s i st.edges) st.edges))
       (answering st.parts answers.Invalid) (omega arith) (omega arith)
 
-  few_change : (answer : Answer) (b : Option ℕ) (change : Change) → length (named_in change) ≤ 2 → Few (change_deal st.parts answer b change)
+  few_change : (answer : Answer) (b : Option ℕ) (change : Change) → length (named_in change) ≤ 2
+      → Few (change_deal st.parts answer b change)
   few_change answer None change few = omega arith
   few_change answer (Some b) change few =
       let ob = slice_get st.parts.objects b in
@@ -141,9 +162,11 @@ module _ (s : Script) (t : ℕ) (st : State) where
   few_add : (u : ℕ) (p : Place) (i : ℕ) (x : Thing) → Few (add_deal s st u p i x)
   few_add u p i x =
       few_either (not x.valid) (answering st.parts answers.Invalid) _ (omega arith)
-      (few_either (stays_in_one (kind_of x.item) && is_elsewhere s u i st.edges) (answering st.parts answers.Elsewhere) _ (omega arith)
+      (few_either (stays_in_one (kind_of x.item) && is_elsewhere s u i st.edges)
+      (answering st.parts answers.Elsewhere) _ (omega arith)
       (few_either (holds_at u i st.edges p) (answering st.parts answers.Present)
-      (entering st.parts (held_at u i (places_added s u i st p))) (omega arith) (omega (arith, added_length s u i st p))))
+      (entering st.parts (held_at u i (places_added s u i st p))) (omega arith)
+      (omega (arith, added_length s u i st p))))
 
   few_drop : (u : ℕ) (p : Place) (i : ℕ) → Few (drop_deal s st u p i)
   few_drop u p i =
@@ -189,7 +212,8 @@ module _ (s : Script) (t : ℕ) (st : State) where
   few_deal (forms.Post name info) used = omega arith
   few_deal x used =
       let deed = deed_at s.classes st.parts.objects x used in
-      let fits = form_fits s.classes x (numbered st.parts.objects (used_at used 0)) (numbered st.parts.objects (used_at used 1)) (numbered st.parts.objects (used_at used 2)) in
+      let fits = form_fits s.classes x (numbered st.parts.objects (used_at used 0))
+      (numbered st.parts.objects (used_at used 1)) (numbered st.parts.objects (used_at used 2)) in
       few_change deed.answer (first_of used) (change_unless_skipped deed.answer deed.change)
       (named_few deed.answer deed.change fits.used.few)
 
@@ -205,7 +229,8 @@ module _ (s : Script) (t : ℕ) (st : State) where
   if_few h None = omega arith
   if_few h (Some x) = omega arith
 
-  bind_few : (h : Holder) (answer : Answer) (origin : Origin) → ((ob : Object) → origin ≡ fresh ob → length (slots_in ob.content) ≤ 1)
+  bind_few : (h : Holder) (answer : Answer) (origin : Origin)
+      → ((ob : Object) → origin ≡ fresh ob → length (slots_in ob.content) ≤ 1)
       → FewBy (bind_step h st.parts (record { answer = answer; origin = origin })).flow
   bind_few h answer nowhere few = omega arith
   bind_few h answer (fresh ob) few =
@@ -223,14 +248,21 @@ module _ (s : Script) (t : ℕ) (st : State) where
   object_is : (a b : Object) → fresh a ≡ fresh b → a ≡ b
   object_is a b e = cc
 
-  bound_few : (h : Holder) (x : Statement) (used : List (Option ℕ)) (made : Option Made) → FewBy (bind_step h st.parts (bound_if s st.parts x used made)).flow
+  bound_few : (h : Holder) (x : Statement) (used : List (Option ℕ)) (made : Option Made)
+      → FewBy (bind_step h st.parts (bound_if s st.parts x used made)).flow
   bound_few h x used (Some m) =
-      let made : Object = record { class = class_of m.item; content = item_content m.handler (first_of used) true m.item } in
+      let made : Object = record {
+        class = class_of m.item;
+        content = item_content m.handler
+            (first_of used) true m.item;
+      } in
       bind_few h answers.Skip (fresh made)
-      (λ ob e. subst (λ (b : Object). length (slots_in b.content) ≤ 1) (object_is made ob e) (info_few (first_of used)))
+      (λ ob e. subst (λ (b : Object). length (slots_in b.content) ≤ 1) (object_is made ob e)
+      (info_few (first_of used)))
   bound_few h x used None =
       let deed = deed_at s.classes st.parts.objects x used in
-      let fits = form_fits s.classes x (numbered st.parts.objects (used_at used 0)) (numbered st.parts.objects (used_at used 1)) (numbered st.parts.objects (used_at used 2)) in
+      let fits = form_fits s.classes x (numbered st.parts.objects (used_at used 0))
+      (numbered st.parts.objects (used_at used 1)) (numbered st.parts.objects (used_at used 2)) in
       bind_few h deed.answer deed.origin
       (λ ob e.
       let none : slots_in ob.content ≡ [] = subst MakesEmpty e fits.makes in
@@ -241,8 +273,13 @@ module _ (s : Script) (t : ℕ) (st : State) where
   cut_few None = omega arith
   cut_few (Some r) = omega arith
 
-  statement_few : (d : ℕ) (x : Statement) (used : List (Option ℕ)) (ownership : Ownership) → FewBy (statement_step s t d st x used ownership).flow
-  statement_few d x used Keeps = let deal = deal_of s t st x used in omega (arith, entered deal.enters, few_deal x used)
+  statement_few : (d : ℕ) (x : Statement) (used : List (Option ℕ)) (ownership : Ownership)
+      → FewBy (statement_step s t d st x used ownership).flow
+  statement_few d x used Keeps = let deal = deal_of s t st x used in omega (
+    arith,
+    entered deal.enters,
+    few_deal x used,
+  )
   statement_few d x used (Binds v) = bound_few (variable t d v) x used (item_made x)
   statement_few d x used (Retains v) = by (first_of used)
     where
@@ -271,7 +308,13 @@ module _ (s : Script) (t : ℕ) (st : State) where
 
   phase_few : (p : Phase) (k : Kind) → FewBy (phase_step st t p k).flow
   phase_few p k =
-      phase_case (λ (x : Step). FewBy x.flow) st t p k (record { woken = omega arith; due = omega arith; sleeps = λ d. omega arith; tests = λ r. omega arith; collects = λ l. omega arith })
+      phase_case (λ (x : Step). FewBy x.flow) st t p k (record {
+        woken = omega arith;
+        due = omega arith;
+        sleeps = λ d. omega arith;
+        tests = λ r. omega arith;
+        collects = λ l. omega arith;
+      })
 
   close_few : (k : Kind) → FewBy (close_step st k).flow
   close_few of_block = omega arith
@@ -280,7 +323,8 @@ module _ (s : Script) (t : ℕ) (st : State) where
 
   spend_few : (i : ℕ) (x : Option Thing) → Few (spend_if s st i x)
   spend_few i None = omega arith
-  spend_few i (Some x) = few_either x.valid (invalidate_deal s st i x) (okay st.parts) (few_invalidate i x) (omega arith)
+  spend_few i (Some x) =
+      few_either x.valid (invalidate_deal s st i x) (okay st.parts) (few_invalidate i x) (omega arith)
 
   demand_few : (fs : List Frame) (d : Demand) → FewBy (step_of s t st fs d).flow
   demand_few fs (does x) = line_few fs x
@@ -288,12 +332,22 @@ module _ (s : Script) (t : ℕ) (st : State) where
   demand_few fs returns = omega arith
   demand_few fs (owes p) = cut_few (own_reference t (owed t) p st.edges)
   demand_few fs (spends i) =
-      let deal = spend_if s st i (thing_at st.parts i) in omega (arith, entered deal.enters, spend_few i (thing_at st.parts i))
+      let deal = spend_if s st i (thing_at st.parts i) in omega (
+        arith,
+        entered deal.enters,
+        spend_few i (thing_at st.parts i),
+      )
   demand_few fs (drops b k p) = omega arith
   demand_few fs (calls k c) =
       let info = held_if (variable t (length fs) 0) c.info in
       let item = held_if (callout t (length fs)) (item_of k) in
-      omega (arith, entered (info ++ item), length-append info item, if_few (variable t (length fs) 0) c.info, if_few (callout t (length fs)) (item_of k))
+      omega (
+        arith,
+        entered (info ++ item),
+        length-append info item,
+        if_few (variable t (length fs) 0) c.info,
+        if_few (callout t (length fs)) (item_of k),
+      )
   demand_few fs (enters p) = phase_few p (top_kind fs)
   demand_few fs closes = close_few (top_kind fs)
 

@@ -1,16 +1,15 @@
 -- How many stands and flags there are: one of each thread. A thread that is started stays so.
-use Rattle.std.proofs.Common.{◌≡◌, ℕ, zero, suc, ◌+◌, ◌-◌, ◌<◌, ◌≤◌, ◌⊎◌, Bool, true, false, cond, List, [], ◌∷◌, ◌++◌, length, map, take, Option, Some, None, ltb, refl, sym, ap, ◌∙◌, subst, arith, inl, inr, ◌==◌}
+use Rattle.std.proofs.Common.{◌≡◌, ℕ, zero, suc, ◌+◌, ◌-◌, ◌<◌, ◌≤◌, Bool, true, false, cond, List, [], ◌∷◌, ◌++◌, length, map, take, Option, Some, None, ltb, refl, sym, ap, ◌∙◌, subst, arith, inl, inr, ◌==◌}
 use Rattle.std.specs.Prelude.{not, ◌&&◌, slice_get, find}
 use Rattle.std.specs.List.{range_with_len}
 use Rattle.std.proofs.lemmas.Bool.{cases_lt, ltb-true}
-use Rattle.std.proofs.lemmas.Bool.Decides.{eqb_tells, nat_tests}
+use Rattle.std.proofs.lemmas.Bool.Decides.{eqb_tells}
 use Rattle.std.proofs.lemmas.List.{length-map}
 use Rattle.std.proofs.lemmas.List.FromFn.{length-map-range_with_len}
 use Rattle.cf_ids.specs.declared.answer.Answer.{Answer}
 use Rattle.cf_ids.specs.declared.answer.Answer.TheVariants as answers
 use Rattle.rl_base.specs.declared.places.Place.{Place}
 use Rattle.rl_base.specs.Modes.{items_gained}
-use Rattle.rl_turn.specs.declared.phases.Phase.{Phase}
 use Rattle.cf_syntax.specs.declared.script.Script.{Script}
 use Rattle.cf_syntax.specs.declared.statement.Statement.{Statement}
 use Rattle.cf_syntax.specs.declared.statement.Statement.TheVariants as forms
@@ -21,11 +20,11 @@ use Rattle.cf_syntax.specs.declared.mention.ThreadWord.TheVariants.{Own, Named}
 use Rattle.cf_syntax.specs.declared.refusal.Reason.TheVariants.{Undefined}
 use Rattle.cf_syntax.specs.Mentions.{ownership_of, used_at, first_of, thread_mention}
 use Rattle.cf_syntax.specs.BlockLines.{BlockLine, begins, claims, says, packs}
-use Rattle.cf_syntax.specs.Owned.{FitsByBlock, Owned, or_else, place_fault, thread_fault, line_fault}
+use Rattle.cf_syntax.specs.Owned.{FitsByBlock, or_else, place_fault, thread_fault, line_fault}
 use Rattle.cf_syntax.proofs.BlockLaws.{none_first, owned_fits}
 use Rattle.cf_contents.specs.Items.{Item, source_item, kind_of}
 use Rattle.cf_contents.specs.Deeds.{Change, deed_at}
-use Rattle.cf_graph.specs.Holders.{Holder, variable, parcel, in_mode}
+use Rattle.cf_graph.specs.Holders.{variable, parcel, in_mode}
 use Rattle.cf_graph.specs.Edges.{held_by, has}
 use Rattle.cf_next.specs.declared.action.Action.{Action}
 use Rattle.cf_next.specs.declared.action.Action.TheVariants as actions
@@ -34,16 +33,15 @@ use Rattle.cf_next.specs.Demands.{Demand, does, ends, returns, owes, spends, dro
 use Rattle.cf_next.specs.Advance.{top_kind}
 use Rattle.cf_next.specs.Next.{object_at, used_objects}
 use Rattle.cf_model.specs.declared.entry.Entry.{Entry}
-use Rattle.cf_model.specs.State.{Flags, Sleeping, awake, until, Parts, State, start, at_or, with_at, blank, stand_at, with_stand, flags_of, flags_at, with_flags, threads_of, is_common, first_held}
+use Rattle.cf_model.specs.State.{Flags, Sleeping, awake, until, Parts, State, start, at_or, with_at, blank, stand_at, with_stand, flags_of, flags_at, with_flags, is_common, first_held}
 use Rattle.cf_model.specs.Known.{facts_of}
 use Rattle.cf_model.specs.Things.{Thing, thing_at}
 use Rattle.cf_model.specs.Own.{present_of}
 use Rattle.cf_model.specs.Deals.{Deal, answering, okay, with_used, thing_deal, with_thing, with_filter, change_unless_skipped, change_deal, with_item, thread_in, place_in, holds_at, held_at, stays_in_one, is_elsewhere, places_added, places_dropped, entering, leaving, add_deal, drop_deal, common_items, common_deal, signal_deal, every_place, invalidate_deal, woken_by, wake_flags, wake_parts, stop_deal, observe_deal, forget_deal, deal_of}
-use Rattle.cf_model.specs.Steps.{Step, retain_step, release_step, statement_step, claim_step, pack_step, packed_holder, start_all, spend_if, fired, fire, fire_if, phase_step, close_step, with_sleep, bindings_of, depth_of, step_of, frames_at, demanded, stand_after, stopped_at, acted, done_by}
-use Rattle.cf_model.specs.Journals.{can_go, after_action, state_from, After, wake_at, tick_flags}
+use Rattle.cf_model.specs.Steps.{Step, retain_step, release_step, statement_step, claim_step, pack_step, packed_holder, start_all, spend_if, fire, fire_if, close_step, with_sleep, bindings_of, depth_of, step_of, frames_at, demanded, stand_after, stopped_at, acted, done_by}
+use Rattle.cf_model.specs.Journals.{can_go, after_action, state_from, After, tick_flags}
 use Rattle.cf_model.specs.Serial.{round, picked, moved_by, pointer_after, pointer_of}
 use Rattle.cf_model.specs.Bounds.{NumbersOfLists}
-use Rattle.cf_model.proofs.Entries.{ActionView, is_tick, is_stall, is_step, action_view}
 use Rattle.cf_model.proofs.FrameOrder.{fit_at, block_fits}
 use Rattle.cf_model.proofs.Phases.{phase_case}
 use Rattle.cf_model.proofs.Tokens.{at_own, at_other}
@@ -155,11 +153,13 @@ module _ (may : Type 0) (st : State) where
   fits_answer : (a : Answer) → Fits (answering st.parts a)
   fits_answer a = quiet may st st.parts refl
 
-  fits_used : (used : Option ℕ) (deal : ℕ → Deal) → ((i : ℕ) → used ≡ Some i → Fits (deal i)) → Fits (with_used st.parts used deal)
+  fits_used : (used : Option ℕ) (deal : ℕ → Deal) → ((i : ℕ) → used ≡ Some i → Fits (deal i))
+      → Fits (with_used st.parts used deal)
   fits_used None deal h = fits_answer answers.Skip
   fits_used (Some i) deal h = h i refl
 
-  fits_thing : (used : Option ℕ) (deal : ℕ → Thing → Deal) → ((i : ℕ) (x : Thing) → Fits (deal i x)) → Fits (with_thing st.parts used deal)
+  fits_thing : (used : Option ℕ) (deal : ℕ → Thing → Deal) → ((i : ℕ) (x : Thing) → Fits (deal i x))
+      → Fits (with_thing st.parts used deal)
   fits_thing None deal h = fits_answer answers.Skip
   fits_thing (Some i) deal h = by (thing_at st.parts i)
     where
@@ -167,7 +167,8 @@ module _ (may : Type 0) (st : State) where
       by None = fits_answer answers.Skip
       by (Some x) = h i x
 
-  fits_filter : (v object : Option ℕ) (deal : Option ℕ → Deal) → ((q : Option ℕ) → Fits (deal q)) → Fits (with_filter st.parts v object deal)
+  fits_filter : (v object : Option ℕ) (deal : Option ℕ → Deal) → ((q : Option ℕ) → Fits (deal q))
+      → Fits (with_filter st.parts v object deal)
   fits_filter None object deal h = h None
   fits_filter (Some v) object deal h = fits_used object (λ q. deal (Some q)) (λ q e. h (Some q))
 
@@ -182,7 +183,8 @@ module _ (may : Type 0) (st : State) where
 
   fits_invalidate : (s : Script) (i : ℕ) (x : Thing) → Fits (invalidate_deal s st i x)
   fits_invalidate s i x =
-      fits_either x.valid (leaving (with_item st.parts i false x.item) (present_of (every_place s i st.edges) st.edges))
+      fits_either x.valid
+      (leaving (with_item st.parts i false x.item) (present_of (every_place s i st.edges) st.edges))
       (answering st.parts answers.Invalid) (quiet may st _ refl) (fits_answer answers.Invalid)
 
   fits_change : (answer : Answer) (b : Option ℕ) (change : Change) → Fits (change_deal st.parts answer b change)
@@ -206,10 +208,12 @@ module _ (may : Type 0) (st : State) where
     fits_add : (u : ℕ) (p : Place) (i : ℕ) (x : Thing) → Fits (add_deal s st u p i x)
     fits_add u p i x =
         fits_either (not x.valid) (answering st.parts answers.Invalid) _ (fits_answer answers.Invalid)
-        (fits_either (stays_in_one (kind_of x.item) && is_elsewhere s u i st.edges) (answering st.parts answers.Elsewhere) _
+        (fits_either (stays_in_one (kind_of x.item) && is_elsewhere s u i st.edges)
+        (answering st.parts answers.Elsewhere) _
         (fits_answer answers.Elsewhere)
         (fits_either (holds_at u i st.edges p) (answering st.parts answers.Present)
-        (entering st.parts (held_at u i (places_added s u i st p))) (fits_answer answers.Present) (quiet may st _ refl)))
+        (entering st.parts (held_at u i (places_added s u i st p))) (fits_answer answers.Present)
+        (quiet may st _ refl)))
 
     fits_drop : (u : ℕ) (p : Place) (i : ℕ) → Fits (drop_deal s st u p i)
     fits_drop u p i =
@@ -234,7 +238,8 @@ module _ (may : Type 0) (st : State) where
     fits_deal (forms.Drop v u m) used there =
         fits_thing (first_of used) (λ i x. with_used st.parts (thread_in t u) (λ w. drop_deal s st w (place_in m) i))
         (λ i x. fits_used (thread_in t u) (λ w. drop_deal s st w (place_in m) i) (λ w e. fits_drop w (place_in m) i))
-    fits_deal (forms.Common u m) used there = fits_used (thread_in t u) (λ w. common_deal st w m) (λ w e. fits_common w m)
+    fits_deal (forms.Common u m) used there =
+        fits_used (thread_in t u) (λ w. common_deal st w m) (λ w e. fits_common w m)
     fits_deal (forms.Signal v) used there =
         fits_thing (first_of used) (λ i x. signal_deal st.parts i x.valid x.item) (λ i x. fits_signal i x.valid x.item)
     fits_deal (forms.Invalidate v) used there =
@@ -242,7 +247,8 @@ module _ (may : Type 0) (st : State) where
     fits_deal (forms.Wake u) used there =
         fits_used (thread_in t u) (λ w. okay (wake_parts st.parts w))
         (λ w e. record { flags = wakes w (λ m. there m w e); stops = tt })
-    fits_deal (forms.Stop u) used there = fits_used (thread_in t u) (stop_deal st) (λ w e. fits_stop w (λ m. there m w e))
+    fits_deal (forms.Stop u) used there =
+        fits_used (thread_in t u) (stop_deal st) (λ w e. fits_stop w (λ m. there m w e))
     fits_deal (forms.Run m limit once) used there = quiet may st _ refl
     fits_deal (forms.Observe v k name x) used there =
         fits_used (first_of used) (λ q. with_filter st.parts x (used_at used 1) (observe_deal st.parts k name q))
@@ -283,12 +289,14 @@ module _ (s : Script) (t : ℕ) (st : State) where
   reach_line fs (begins v) = quiet (MayWake t st (begins v)) st _ refl
   reach_line fs (claims k v) = by (first_held (parcel t k) st.edges)
     where
-      by : (q : Option ℕ) → ReachesBy (MayWake t st (claims k v)) (claim_step st (parcel t k) q (variable t (depth_of fs) v))
+      by : (q : Option ℕ)
+          → ReachesBy (MayWake t st (claims k v)) (claim_step st (parcel t k) q (variable t (depth_of fs) v))
       by None = quiet (MayWake t st (claims k v)) st _ refl
       by (Some o) = quiet (MayWake t st (claims k v)) st _ refl
   reach_line fs (packs u k v) = by (object_at (bindings_of fs) v)
     where
-      by : (q : Option ℕ) → ReachesBy (MayWake t st (packs u k v)) (pack_step t st (packed_holder t (depth_of fs) v) q (parcel u k))
+      by : (q : Option ℕ)
+          → ReachesBy (MayWake t st (packs u k v)) (pack_step t st (packed_holder t (depth_of fs) v) q (parcel u k))
       by None = quiet (MayWake t st (packs u k v)) st _ refl
       by (Some o) = quiet (MayWake t st (packs u k v)) st _ refl
   reach_line fs (says x) = reach_statement (depth_of fs) x (used_objects (bindings_of fs) (says x)) (ownership_of x)
@@ -296,7 +304,8 @@ module _ (s : Script) (t : ℕ) (st : State) where
   abbrev Here : Type 0
   Here = t < length st.parts.flags
 
-  reach_end : (b : Bool) → Reaches Here st (cond b (record st.parts { flags = start_all st.parts.flags }) st.parts) None
+  reach_end : (b : Bool)
+      → Reaches Here st (cond b (record st.parts { flags = start_all st.parts.flags }) st.parts) None
   reach_end false = quiet Here st _ refl
   reach_end true = record {
     flags = record {
@@ -310,7 +319,8 @@ module _ (s : Script) (t : ℕ) (st : State) where
   reach_spend : (i : ℕ) (x : Option Thing) → Fits Here st (spend_if s st i x)
   reach_spend i None = quiet Here st _ refl
   reach_spend i (Some x) =
-      fits_either Here st x.valid (invalidate_deal s st i x) (okay st.parts) (fits_invalidate Here st s i x) (quiet Here st _ refl)
+      fits_either Here st x.valid (invalidate_deal s st i x) (okay st.parts) (fits_invalidate Here st s i x)
+      (quiet Here st _ refl)
 
   reach_fire : (item : Option ℕ) → Reaches Here st (fire_if st.parts item) None
   reach_fire None = quiet Here st _ refl
@@ -348,7 +358,8 @@ module _ (s : Script) (t : ℕ) (st : State) where
 
 -- ---- stands
 
-none_demanded : (s : Script) (st : State) (t : ℕ) (d : Demand) → demanded s st t ≡ Some d → stand_at t st.stands ≡ blank → ⊥
+none_demanded : (s : Script) (st : State) (t : ℕ) (d : Demand) → demanded s st t ≡ Some d
+    → stand_at t st.stands ≡ blank → ⊥
 none_demanded s st t d e q = none (ap (demand s (facts_of st) t) (sym q) ∙ e)
   where
     none : ◌≡◌ {A = Option Demand} None (Some d) → ⊥
@@ -357,29 +368,36 @@ none_demanded s st t d e q = none (ap (demand s (facts_of st) t) (sym q) ∙ e)
 pub demander_there : (s : Script) (st : State) (t : ℕ) (d : Demand) → demanded s st t ≡ Some d → t < length st.stands
 demander_there s st t d e = acts_there t st.stands (none_demanded s st t d e)
 
-stopped_length : (stops : Option ℕ) (ss : List Stand) → StopsIn (length ss) stops → length (stopped_at stops ss) ≡ length ss
+stopped_length : (stops : Option ℕ) (ss : List Stand) → StopsIn (length ss) stops
+    → length (stopped_at stops ss) ≡ length ss
 stopped_length None ss h = refl
 stopped_length (Some u) ss h = length-with_at blank u (stop_stand (stand_at u ss)) ss h
 
-done_length : (s : Script) (t : ℕ) (st : State) (d : Demand) → demanded s st t ≡ Some d → length (done_by s t st d).stands ≡ length st.stands
+done_length : (s : Script) (t : ℕ) (st : State) (d : Demand) → demanded s st t ≡ Some d
+    → length (done_by s t st d).stands ≡ length st.stands
 done_length s t st d e =
     let step = step_of s t st (frames_at t st) d in
     let new = stand_after t d step st in
-    let moved : length (with_stand t new st.stands) ≡ length st.stands = length-with_at blank t new st.stands (demander_there s st t d e) in
-    stopped_length step.stops (with_stand t new st.stands) (subst (λ (n : ℕ). StopsIn n step.stops) (sym moved) (reach_demand s t st (frames_at t st) d).stops) ∙ moved
+    let moved : length (with_stand t new st.stands) ≡ length st.stands = length-with_at blank t new st.stands
+    (demander_there s st t d e) in
+    stopped_length step.stops (with_stand t new st.stands)
+    (subst (λ (n : ℕ). StopsIn n step.stops) (sym moved) (reach_demand s t st (frames_at t st) d).stops) ∙ moved
 
-acted_length : (s : Script) (t : ℕ) (st : State) (d : Option Demand) → demanded s st t ≡ d → length (acted s t st d).stands ≡ length st.stands
+acted_length : (s : Script) (t : ℕ) (st : State) (d : Option Demand) → demanded s st t ≡ d
+    → length (acted s t st d).stands ≡ length st.stands
 acted_length s t st None e = refl
 acted_length s t st (Some d) e = done_length s t st d e
 
-pub stands_length : (s : Script) (t : ℕ) (st : State) (a : Action) → length (after_action s t st a).stands ≡ length st.stands
+pub stands_length : (s : Script) (t : ℕ) (st : State) (a : Action)
+    → length (after_action s t st a).stands ≡ length st.stands
 stands_length s t st (actions.Tick n) = refl
 stands_length s t st actions.Stall = refl
 stands_length s t st a = acted_length s t st (demanded s st t) refl
 
 stands_from : (s : Script) (st : State) (es : List Entry) → length (state_from s st es).stands ≡ length st.stands
 stands_from s st [] = refl
-stands_from s st (e ∷ es) = stands_from s (after_action s e.thread st e.action) es ∙ stands_length s e.thread st e.action
+stands_from s st (e ∷ es) =
+    stands_from s (after_action s e.thread st e.action) es ∙ stands_length s e.thread st e.action
 
 pub stands_of_threads : (s : Script) (es : List Entry) → length (After s es).stands ≡ s.thread_count
 stands_of_threads s es = stands_from s (start s) es ∙ length-map-range_with_len opening_stand 0 s.thread_count
@@ -406,11 +424,13 @@ module _ (s : Script) (earlier : List BlockLine) (t : ℕ) (here : t < s.thread_
   line_there (says (forms.Stop u)) h w e = named_there u w h e
   line_there x h w e = absurd cc
 
-module _ (c : Script) (t : ℕ) (st : State) (own : FitsByBlock c) (flags : length st.parts.flags ≡ c.thread_count) (here : t < c.thread_count) where
+module _ (c : Script) (t : ℕ) (st : State) (own : FitsByBlock c) (flags : length st.parts.flags ≡ c.thread_count)
+    (here : t < c.thread_count) where
   has_flags : t < length st.parts.flags
   has_flags = omega (arith, flags, here)
 
-  line_reaches : (f : Frame) (x : BlockLine) → slice_get (frame_lines c f.kind f.block) f.number ≡ Some x → MayWake t st x
+  line_reaches : (f : Frame) (x : BlockLine) → slice_get (frame_lines c f.kind f.block) f.number ≡ Some x
+      → MayWake t st x
   line_reaches f x at w e =
       let lines = frame_lines c f.kind f.block in
       let fit = fit_at c [] lines f.number x (block_fits c f.kind f.block own) at in
@@ -437,7 +457,8 @@ pub record AreNumbered (c : Script) (st : State) : Type 0 where
   pub flags : length st.parts.flags ≡ c.thread_count
   pub stands : length st.stands ≡ c.thread_count
 
-acted_flags : (c : Script) (t : ℕ) (st : State) (d : Option Demand) → FitsByBlock c → AreNumbered c st → demanded c st t ≡ d
+acted_flags : (c : Script) (t : ℕ) (st : State) (d : Option Demand) → FitsByBlock c → AreNumbered c st
+    → demanded c st t ≡ d
     → length (acted c t st d).parts.flags ≡ c.thread_count
 acted_flags c t st None own h e = h.flags
 acted_flags c t st (Some d) own h e =
@@ -451,10 +472,13 @@ entry_flags c t st (actions.Tick n) own h = length-map st.parts.flags (tick_flag
 entry_flags c t st actions.Stall own h = h.flags
 entry_flags c t st a own h = acted_flags c t st (demanded c st t) own h refl
 
-entry_numbered : (c : Script) (t : ℕ) (st : State) (a : Action) → FitsByBlock c → AreNumbered c st → AreNumbered c (after_action c t st a)
-entry_numbered c t st a own h = record { flags = entry_flags c t st a own h; stands = stands_length c t st a ∙ h.stands }
+entry_numbered : (c : Script) (t : ℕ) (st : State) (a : Action) → FitsByBlock c → AreNumbered c st
+    → AreNumbered c (after_action c t st a)
+entry_numbered c t st a own h =
+    record { flags = entry_flags c t st a own h; stands = stands_length c t st a ∙ h.stands }
 
-numbered_from : (c : Script) (st : State) (es : List Entry) → FitsByBlock c → AreNumbered c st → AreNumbered c (state_from c st es)
+numbered_from : (c : Script) (st : State) (es : List Entry) → FitsByBlock c → AreNumbered c st
+    → AreNumbered c (state_from c st es)
 numbered_from c st [] own h = h
 numbered_from c st (e ∷ es) own h =
     numbered_from c (after_action c e.thread st e.action) es own (entry_numbered c e.thread st e.action own h)
@@ -464,25 +488,29 @@ start_flags c = length-map-range_with_len (λ t. flags_of (t == 0)) 0 c.thread_c
 
 pub numbered_along : (c : Script) (es : List Entry) → FitsByBlock c → AreNumbered c (After c es)
 numbered_along c es own =
-    numbered_from c (start c) es own (record { flags = start_flags c; stands = length-map-range_with_len opening_stand 0 c.thread_count })
+    numbered_from c (start c) es own
+    (record { flags = start_flags c; stands = length-map-range_with_len opening_stand 0 c.thread_count })
 
 -- of every script there are as many flags or more, and a thread that is started stays so
 pub record FlagsLast (before after : List Flags) : Type 0 where
   pub least : length before ≤ length after
   pub started : (t : ℕ) → IsStarted before t → IsStarted after t
 
-acted_last : (s : Script) (t : ℕ) (st : State) (d : Option Demand) → FlagsLast st.parts.flags (acted s t st d).parts.flags
+acted_last : (s : Script) (t : ℕ) (st : State) (d : Option Demand)
+    → FlagsLast st.parts.flags (acted s t st d).parts.flags
 acted_last s t st None = record { least = omega arith; started = λ u h. h }
 acted_last s t st (Some d) =
     let fits = (reach_demand s t st (frames_at t st) d).flags in record { least = fits.least; started = fits.started }
 
-pub entry_last : (s : Script) (t : ℕ) (st : State) (a : Action) → FlagsLast st.parts.flags (after_action s t st a).parts.flags
+pub entry_last : (s : Script) (t : ℕ) (st : State) (a : Action)
+    → FlagsLast st.parts.flags (after_action s t st a).parts.flags
 entry_last s t st (actions.Tick n) =
     record { least = omega (arith, length-map st.parts.flags (tick_flags n)); started = stays_ticked n st.parts.flags }
 entry_last s t st actions.Stall = record { least = omega arith; started = λ u h. h }
 entry_last s t st a = acted_last s t st (demanded s st t)
 
-least_from : (s : Script) (st : State) (es : List Entry) → length st.parts.flags ≤ length (state_from s st es).parts.flags
+least_from : (s : Script) (st : State) (es : List Entry)
+    → length st.parts.flags ≤ length (state_from s st es).parts.flags
 least_from s st [] = omega arith
 least_from s st (e ∷ es) =
     omega (arith, (entry_last s e.thread st e.action).least, least_from s (after_action s e.thread st e.action) es)
@@ -498,19 +526,24 @@ AllIn P (x ∷ xs) = P x × AllIn P xs
 
 pub all_range : (P : ℕ → Type 0) (a n : ℕ) → ((k : ℕ) → a ≤ k → k < a + n → P k) → AllIn P (range_with_len a n)
 all_range P a zero h = tt
-all_range P a (suc n) h =
-    (h a (omega arith) (omega arith), all_range P (a + 1) n (λ k from to. h k (omega (arith, from)) (omega (arith, to))))
+all_range P a (suc n) h = (
+  h a (omega arith) (omega arith),
+  all_range P (a + 1) n
+      (λ k from to. h k (omega (arith, from)) (omega (arith, to))),
+)
 
 pub all_append : (P : ℕ → Type 0) (xs ys : List ℕ) → AllIn P xs → AllIn P ys → AllIn P (xs ++ ys)
 all_append P [] ys h k = k
 all_append P (x ∷ xs) ys h k = (h.0, all_append P xs ys h.1 k)
 
 -- what is found passes the test, and is in the list
-pub find_is : (P : ℕ → Type 0) (p : ℕ → Bool) (xs : List ℕ) (n : ℕ) → AllIn P xs → find p xs ≡ Some n → P n × (p n ≡ true)
+pub find_is : (P : ℕ → Type 0) (p : ℕ → Bool) (xs : List ℕ) (n : ℕ) → AllIn P xs → find p xs ≡ Some n
+    → P n × (p n ≡ true)
 find_is P p [] n h e = absurd cc
 find_is P p (x ∷ xs) n h e = by (p x) refl e (find_is P p xs n h.1)
   where
-    by : (b : Bool) → p x ≡ b → cond b (Some x) (find p xs) ≡ Some n → (find p xs ≡ Some n → P n × (p n ≡ true)) → P n × (p n ≡ true)
+    by : (b : Bool) → p x ≡ b → cond b (Some x) (find p xs) ≡ Some n → (find p xs ≡ Some n → P n × (p n ≡ true))
+        → P n × (p n ≡ true)
     by true q e rest = let same : x ≡ n = cc in (subst P same h.0, subst (λ (m : ℕ). p m ≡ true) same q)
     by false q e rest = rest e
 
@@ -523,9 +556,11 @@ round_within count pointer most =
 pub picked_is : (s : Script) (st : State) (pointer t : ℕ) → pointer ≤ s.thread_count → picked s st pointer ≡ Some t
     → (t < s.thread_count) × (can_go st t ≡ true)
 picked_is s st pointer t most e =
-    find_is (λ u. u < s.thread_count) (can_go st) (round s.thread_count pointer) t (round_within s.thread_count pointer most) e
+    find_is (λ u. u < s.thread_count) (can_go st) (round s.thread_count pointer) t
+    (round_within s.thread_count pointer most) e
 
-moved_most : (s : Script) (st : State) (pointer : ℕ) (next : Option ℕ) → pointer ≤ s.thread_count → picked s st pointer ≡ next
+moved_most : (s : Script) (st : State) (pointer : ℕ) (next : Option ℕ) → pointer ≤ s.thread_count
+    → picked s st pointer ≡ next
     → moved_by pointer next ≤ s.thread_count
 moved_most s st pointer None most e = most
 moved_most s st pointer (Some t) most e = omega (arith, (picked_is s st pointer t most e).0)

@@ -1,6 +1,6 @@
 -- What the serial run finds after a journal: whether a thread goes on, the lead ticks or stalls, or the run is over.
 -- This project's own.
-use Rattle.std.specs.Prelude.{◌≡◌, ℕ, ◌<◌, ◌≤◌, false, IsTrue, List, Option, Some, None}
+use Rattle.std.specs.Prelude.{◌≡◌, ℕ, ◌<◌, ◌≤◌, false, IsTrue, List, Some, None}
 use Rattle.cf_syntax.specs.declared.script.Script.{Script}
 use Rattle.cf_syntax.specs.Owned.{Owned}
 use Rattle.cf_model.specs.declared.entry.Entry.{Entry}

@@ -162,8 +162,8 @@ pub fn numbers_of_lists()
     ensures { (s : Script) (es : List Entry) → NumbersOfLists s es }
 {}
 
-/// What the serial run finds after every list of entries: without a stall a legal journal of an owned script is whole
-/// if the lead has nothing more to do; the lead is busy exactly if the pointer picks a thread; and it ticks and stalls
+/// What the serial run finds after every list of entries. Without a stall a legal journal of an owned script is whole
+/// if the lead has nothing more to do, and the lead is busy exactly if the pointer picks a thread; it ticks and stalls
 /// where it may.
 pub fn lead_ends_the_run()
     ensures { (s : Script) (es : List Entry) → LeadTells s es }

@@ -66,9 +66,9 @@ IsFound facts t stand steps.Returns = is_block (top_frame stand.frames).kind ≡
 IsFound facts t stand steps.Closes = is_block (top_frame stand.frames).kind ≡ false
 IsFound facts t stand _ = Unit {0}
 
--- the slot that is dropped is there
+-- the slot that is dropped is there, and the place after it has a number
 abbrev pub HasSlot : Facts → Step → Type 0
-HasSlot facts (steps.Drops b k o left) = facts.slot b k ≡ Some o
+HasSlot facts (steps.Drops b k o left) = (facts.slot b k ≡ Some o) × (k + 1 < 2 ^ 32)
 HasSlot facts _ = Unit {0}
 
 -- a step that a thread demands, with what was looked up for it

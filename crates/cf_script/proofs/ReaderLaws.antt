@@ -1,8 +1,11 @@
 -- A line's statement in the open block, and the fault of a line.
-use Rattle.std.proofs.Common.{◌≡◌, ℕ, ◌+◌, false, List, [], ◌∷◌, Option, Some, Result, Ok, Err, ap, sym, ◌∙◌}
-use Rattle.std.specs.Prelude.{codes}
+use Rattle.std.proofs.Common.{◌≡◌, ℕ, ◌+◌, Bool, true, false, length, refl, arith, List, [], ◌∷◌, Option, Some, Result, Ok, Err, ap, sym, ◌∙◌}
+use Rattle.std.specs.Prelude.{codes, ◌==◌}
+use Rattle.std.proofs.lemmas.Bool.{eqb-true}
+use Rattle.cf_syntax.specs.declared.script.Script.{Script}
 use Rattle.cf_syntax.specs.declared.statement.Statement.{Statement}
 use Rattle.cf_syntax.specs.declared.refusal.Reason.{Reason}
+use Rattle.cf_syntax.specs.Lines.{lines}
 use Rattle.cf_syntax.specs.FormWords.{◌>>=◌, Names, With}
 use Rattle.cf_syntax.specs.Text.{Reading, Opened, is_word, is_handler, with_statement, statement_of, statement_line, place_line, after_line, whole, on_line_after, read_from, script_of}
 use Rattle.cf_script.specs.declared.fault.LineFault.{LineFault}
@@ -57,3 +60,17 @@ line_refused r all l ls bs (Faulty reason) err so_far is e g =
     rw g (sym so_far ∙ ap (finish r) is
     ∙ ap (λ (n : Result Reading Reason). (on_line_after r.count n >>= (λ s. read_from [] s ls)) >>= (λ s. on_line_after s.count (whole s))) e)
 line_refused r all l ls bs NoRoom err so_far is e g = rw g tt
+
+-- no byte is left where a test says so
+pub none_left : (bs : List ℕ) (t : Bool) → t ≡ (length bs == 0) → t ≡ true → bs ≡ []
+none_left bs t e f = none bs (eqb-true (length bs) 0 (sym e ∙ f))
+  where
+    none : (bs : List ℕ) → length bs ≡ 0 → bs ≡ []
+    none [] e = refl
+    none (b ∷ bs) e = absurd (omega (arith, e))
+
+-- what is made at the end of the text is its script
+pub read_whole : (bs : List ℕ) (r : Reading) (rest : List ℕ) (s : Script) → finish r (lines rest) ≡ script_of bs
+    → rest ≡ [] → whole r ≡ Ok s → script_of bs ≡ Ok s
+read_whole bs r rest s so_far none e =
+    sym so_far ∙ ap (λ (ls : List ℕ). finish r (lines ls)) none ∙ ap (λ (n : Result Script Reason). on_line_after r.count n) e

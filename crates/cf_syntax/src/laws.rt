@@ -1,9 +1,12 @@
 //! Laws of the text of a script and of its refusal, and of the words of a line.
-ghost use Rattle.std.specs.Prelude.{◌≡◌, ◌⊎◌, ℕ, List, Some};
+ghost use Rattle.std.specs.Prelude.{◌≡◌, ◌≤◌, ◌⊎◌, ℕ, List, Some, length};
+ghost use Rattle.cf_ids.specs.declared.limits.TheConstants.{SCRIPT_BYTES};
 ghost use Rattle.cf_syntax.specs.Words.{words};
+ghost use Rattle.cf_syntax.specs.Numbered.{IsNumbered};
 ghost use Rattle.cf_syntax.specs.Spaced.{Spaced};
 ghost use Rattle.cf_syntax.specs.Text.{Text};
 ghost use Rattle.cf_syntax.specs.Refusals.{Refused};
+ghost use Rattle.cf_syntax.specs.declared.script.Parts.{Parts};
 ghost use Rattle.cf_syntax.specs.declared.script.Script.{Script};
 ghost use Rattle.cf_syntax.specs.declared.refusal.Refusal.{Refusal};
 
@@ -13,6 +16,11 @@ pub fn each_text_is_read_or_refused()
     ensures either { (bs : List ℕ) → ((s : Script) × Text bs s) ⊎ ((r : Refusal) × Refused bs r) }
     ensures not_both { (bs : List ℕ) (s : Script) (r : Refusal) → Text bs s → Refused bs r → ⊥ }
     ensures one_refusal { (bs : List ℕ) (r q : Refusal) → Refused bs r → Refused bs q → r ≡ q }
+{}
+
+/// A script that is read from a text of at most 1,048,576 bytes has numbers that fit those of actions.
+pub fn a_text_has_numbers_that_fit()
+    ensures { (bs : List ℕ) (s : Parts) → length bs ≤ SCRIPT_BYTES → Text bs s → IsNumbered s }
 {}
 
 /// The words that are found in a line are those that it has, and it has no others.

@@ -2,9 +2,10 @@
 use Rattle.std.proofs.Common.{ap, ◌∙◌, arith}
 use Rattle.cf_syntax.specs.Lines.{lines}
 use Rattle.cf_syntax.specs.Text.{Reading}
+use Rattle.cf_syntax.proofs.NumberedLaws.{text_numbered}
 use Rattle.cf_script.specs.BlockViews.{reading_of}
 use Rattle.cf_script.proofs.ThreadLaws.{finish, script_finish}
-use Rattle.cf_script.proofs.ReaderLaws.{line_refused}
+use Rattle.cf_script.proofs.ReaderLaws.{line_refused, none_left, read_whole}
 use Rattle.cf_script.proofs.Utf8.{where_true}
 use Rattle.cf_script.proofs.reader.read_script.Goals as goal
 
@@ -19,3 +20,14 @@ pub returns-in-Err : goal.returns-in-Err
 returns-in-Err c =
     line_refused (reading_of c.loop-rest.reader) (lines c.loop-rest.rest.now) c.next_line.result.0.now (lines c.next_line.result.1.now) c.args.bytes.now c.in-Err.fault c.on_line.result
     c.loop-rest.invariant.so_far c.next_line.ensures.lines c.in-Err.ensures.read c.on_line.ensures
+
+pub new-requires-in-Ok-whole : goal.new-requires-in-Ok-whole
+new-requires-in-Ok-whole c =
+    let none = none_left c.loop-rest.rest.now c.is_empty.result c.is_empty.ensures c.loop-rest-test.false in
+    text_numbered c.args.bytes.now c.in-Ok-whole.parts c.requires
+    (read_whole c.args.bytes.now (reading_of c.loop-rest.reader) c.loop-rest.rest.now c.in-Ok-whole.parts c.loop-rest.invariant.so_far none c.in-Ok-whole.ensures)
+
+pub returns-in-Ok-whole : goal.returns-in-Ok-whole
+returns-in-Ok-whole c =
+    let none = none_left c.loop-rest.rest.now c.is_empty.result c.is_empty.ensures c.loop-rest-test.false in
+    rw c.new-in-Ok-whole.ensures (read_whole c.args.bytes.now (reading_of c.loop-rest.reader) c.loop-rest.rest.now c.in-Ok-whole.parts c.loop-rest.invariant.so_far none c.in-Ok-whole.ensures)

@@ -20,7 +20,7 @@ enum Outcome {
 
 fn ownership_of(script: Script) -> Outcome {
     match check_owners(script) {
-        Ok(checked) => Outcome::Owned(checked.script().blocks.len()),
+        Ok(checked) => Outcome::Owned(checked.script().blocks().len()),
         Err(OwnFault::Refused(refusal)) => Outcome::Unfit(refusal),
         Err(OwnFault::NoMemory) => Outcome::Lost,
     }

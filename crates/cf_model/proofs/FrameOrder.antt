@@ -158,7 +158,7 @@ pub record FitLine (earlier : List BlockLine) (x : BlockLine) : Type 0 where
   pub ownership : FitsOwnership earlier (line_ownership x)
   pub uses : HaveOwn earlier (line_uses x)
 
-block_fits : (c : Script) (k : Kind) (b : ℕ) → FitsByBlock c → lines_fault c [] (frame_lines c k b) ≡ None
+pub block_fits : (c : Script) (k : Kind) (b : ℕ) → FitsByBlock c → lines_fault c [] (frame_lines c k b) ≡ None
 block_fits c of_block b own = own.threads b
 block_fits c (of_handler k) b own = own.handlers b
 block_fits c (of_run r) b own = refl

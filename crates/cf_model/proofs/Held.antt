@@ -62,7 +62,7 @@ module _ (ts : List ℕ) (u : ℕ) (among : list_any (λ t. t == u) ts ≡ true)
   flow_held o (shrinks r) es own can = omega (arith, weigh-flow (held_with ts o) (shrinks r) es can, one_held o r own)
 
 -- a flow moves the number of references to an object by all that it adds and takes away, since it does not do both
-flow_apart : (o : ℕ) (f : Flow) (es : List Reference) → IsThere f es → apart (degree o es) (degree o (flowed f es)) ≡ gains o f + cuts o f
+pub flow_apart : (o : ℕ) (f : Flow) (es : List Reference) → IsThere f es → apart (degree o es) (degree o (flowed f es)) ≡ gains o f + cuts o f
 flow_apart o (grows ins ms) es can = omega (arith, degree-flow o (grows ins ms) es can)
 flow_apart o (shrinks r) es can = omega (arith, degree-flow o (shrinks r) es can)
 
@@ -84,7 +84,7 @@ step_tells s st u a step after flow fits = record {
   changed = λ o. rw (after, flow) (flow_apart o step.flow st.edges fits.there);
 }
 
-entry_tells : (s : Script) (st : State) (u : ℕ) (a : Action) (x : Answer) → IsSteady st → ActionView a → IsLegalAs s st (record { thread = u; action = a; answer = x }) a → FlowTells s st u a
+pub entry_tells : (s : Script) (st : State) (u : ℕ) (a : Action) (x : Answer) → IsSteady st → ActionView a → IsLegalAs s st (record { thread = u; action = a; answer = x }) a → FlowTells s st u a
 entry_tells s st u _ x h (is_tick n) legal = record { held = λ ts o among. refl; gained = λ o some. absurd (omega (arith, some)); changed = λ o. omega arith }
 entry_tells s st u _ x h is_stall legal = record { held = λ ts o among. refl; gained = λ o some. absurd (omega (arith, some)); changed = λ o. omega arith }
 entry_tells s st u a x h (is_step _ step) legal =

@@ -51,4 +51,10 @@ pub mod Owners
 pub mod ChangeLaws
 pub mod Held
 pub mod Gaining
+pub mod Growth
+pub mod Adding
+pub mod Numbering
+pub mod Leading
+pub mod Limiting
+pub mod Listing
 pub mod OneThread

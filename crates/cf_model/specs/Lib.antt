@@ -10,6 +10,9 @@ pub mod Finals
 pub mod Changes
 pub mod Serial
 pub mod Endings
+pub mod Growing
+pub mod Bounds
+pub mod Leading
 pub mod Coming
 pub mod Sharing
 pub mod Stage

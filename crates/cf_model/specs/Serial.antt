@@ -33,6 +33,16 @@ IsSerialFrom s st pointer (e ∷ es) =
     (e.thread ≡ picked_or_lead (picked s st pointer))
     × IsSerialFrom s (after_action s e.thread st e.action) (moved_by pointer (picked s st pointer)) es
 
+-- where the pointer stands after entries, from a state and a pointer on
+abbrev pub pointer_after : Script → State → ℕ → List Entry → ℕ
+pointer_after s st pointer [] = pointer
+pointer_after s st pointer (e ∷ es) =
+    pointer_after s (after_action s e.thread st e.action) (moved_by pointer (picked s st pointer)) es
+
+-- where the pointer stands after a journal
+abbrev pub pointer_of : Script → List Entry → ℕ
+pointer_of s es = pointer_after s (start s) 0 es
+
 -- a legal journal in the serial order
 pub record IsSerial (s : Script) (es : List Entry) : Type 0 where
   pub legal : IsLegal s es

@@ -2,12 +2,15 @@
 ghost use Rattle.std.specs.Prelude.{◌≡◌, ◌<◌, ℕ, true, false, List, ◌∷◌, ◌++◌, Option, Some, slice_get};
 ghost use Rattle.cf_syntax.specs.declared.script.Script.{Script};
 ghost use Rattle.cf_model.specs.declared.entry.Entry.{Entry};
+ghost use Rattle.cf_model.specs.Bounds.{AddsFew, AreFew, FewOfLegal, FewReferences, GainsAreListed, NumbersOfLists};
 ghost use Rattle.cf_model.specs.Choices.{IsDetermined};
 ghost use Rattle.cf_model.specs.Changes.{ChangesCount, IsOneWay};
 ghost use Rattle.cf_model.specs.Flowing.{ChangesGrow, GainsFew, GainsFit, HeldChanges};
 ghost use Rattle.cf_model.specs.Coming.{ComingIsHad, ComingStays, FirstIsNext, OwnStays};
 ghost use Rattle.cf_model.specs.Finals.{FinalsFit};
+ghost use Rattle.cf_model.specs.Growing.{GrowsBy};
 ghost use Rattle.cf_model.specs.Journals.{After, IsLegal, all_sleep};
+ghost use Rattle.cf_model.specs.Leading.{LeadTells};
 ghost use Rattle.cf_model.specs.Parcels.{HasOneAtMost};
 ghost use Rattle.cf_model.specs.Owned.{GivesUp, NextIsLegal, ReleaseIsOwn, UsesFit};
 ghost use Rattle.cf_model.specs.Sharing.{AllInView, IsEmpty, MadeWhereChanged, TimesByLead};
@@ -175,6 +178,53 @@ pub fn plain_demands()
 pub fn plain_deals()
     ensures { (s : Script) (t : ℕ) (st : State) (x : Statement) (used : List (Option ℕ)) → is_of_stage x ≡ true
         → DealsPlainly s t st x used }
+{}
+
+/// A journal with one entry more: the state after it, where the pointer of the serial order stands, and when it is
+/// legal and in the serial order.
+pub fn journals_grow()
+    ensures { (s : Script) (es : List Entry) (e : Entry) → GrowsBy s es e }
+{}
+
+/// Each entry makes one object at most and finalises one at most, and each collection has one member more at most.
+pub fn entries_add_little()
+    ensures { (s : Script) (es : List Entry) (e : Entry) → AddsFew s es e }
+{}
+
+/// After so many entries no more objects were made, no more were finalised, and no collection has more members; so
+/// each may have one more, as long as a run may be.
+pub fn sizes_stay_small()
+    ensures { (s : Script) (es : List Entry) → AreFew s es }
+{}
+
+/// There is one stand for each thread, and one record of flags, after every list of entries; and the pointer of the
+/// serial order stays within the threads.
+pub fn numbers_of_lists()
+    ensures { (s : Script) (es : List Entry) → NumbersOfLists s es }
+{}
+
+/// What the serial run finds after every list of entries. Without a stall a legal journal of an owned script is whole
+/// if the lead has nothing more to do, and the lead is busy exactly if the pointer picks a thread; it ticks and stalls
+/// where it may.
+pub fn lead_ends_the_run()
+    ensures { (s : Script) (es : List Entry) → LeadTells s es }
+{}
+
+/// A legal journal makes at most 65,536 objects, and finalises only such, each once at most.
+pub fn few_objects_are_made()
+    ensures { (s : Script) (es : List Entry) → IsLegal s es → FewOfLegal s es }
+{}
+
+/// After so many entries an object has at most 1,025 times as many changes and references, of a legal journal of every
+/// script, and of every list of entries of an owned script.
+pub fn references_stay_few()
+    ensures legal { (s : Script) (es : List Entry) (o : ℕ) → IsLegal s es → FewReferences s es o }
+    ensures owned { (s : Script) (es : List Entry) (o : ℕ) → Owned s → FewReferences s es o }
+{}
+
+/// The objects to which an entry adds references are a list, which is not long.
+pub fn gains_are_listed()
+    ensures { (s : Script) (es : List Entry) (e : Entry) → GainsAreListed s es e }
 {}
 
 /// After every list of entries of every script a place of a parcel has one reference at most.

@@ -7,16 +7,19 @@ use Rattle.cf_syntax.specs.declared.script.Script.{Script}
 use Rattle.cf_syntax.specs.declared.statement.Statement.{Statement}
 use Rattle.cf_syntax.specs.declared.statement.Statement.TheVariants as forms
 use Rattle.cf_syntax.specs.BlockLines.{BlockLine, says}
+use Rattle.cf_syntax.specs.Numbered.{IsNumbered}
+use Rattle.cf_syntax.proofs.LengthLaws.{thread_lines_few, handler_lines_few}
+use Rattle.cf_next.specs.Demands.{frame_lines}
 use Rattle.cf_next.specs.declared.action.Action.{Action}
 use Rattle.cf_next.specs.declared.step.Step.{Step}
 use Rattle.cf_next.specs.declared.step.Step.TheVariants as steps
 use Rattle.cf_next.specs.Actions.{Site, action_of, cut_of}
 use Rattle.cf_next.specs.Advance.{is_post}
-use Rattle.cf_next.specs.Advancing.{Fits, HasPlaces, IsFrameFound, IsWorkFound}
+use Rattle.cf_next.specs.Advancing.{Fits, IsFrameFound, IsWorkFound}
 use Rattle.cf_next.specs.Facts.{Facts}
-use Rattle.cf_next.specs.Stands.{Frame, Stand}
+use Rattle.cf_next.specs.Stands.{Kind, of_block, of_handler, of_run, Frame, Stand}
 use Rattle.cf_next.specs.Next.{action_if, action_in, next, phase_action, top_frame}
-use Rattle.cf_next.specs.Standing.{IsNumbered, is_retain, posts}
+use Rattle.cf_next.specs.Standing.{is_retain, posts}
 use Rattle.cf_next.specs.Steps.{IsCutBy, IsFound, IsLine, IsStep, demand_of, is_retain_step, says_retain, step_posts}
 
 -- whether it is a retain, whether it is a `post`, and that a retain takes no reference away
@@ -138,23 +141,28 @@ module _ (s : Script) (facts : Facts) (t : ℕ) (stand : Stand) (a : Action) (x 
 
 -- ---- what fits
 
+pub lines-few : (s : Script) → IsNumbered s → (k : Kind) (b : ℕ) → length (frame_lines s k b) < 4294967296
+lines-few s n of_block b = thread_lines_few s b n
+lines-few s n (of_handler k) b = handler_lines_few s b n
+lines-few s n (of_run r) b = omega arith
+
 line-fits : (s : Script) (numbered : IsNumbered s) (x : BlockLine) (fs : List Frame) → IsLine s x fs → (top_frame fs).number + 1 < 4294967296
 line-fits s numbered x [] h = absurd h
-line-fits s numbered x (f ∷ fs) h = omega (arith, slice_get_within _ f.number x h, numbered.lines f.kind f.block)
+line-fits s numbered x (f ∷ fs) h = omega (arith, slice_get_within _ f.number x h, lines-few s numbered f.kind f.block)
 
-pub step-fits : (s : Script) (facts : Facts) (t : ℕ) (stand : Stand) (x : Step) → IsStep s facts t stand x → IsNumbered s → HasPlaces facts → Fits x (top_frame stand.frames).number
-step-fits s facts t stand steps.Begins h n p = record { line = line-fits s n _ stand.frames h.line; place = tt }
-step-fits s facts t stand (steps.Claims k v) h n p = record { line = line-fits s n _ stand.frames h.line; place = tt }
-step-fits s facts t stand (steps.Says x used k) h n p = record { line = line-fits s n _ stand.frames h.line.0; place = tt }
-step-fits s facts t stand (steps.Packs u k v) h n p = record { line = line-fits s n _ stand.frames h.line; place = tt }
-step-fits s facts t stand steps.Ends h n p = record { line = tt; place = tt }
-step-fits s facts t stand steps.Returns h n p = record { line = tt; place = tt }
-step-fits s facts t stand (steps.Owes o left) h n p = record { line = tt; place = tt }
-step-fits s facts t stand (steps.Spends i left) h n p = record { line = tt; place = tt }
-step-fits s facts t stand (steps.Drops b k o left) h n p = record { line = tt; place = p.slots b k o h.slot }
-step-fits s facts t stand (steps.Calls c k info left) h n p = record { line = tt; place = tt }
-step-fits s facts t stand (steps.Enters ph) h n p = record { line = tt; place = tt }
-step-fits s facts t stand steps.Closes h n p = record { line = tt; place = tt }
+pub step-fits : (s : Script) (facts : Facts) (t : ℕ) (stand : Stand) (x : Step) → IsStep s facts t stand x → IsNumbered s → Fits x (top_frame stand.frames).number
+step-fits s facts t stand steps.Begins h n = record { line = line-fits s n _ stand.frames h.line; place = tt }
+step-fits s facts t stand (steps.Claims k v) h n = record { line = line-fits s n _ stand.frames h.line; place = tt }
+step-fits s facts t stand (steps.Says x used k) h n = record { line = line-fits s n _ stand.frames h.line.0; place = tt }
+step-fits s facts t stand (steps.Packs u k v) h n = record { line = line-fits s n _ stand.frames h.line; place = tt }
+step-fits s facts t stand steps.Ends h n = record { line = tt; place = tt }
+step-fits s facts t stand steps.Returns h n = record { line = tt; place = tt }
+step-fits s facts t stand (steps.Owes o left) h n = record { line = tt; place = tt }
+step-fits s facts t stand (steps.Spends i left) h n = record { line = tt; place = tt }
+step-fits s facts t stand (steps.Drops b k o left) h n = record { line = tt; place = h.slot.1 }
+step-fits s facts t stand (steps.Calls c k info left) h n = record { line = tt; place = tt }
+step-fits s facts t stand (steps.Enters ph) h n = record { line = tt; place = tt }
+step-fits s facts t stand steps.Closes h n = record { line = tt; place = tt }
 
 -- ---- what was found
 

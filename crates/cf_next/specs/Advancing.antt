@@ -56,7 +56,3 @@ PlaceFits _ = Unit {0}
 pub record Fits (x : Step) (number : ℕ) : Type 0 where
   pub line : StepFits x number
   pub place : PlaceFits x
-
--- facts of a world, where no body has as many as 2^32 - 1 slots
-pub record HasPlaces (facts : Facts) : Type 0 where
-  pub slots : (b k o : ℕ) → facts.slot b k ≡ Some o → k + 1 < 2 ^ 32

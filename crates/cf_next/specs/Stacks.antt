@@ -23,6 +23,12 @@ pub record Stack : Type 0 where
   pub binding_room : ℕ
   pub callee_room : ℕ
 
+-- room that is there stays
+pub record RoomKept (s s' : Stack) : Type 0 where
+  pub frames : s.frame_room ≤ s'.frame_room
+  pub bindings : s.binding_room ≤ s'.binding_room
+  pub callees : s.callee_room ≤ s'.callee_room
+
 -- frames, each with the bindings and the collected ones at its place
 abbrev pub frames_from : List CodeFrame → List (List Bound) → List (List CodeCallee) → List Frame
 frames_from [] bindings collected = []

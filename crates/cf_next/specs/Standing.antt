@@ -6,12 +6,9 @@ use Rattle.cf_ids.specs.declared.answer.Answer.TheVariants as answers
 use Rattle.cf_ids.specs.Ranges.{IsObjectNumber}
 use Rattle.rl_turn.specs.declared.phases.Phase.{Phase}
 use Rattle.rl_turn.specs.declared.phases.Phase.TheVariants.{Note}
-use Rattle.cf_syntax.specs.declared.script.Script.{Script}
-use Rattle.cf_syntax.specs.BlockLines.{handler_block}
 use Rattle.cf_next.specs.declared.action.Action.{Action}
 use Rattle.cf_next.specs.declared.action.Action.TheVariants as actions
 use Rattle.cf_next.specs.Stands.{Turn, Kind, of_block, of_handler, of_run, Frame, Stand}
-use Rattle.cf_next.specs.Demands.{frame_lines}
 
 -- the thread and its stand; for how many more frames, bindings, collected ones and items of work there is room
 pub record Standing : Type 0 where
@@ -55,6 +52,13 @@ pub record HasRoom (more : ℕ) (s : Standing) : Type 0 where
   pub callees : more ≤ s.callee_room
   pub work : more + 4 ≤ s.work_room
 
+-- room that is there stays
+pub record RoomStays (s s' : Standing) : Type 0 where
+  pub frames : s.frame_room ≤ s'.frame_room
+  pub bindings : s.binding_room ≤ s'.binding_room
+  pub callees : s.callee_room ≤ s'.callee_room
+  pub work : s.work_room ≤ s'.work_room
+
 abbrev pub HasRoomFor : Action → (more : ℕ) → Standing → Type 0
 HasRoomFor a more s = cond (is_retain a && more == 0) (Unit {0}) (HasRoom more s)
 
@@ -72,10 +76,3 @@ posts _ = false
 
 abbrev pub ListsObjects : Action → List ℕ → Type 0
 ListsObjects a list = cond (posts a) (Unit {0}) (All IsObjectNumber list)
-
--- the numbers of a script: at most 64 threads, blocks that have numbers below 2^16, and fewer than 2^32 lines in each.
--- A script that is read from a text has them
-pub record IsNumbered (s : Script) : Type 0 where
-  pub threads : s.thread_count ≤ 64
-  pub blocks : (h b : ℕ) → handler_block s h ≡ Some b → b < 65536
-  pub lines : (kind : Kind) (block : ℕ) → length (frame_lines s kind block) < 2 ^ 32

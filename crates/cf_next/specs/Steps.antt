@@ -1,5 +1,5 @@
 -- How contracts see what a thread does next, with what was looked up for it.
-use Rattle.std.specs.Prelude.{◌≡◌, ℕ, ◌+◌, ◌-◌, ◌^◌, ◌<◌, Bool, true, false, ◌&&◌, ◌==◌, List, [], ◌∷◌, length, Option, Some, None, slice_get, cond}
+use Rattle.std.specs.Prelude.{◌≡◌, ℕ, ◌+◌, ◌-◌, ◌^◌, ◌<◌, Bool, true, false, ◌&&◌, ◌==◌, List, [], ◌∷◌, length, Option, Some, None, slice_get, cond, not, is_some}
 use Rattle.std.specs.List.{All}
 use Rattle.cf_ids.specs.Ranges.{IsObjectNumber}
 use Rattle.cf_syntax.specs.declared.script.Script.{Script}
@@ -66,9 +66,9 @@ IsFound facts t stand steps.Returns = is_block (top_frame stand.frames).kind ≡
 IsFound facts t stand steps.Closes = is_block (top_frame stand.frames).kind ≡ false
 IsFound facts t stand _ = Unit {0}
 
--- the slot that is dropped is there
+-- the slot that is dropped is there, and the place after it has a number
 abbrev pub HasSlot : Facts → Step → Type 0
-HasSlot facts (steps.Drops b k o left) = facts.slot b k ≡ Some o
+HasSlot facts (steps.Drops b k o left) = (facts.slot b k ≡ Some o) × (k + 1 < 2 ^ 32)
 HasSlot facts _ = Unit {0}
 
 -- a step that a thread demands, with what was looked up for it
@@ -126,3 +126,13 @@ step_posts _ = false
 
 abbrev pub StepLists : Step → List ℕ → Type 0
 StepLists x list = cond (step_posts x) (Unit {0}) (All IsObjectNumber list)
+
+-- ---- a statement that is entered
+
+-- a retain that finalises and lists nothing needs no room
+abbrev pub SaysRoom : Statement → (finalised : Option ℕ) → (more : ℕ) → Standing → Type 0
+SaysRoom x finalised more s =
+    cond (says_retain x && (more == 0 && not (is_some finalised))) (Unit {0}) (HasRoom more s)
+
+abbrev pub SaysList : Statement → List ℕ → Type 0
+SaysList x list = cond (is_post (says x)) (Unit {0}) (All IsObjectNumber list)

@@ -182,7 +182,7 @@ fn finish_line(stack: &mut Stack, ownership: Ownership, object: Option<ObjId>, r
 }
 
 /// A statement is done. A run that began has a frame of its own.
-fn finish_statement(
+pub(crate) fn finish_statement(
     stack: &mut Stack,
     statement: &Statement,
     answer: &Answer,

@@ -1,5 +1,5 @@
 //! What the frames of a thread ask of the world.
-ghost use Rattle.std.specs.Prelude.{◌≡◌};
+ghost use Rattle.std.specs.Prelude.{◌≡◌, ◌+◌, ◌<◌, ◌^◌, IfSome};
 ghost use Rattle.std.specs.Option.{option_map};
 ghost use Rattle.cf_next.specs.Facts.{Facts as Known};
 ghost use Rattle.cf_next.specs.Views.{callout_of_item, callout_of_receiver};
@@ -52,7 +52,9 @@ pub trait Facts {
     fn parcel(&self, t: ThreadId, k: usize) -> Option<ObjId>
         ensures { result ≡ (known self.now).parcel t k };
 
-    /// The slot at a place of those that a finalised body had, and none if it is dropped or was not there.
+    /// The slot at a place of those that a finalised body had, and none if it is dropped or was not there. A body has
+    /// fewer than 2^32 slots, so that each place has a number.
     fn slot(&self, b: ObjId, k: usize) -> Option<ObjId>
-        ensures { result ≡ (known self.now).slot b k };
+        ensures slot { result ≡ (known self.now).slot b k }
+        ensures place { IfSome result (λ _. k + 1 < 2 ^ 32) };
 }

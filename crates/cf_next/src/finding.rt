@@ -7,7 +7,6 @@ ghost use Rattle.cf_next.specs.Demands.{frame_lines, kind_demand, phase_demand, 
 ghost use Rattle.cf_next.specs.Finding.{IsFoundIn, end_demand, stand_in, top_lines, top_demand};
 ghost use Rattle.cf_next.specs.Lines.{line_of};
 ghost use Rattle.cf_next.specs.Next.{action_in, block_of, mode_of, object_at, phase_action, top_frame, used_objects};
-ghost use Rattle.cf_next.specs.Standing.{IsNumbered};
 ghost use Rattle.cf_next.specs.Steps.{HasSlot, IsLine, IsLineStep, IsStep, demand_of};
 ghost use Rattle.cf_next.specs.Views.{block_in, kind_of, objects_of};
 
@@ -33,7 +32,6 @@ pub(crate) fn find_step<'s, F: Facts>(
     stack: &Stack,
     work: &[Work],
 ) -> Step<'s>
-    requires { script.now.thread_count ≤ 64 }
     ensures { IsStep script.now (F.known facts.now) t (stand_in stack.now.frames work.now) result }
 {
     if let Some(step) = first_work(facts, work) {
@@ -47,7 +45,6 @@ pub(crate) fn find_step<'s, F: Facts>(
 
 /// What the innermost frame does next, where it has nothing to call.
 fn frame_step<'s, F: Facts>(script: &'s Script, facts: &F, t: ThreadId, stack: &Stack) -> Step<'s>
-    requires { script.now.thread_count ≤ 64 }
     ensures demand { demand_of result ≡ top_demand script.now (F.known facts.now) t (top_frame stack.now.frames) }
     ensures line { IsLineStep script.now stack.now.frames result }
     ensures found { IsFoundIn (F.known facts.now) t stack.now.frames result }
@@ -154,8 +151,7 @@ pub(crate) fn action_of_step<F: Facts>(
     step: &Step,
 ) -> Action
     requires { IsLineStep script.now stack.now.frames step.now }
-    ensures { IsNumbered script.now
-        → result ≡ action_in script.now (F.known facts.now) t stack.now.frames (demand_of step.now) }
+    ensures { result ≡ action_in script.now (F.known facts.now) t stack.now.frames (demand_of step.now) }
 {
     match step {
         Step::Begins | Step::Ends => Action::Done,
@@ -218,14 +214,14 @@ fn phase_action(phase: Phase) -> Action
 }
 
 /// The number of a frame's block in the script.
-fn block_number(script: &Script, kind: &Kind) -> u16
-    ensures { IsNumbered script.now → result ≡ block_of script.now (kind_of kind.now) (block_in kind.now) }
+pub(crate) fn block_number(script: &Script, kind: &Kind) -> u16
+    ensures { result ≡ block_of script.now (kind_of kind.now) (block_in kind.now) }
 {
     match kind {
         Kind::Block(thread) => u16::from(thread.0),
         Kind::Handler { handler, .. } => match script.handler(*handler) {
-            Some(block) if block <= usize::from(u16::MAX) => block as u16,
-            _ => 0,
+            Some(block) => block as u16,
+            None => 0,
         },
         Kind::Run(_) => 0,
     }
@@ -250,9 +246,7 @@ pub(crate) fn ahead_of<F: Facts>(
     work: &[Work],
     k: usize,
 ) -> Option<ObjId>
-    requires { script.now.thread_count ≤ 64 }
-    ensures { IsNumbered script.now
-        → result ≡ slice_get (ahead script.now (F.known facts.now) t (stand_in stack.now.frames work.now)) k }
+    ensures { result ≡ slice_get (ahead script.now (F.known facts.now) t (stand_in stack.now.frames work.now)) k }
 {
     if first_work(facts, work).is_some() {
         return None;
@@ -265,7 +259,6 @@ pub(crate) fn ahead_of<F: Facts>(
 
 /// The object that a line of the innermost frame retains, if it does.
 fn retained(script: &Script, stack: &Stack, number: usize) -> Option<ObjId>
-    requires { script.now.thread_count ≤ 64 }
     ensures { result ≡ option_and_then (retain_of (top_frame stack.now.frames).bindings)
         (slice_get (top_lines script.now (top_frame stack.now.frames)) number) }
 {
@@ -277,17 +270,14 @@ fn retained(script: &Script, stack: &Stack, number: usize) -> Option<ObjId>
 
 /// The object that the line after `k` others retains, where they all do.
 fn retained_after(script: &Script, stack: &Stack, k: usize) -> Option<ObjId>
-    requires { script.now.thread_count ≤ 64 }
-    ensures { IsNumbered script.now → result ≡ slice_get (lines_ahead (top_frame stack.now.frames).bindings
+    ensures { result ≡ slice_get (lines_ahead (top_frame stack.now.frames).bindings
         (drop (top_frame stack.now.frames).number (top_lines script.now (top_frame stack.now.frames)))) k }
 {
+    script.has_numbers();
     let mut number = stack.number() as usize;
     let mut left = k;
     while left > 0 {
         if retained(script, stack, number).is_none() {
-            return None;
-        }
-        if number == usize::MAX {
             return None;
         }
         number += 1;

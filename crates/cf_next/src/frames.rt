@@ -1,30 +1,32 @@
 //! Where a thread stands, what it does next and how an entry moves it on.
-ghost use Rattle.std.specs.Prelude.{◌≡◌, ◌+◌, ◌<◌, ◌^◌, [], Some, OnOk, IfSome, false, length, slice_get};
+ghost use Rattle.std.specs.Prelude.{◌≡◌, ◌+◌, ◌<◌, ◌^◌, [], Some, OnOk, IfSome, false, length, option_to_list, slice_get};
 ghost use Rattle.std.specs.Option.{option_and_then, option_map};
 ghost use Rattle.cf_next.specs.Ahead.{ahead};
 ghost use Rattle.cf_next.specs.Advance.{advanced, on_top};
-ghost use Rattle.cf_next.specs.Advancing.{Fits, HasPlaces};
+ghost use Rattle.cf_next.specs.Advancing.{Fits};
 ghost use Rattle.cf_next.specs.Actions.{cut_of};
-ghost use Rattle.cf_next.specs.Demands.{demand};
-ghost use Rattle.cf_next.specs.Next.{action_in, next, top_frame};
-ghost use Rattle.cf_next.specs.Stands.{has_run, opening_stand, stop_stand};
-ghost use Rattle.cf_next.specs.Standing.{HasRoom, HasRoomFor, IsNumbered, ListsObjects, finals_in, innermost_run, last_phase};
+ghost use Rattle.cf_next.specs.Demands.{demand, does};
+ghost use Rattle.cf_next.specs.Facts.{Facts as Known};
+ghost use Rattle.cf_next.specs.Next.{action_in, block_of, next, top_frame};
+ghost use Rattle.cf_next.specs.Stands.{has_run, look, opening_stand, stop_stand};
+ghost use Rattle.cf_next.specs.Standing.{HasRoom, HasRoomFor, RoomStays, ListsObjects, finals_in, innermost_run, last_phase};
 ghost use Rattle.cf_next.specs.Stacks.{line_passed};
-ghost use Rattle.cf_next.specs.Steps.{IsCutBy, IsFound, IsStep, StepLists, StepRoom, demand_of, step_cut};
+ghost use Rattle.cf_next.specs.Steps.{IsCutBy, IsFound, IsStep, SaysList, SaysRoom, StepLists, StepRoom, demand_of, step_cut};
+ghost use Rattle.cf_syntax.specs.BlockLines.{says};
 ghost use Rattle.cf_next.specs.Turns.{turn_facts};
 ghost use Rattle.cf_next.specs.Views.{turn_of};
 
 use crate::action::Action;
-use crate::advance::{frames_after, work_after};
+use crate::advance::{finish_statement, frames_after, is_post, work_after};
 use crate::facts::Facts;
-use crate::finding::{action_of_step, ahead_of, find_step};
+use crate::finding::{action_of_step, ahead_of, block_number, find_step};
 use crate::parts::Work;
 use crate::stack::Stack;
 use crate::step::{Step, finalised};
 use crate::turn::turn_facts;
-use crate::work::put_body;
-use cf_ids::{Answer, ModeId, ObjId, THREADS, ThreadId};
-use cf_syntax::Script;
+use crate::work::{owe, put_body};
+use cf_ids::{Answer, ModeId, ObjId, ThreadId, VarId};
+use cf_syntax::{Script, Statement};
 use rl_turn::{Phase, TurnFacts};
 use std::alloc::{AllocError as NoMemory, Global};
 use std::marker::Model;
@@ -136,11 +138,11 @@ impl Frames {
 
     /// What the thread does next, with what was looked up for it; none exactly if it is done. Takes no memory.
     pub fn step<'s, F: Facts>(&self, script: &'s Script, facts: &F) -> Option<Step<'s>>
-        ensures demand { IsNumbered script.now
-            → option_map demand_of result ≡ demand script.now (F.known facts.now) self.now.thread self.now.stand }
+        ensures demand { option_map demand_of result
+            ≡ demand script.now (F.known facts.now) self.now.thread self.now.stand }
         ensures step { IfSome result (IsStep script.now (F.known facts.now) self.now.thread self.now.stand) }
     {
-        if self.is_done || script.thread_count > THREADS {
+        if self.is_done {
             return None;
         }
         Some(find_step(
@@ -154,8 +156,7 @@ impl Frames {
 
     /// The next action; none exactly if the thread is done. Takes no memory.
     pub fn next<F: Facts>(&self, script: &Script, facts: &F) -> Option<Action>
-        ensures { IsNumbered script.now
-            → result ≡ next script.now (F.known facts.now) self.now.thread self.now.stand }
+        ensures { result ≡ next script.now (F.known facts.now) self.now.thread self.now.stand }
     {
         match &self.step(script, facts) {
             Some(step) => Some(self.action(script, facts, step)),
@@ -166,7 +167,7 @@ impl Frames {
     /// The action of what the thread does next, as `step` found it.
     pub fn action<F: Facts>(&self, script: &Script, facts: &F, step: &Step) -> Action
         requires { IsStep script.now (F.known facts.now) self.now.thread self.now.stand step.now }
-        ensures { IsNumbered script.now → result
+        ensures { result
             ≡ action_in script.now (F.known facts.now) self.now.thread self.now.stand.frames (demand_of step.now) }
     {
         action_of_step(script, facts, self.thread, &self.stack, step)
@@ -175,10 +176,9 @@ impl Frames {
     /// The object of the (k+1)-th next action; none exactly if the next k+1 actions are not all retains of objects.
     /// Takes no memory.
     pub fn ahead<F: Facts>(&self, script: &Script, facts: &F, k: usize) -> Option<ObjId>
-        ensures { IsNumbered script.now
-            → result ≡ slice_get (ahead script.now (F.known facts.now) self.now.thread self.now.stand) k }
+        ensures { result ≡ slice_get (ahead script.now (F.known facts.now) self.now.thread self.now.stand) k }
     {
-        if self.is_done || script.thread_count > THREADS {
+        if self.is_done {
             return None;
         }
         ahead_of(
@@ -197,6 +197,7 @@ impl Frames {
         ensures thread { self.new.thread ≡ self.old.thread }
         ensures stand { self.new.stand ≡ self.old.stand }
         ensures room { OnOk result (HasRoomFor action.now more self.new) }
+        ensures kept { RoomStays self.old self.new }
     {
         if more == 0 && matches!(action, Action::Retain { .. }) {
             return Ok(());
@@ -222,12 +223,12 @@ impl Frames {
         requires room { HasRoomFor action.now (length list.now) self.old }
         requires list { ListsObjects action.now list.now }
         ensures thread { self.new.thread ≡ self.old.thread }
-        ensures stand { IsNumbered script.now → HasPlaces (F.known facts.now)
-            → next script.now (F.known facts.now) self.old.thread self.old.stand ≡ Some action.now
+        ensures stand { next script.now (F.known facts.now) self.old.thread self.old.stand ≡ Some action.now
             → IfSome (demand script.now (F.known facts.now) self.old.thread self.old.stand)
             (λ d. self.new.stand ≡ advanced (F.known facts.now) self.old.thread d answer.now
             (finals_in (cut_of action.now) answer.now) list.now self.old.stand) }
     {
+        script.has_numbers();
         if let Some(step) = &self.step(script, facts) {
             if step.is_retain() == action.is_retain() && step.is_post() == action.is_post() {
                 self.go_on(facts, step, step.cut_of(action), answer, list);
@@ -238,21 +239,75 @@ impl Frames {
     /// The same by what `step` found, which is not looked up again.
     pub fn advance_by<F: Facts>(
         &mut self,
-        _script: &Script,
+        script: &Script,
         facts: &F,
         step: &Step,
         answer: &Answer,
         list: &[u32],
     )
-        requires step { IsStep _script.now (F.known facts.now) self.old.thread self.old.stand step.now }
+        requires step { IsStep script.now (F.known facts.now) self.old.thread self.old.stand step.now }
         requires room { StepRoom step.now (length list.now) self.old }
         requires list { StepLists step.now list.now }
         ensures thread { self.new.thread ≡ self.old.thread }
-        ensures stand { IsNumbered _script.now → HasPlaces (F.known facts.now) → self.new.stand
+        ensures stand { self.new.stand
             ≡ advanced (F.known facts.now) self.old.thread (demand_of step.now) answer.now
             (finals_in (step_cut step.now) answer.now) list.now self.old.stand }
     {
+        script.has_numbers();
         self.go_on(facts, step, step.cut(), answer, list);
+    }
+
+    /// The object of a variable of the innermost frame; none if it is empty or not bound.
+    pub fn object(&self, variable: VarId) -> Option<ObjId>
+        ensures { result ≡ look variable (top_frame self.now.stand.frames).bindings }
+    {
+        self.stack.object(variable)
+    }
+
+    /// How many lines of the innermost frame's block are done.
+    pub fn lines_done(&self) -> u32
+        ensures { result ≡ (top_frame self.now.stand.frames).number }
+    {
+        self.stack.number()
+    }
+
+    /// The number in the script of the block of the innermost frame; a run has 0.
+    pub fn block(&self, script: &Script) -> u16
+        ensures { result
+            ≡ block_of script.now (top_frame self.now.stand.frames).kind (top_frame self.now.stand.frames).block }
+    {
+        block_number(script, self.stack.kind())
+    }
+
+    /// Moves the thread on by the entry of a statement, as `advance_by` does: of the facts that asks for the time
+    /// alone. `finalised` is the object that the entry finalised. Takes no memory.
+    pub fn say(
+        &mut self,
+        statement: &Statement,
+        time: u64,
+        answer: &Answer,
+        finalised: Option<ObjId>,
+        list: &[u32],
+    )
+        requires number { (top_frame self.old.stand.frames).number + 1 < 2 ^ 32 }
+        requires room { SaysRoom statement.now finalised (length list.now) self.old }
+        requires list { SaysList statement.now list.now }
+        ensures thread { self.new.thread ≡ self.old.thread }
+        ensures stand { (facts : Known) → facts.time ≡ time → self.new.stand
+            ≡ advanced facts self.old.thread (does (says statement.now)) answer.now (option_to_list finalised) list.now
+            self.old.stand }
+    {
+        if list.is_empty() && finalised.is_none() && matches!(statement, Statement::Retain { .. }) {
+            self.retain();
+            return;
+        }
+        self.work.clear();
+        if !is_post(statement) {
+            owe(&mut self.work, list);
+        }
+        put_body(&mut self.work, finalised);
+        finish_statement(&mut self.stack, statement, answer, list, time);
+        self.is_done = false;
     }
 
     /// The same, with the object to which the entry takes a reference away.

@@ -1,6 +1,7 @@
 //! The lines of a block, by their numbers.
 ghost use Rattle.std.specs.Prelude.{◌≡◌, ◌≤◌, ◌<◌, length, map, slice_get};
 ghost use Rattle.std.specs.Option.{option_copied, option_map};
+ghost use Rattle.cf_ids.specs.declared.limits.TheConstants.{THREADS};
 ghost use Rattle.cf_syntax.specs.BlockLines.{says, statements_in, uses_in, packs_for, thread_block, thread_blocks, block_of_handler, setup_lines, thread_lines, handler_lines};
 ghost use Rattle.cf_next.specs.Demands.{frame_lines};
 ghost use Rattle.cf_next.specs.Lines.{line_of};
@@ -62,7 +63,7 @@ fn given_at(uses: &[Given], place: usize) -> Option<&Given>
 fn thread_block(script: &Script, thread: usize) -> Option<&Block>
     ensures { option_copied result ≡ thread_block script.now thread }
 {
-    if thread < script.thread_count {
+    if thread < script.threads() {
         script.block(thread)
     } else {
         None
@@ -81,10 +82,11 @@ fn statement_line<'s>(statements: &'s [Statement], number: usize) -> Option<Line
 
 /// The blocks of threads after setup.
 fn thread_blocks(script: &Script) -> &[Block]
-    ensures { result.now ≡ thread_blocks script.now }
+    ensures blocks { result.now ≡ thread_blocks script.now }
+    ensures few { length result.now < THREADS }
 {
-    let blocks = script.blocks.as_slice();
-    let count = script.thread_count.min(blocks.len());
+    let blocks = script.blocks();
+    let count = script.threads().min(blocks.len());
     match blocks[..count].split_first() {
         Some((_, others)) => others,
         None => &[],
@@ -93,7 +95,7 @@ fn thread_blocks(script: &Script) -> &[Block]
 
 /// What setup packs for the threads of these blocks, by number.
 fn pack_line<'s>(blocks: &'s [Block], number: usize) -> Option<Line<'s>>
-    requires { length blocks.now < 64 }
+    requires { length blocks.now < THREADS }
     ensures { option_map line_of result ≡ slice_get (packs_for 1 blocks.now) number }
 {
     let mut rest = blocks;
@@ -117,7 +119,6 @@ fn pack_line<'s>(blocks: &'s [Block], number: usize) -> Option<Line<'s>>
 
 /// A line of setup.
 fn setup_line(script: &Script, number: usize) -> Option<Line<'_>>
-    requires { script.now.thread_count ≤ 64 }
     ensures { option_map line_of result ≡ slice_get (setup_lines script.now) number }
 {
     let statements = statements_of(script.block(0));
@@ -146,7 +147,6 @@ fn later_line(script: &Script, thread: usize, number: usize) -> Option<Line<'_>>
 
 /// A line of a thread's block.
 fn thread_line(script: &Script, thread: usize, number: usize) -> Option<Line<'_>>
-    requires { script.now.thread_count ≤ 64 }
     ensures { option_map line_of result ≡ slice_get (thread_lines script.now thread) number }
 {
     if thread == 0 {
@@ -188,7 +188,6 @@ pub(crate) fn lines_before(script: &Script, kind: &Kind) -> usize
 
 /// A line of a frame's block; a run has none.
 pub(crate) fn kind_line<'s>(script: &'s Script, kind: &Kind, number: usize) -> Option<Line<'s>>
-    requires { script.now.thread_count ≤ 64 }
     ensures { option_map line_of result
         ≡ slice_get (frame_lines script.now (kind_of kind.now) (block_in kind.now)) number }
 {

@@ -5,7 +5,7 @@ ghost use Rattle.cf_next.specs.Stands.{look, opening_stand, has_run, stop_frames
 ghost use Rattle.cf_next.specs.Next.{top_frame};
 ghost use Rattle.cf_next.specs.Advance.{kind_called, on_top};
 ghost use Rattle.cf_next.specs.Standing.{innermost_run};
-ghost use Rattle.cf_next.specs.Stacks.{HasFrame, is_block, with_binding, line_passed, with_collected, with_called, with_phase, opened, IsRunAt, code_is_run, code_stopped, code_run_or, code_run, code_has_run, code_stop};
+ghost use Rattle.cf_next.specs.Stacks.{HasFrame, RoomKept, is_block, with_binding, line_passed, with_collected, with_called, with_phase, opened, IsRunAt, code_is_run, code_stopped, code_run_or, code_run, code_has_run, code_stop};
 ghost use Rattle.cf_next.specs.Views.{bindings_of, block_in, callee_of, callees_of, cell_of, kind_of, turn_of};
 
 use crate::facts::Facts;
@@ -76,6 +76,7 @@ impl Stack {
         ensures frame_room { OnOk result (1 ≤ self.new.frame_room) }
         ensures binding_room { OnOk result (1 ≤ self.new.binding_room) }
         ensures callee_room { OnOk result (callees ≤ self.new.callee_room) }
+        ensures kept { RoomKept self.old self.new }
     {
         self.below.reserve(1)?;
         self.bindings.reserve(1, 1)?;

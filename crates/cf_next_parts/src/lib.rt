@@ -6,5 +6,5 @@ mod scripts;
 mod steps;
 mod table;
 
-pub use scripts::script;
+pub use scripts::parts;
 pub use table::{ItemFacts, ReceiverFacts, Table};

@@ -1,6 +1,6 @@
-//! A script with a line of each kind.
+//! The parts of a script with a line of each kind.
 use cf_ids::{HandlerId, ModeId, NameId, ObjId, Seq, VarId};
-use cf_syntax::{Block, Given, Handler, Script, Statement};
+use cf_syntax::{Block, Given, Handler, Parts, Statement};
 use std::alloc::{AllocError, Global};
 
 const X: VarId = VarId(0);
@@ -22,7 +22,7 @@ fn block(alloc: Global, uses: Vec<Given>, statements: Vec<Statement>) -> Block {
 
 /// Setup retains x 65 times, posts, and runs; its x is packed for thread 1, which claims it, takes from an array, runs
 /// and releases. Handler 0 retains and releases its info, and runs; handler 1 has no block.
-pub fn script(alloc: Global) -> Result<Script, AllocError> {
+pub fn parts(alloc: Global) -> Result<Parts, AllocError> {
     let mut setup = vec![in alloc;
         Statement::MakeArray {
             variable: X,
@@ -83,7 +83,7 @@ pub fn script(alloc: Global) -> Result<Script, AllocError> {
             block: None
         },
     ]?;
-    Ok(Script {
+    Ok(Parts {
         classes: Seq::from_vec(Vec::new(alloc)),
         blocks: Seq::from_vec(blocks),
         thread_count: 2,

@@ -3,11 +3,11 @@ ghost use Rattle.std.specs.Prelude.{◌≡◌, ◌↔◌, true};
 ghost use Rattle.std.specs.List.{All};
 ghost use Rattle.cf_ids.specs.Ranges.{IsObjectNumber};
 
-use crate::scripts::script;
+use crate::scripts::parts;
 use crate::table::{ItemFacts, ReceiverFacts, Table};
 use cf_ids::{Answer, HandlerId, ModeId, OBJECT_NUMBERS, ObjId, ThreadId, TypeId};
 use cf_next::{Action, Frames};
-use cf_syntax::Script;
+use cf_syntax::{Parts, Script};
 use std::process::Abort;
 use std::test::Fail;
 
@@ -122,6 +122,12 @@ fn play(
         frames.advance(script, facts, &action, &answer(reply), *list);
     }
     Ok(())
+}
+
+/// The script of parts.
+fn numbered(rt: &impl Abort, parts: Parts) -> Script {
+    assert!(rt; parts.are_numbered(), "the numbers of a small script fit");
+    Script::new(parts)
 }
 
 fn item(mode: u16, handler: u16, info: Option<ObjId>) -> ItemFacts {
@@ -262,7 +268,7 @@ fn runs(rt: &impl Abort, frames: &mut Frames, script: &Script, facts: &Table) ->
 /// Setup: 65 retains, a notice whose handler runs a loop in which a handler is called, and what is packed.
 #[test]
 fn setup(rt: HostRuntime) -> Result<(), Fail> {
-    let script = script(rt.alloc())?;
+    let script = numbered(&rt, parts(rt.alloc())?);
     let facts = table(5);
     let mut frames = Frames::new(rt.alloc(), ThreadId::SETUP);
     retains(&rt, &mut frames, &script, &facts)?;
@@ -333,7 +339,7 @@ fn outer(rt: &impl Abort, frames: &mut Frames, script: &Script, facts: &Table) -
 /// another loop in it, which is told to stop first.
 #[test]
 fn two_runs(rt: HostRuntime) -> Result<(), Fail> {
-    let script = script(rt.alloc())?;
+    let script = numbered(&rt, parts(rt.alloc())?);
     let facts = table(5);
     let mut frames = Frames::new(rt.alloc(), ThreadId(1));
     play(&rt, &mut frames, &script, &facts, &THREAD)?;

@@ -57,8 +57,8 @@ fn parts(script: &Script) -> (&[Block], &[Block])
     ensures threads { result.0.now ≡ thread_blocks script.now }
     ensures handlers { result.1.now ≡ handler_blocks script.now }
 {
-    let blocks = script.blocks.as_slice();
-    let count = script.thread_count.min(blocks.len());
+    let blocks = script.blocks();
+    let count = script.threads().min(blocks.len());
     let (front, handlers) = blocks.split_at(count);
     match front {
         [] => (&[], handlers),
@@ -71,7 +71,7 @@ fn owner_fault(script: &Script) -> Option<Refusal>
     ensures { result ≡ owner_fault script.now }
 {
     let mut counts = Counts::new();
-    if let Some(setup) = script.blocks.as_slice().first() {
+    if let Some(setup) = script.blocks().first() {
         let lines = setup.lines.as_slice();
         let statements = setup.statements.as_slice();
         if let Some(refusal) = statements_fault(script, &mut counts, lines, statements) {

@@ -57,7 +57,7 @@ fn thread_fault(script: &Script, thread: Option<ThreadId>) -> Option<Reason>
 {
     match thread {
         None => Some(Reason::Undefined),
-        Some(thread) if usize::from(thread.0) < script.thread_count => None,
+        Some(thread) if usize::from(thread.0) < script.threads() => None,
         Some(_) => Some(Reason::Undefined),
     }
 }

@@ -20,7 +20,7 @@ enum Outcome {
 
 fn ownership_of(script: Script) -> Outcome {
     match check_owners(script) {
-        Ok(checked) => Outcome::Owned(checked.script().blocks.len()),
+        Ok(checked) => Outcome::Owned(checked.script().blocks().len()),
         Err(OwnFault::Refused(refusal)) => Outcome::Unfit(refusal),
         Err(OwnFault::NoMemory) => Outcome::Lost,
     }
@@ -72,7 +72,7 @@ fn texts_are_read(rt: HostRuntime) {
 
 /// What the first statement of a script says, where that makes a string.
 fn first_text(script: &Script) -> Option<&Str> {
-    let block = script.blocks.as_slice().first()?;
+    let block = script.blocks().first()?;
     match block.statements.as_slice().first()? {
         Statement::MakeString { text, .. } => Some(text.text()),
         _ => None,
@@ -93,7 +93,7 @@ fn description_of(alloc: Global, text: Option<&Str>) -> Result<String, AllocErro
 /// The lines of each block: its first and its last, and those of its statements.
 fn lines_of(alloc: Global, script: &Script) -> Result<String, AllocError> {
     let mut lines = String::new(alloc);
-    for block in script.blocks.as_slice() {
+    for block in script.blocks() {
         let own = format!(in alloc;
             "{} {} {:?}",
             block.first,

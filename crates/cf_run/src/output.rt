@@ -154,7 +154,7 @@ fn classes_of(world: &World) -> &[ClassLine]
     ensures { result.now ≡ classes_in world.now.script }
 {
     match world.script() {
-        Some(checked) => checked.script().classes.as_slice(),
+        Some(checked) => checked.script().classes(),
         None => &[],
     }
 }

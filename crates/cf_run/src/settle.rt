@@ -51,7 +51,7 @@ fn read_file<S: Source>(alloc: Global, source: &mut S, name: &str) -> Result<Vec
 fn has_one_block(script: &Script) -> bool
     ensures { result ≡ has_one_block script.now }
 {
-    script.blocks.as_slice().len() == 1
+    script.blocks().len() == 1
 }
 
 // The refusal of a script that does not run yet.

@@ -17,7 +17,7 @@ use crate::statements::{read_statement, read_variable};
 use crate::table::form_of;
 use crate::words::{is, split_words, word_at};
 use cf_ids::Seq;
-use cf_syntax::{Block, BlockKind, Given, Handler, Reason, Script, Statement, StatementForm};
+use cf_syntax::{Block, BlockKind, Given, Handler, Parts, Reason, Statement, StatementForm};
 use std::alloc::{AllocError, Global};
 
 /// A block whose `end` is still to come.
@@ -287,8 +287,8 @@ impl Reader {
         Ok(())
     }
 
-    /// The script of the lines.
-    fn into_script(self, alloc: Global) -> Result<Script, AllocError>
+    /// The parts of the script of the lines.
+    fn into_parts(self, alloc: Global) -> Result<Parts, AllocError>
         ensures { IfOk result (λ s. s ≡ script_at (reading_of self)) }
     {
         let Reader {
@@ -306,7 +306,7 @@ impl Reader {
         } = names;
         let handlers = in_order(alloc, handlers)?;
         let handlers = handlers_named(alloc, threads, blocks.as_slice(), handlers)?;
-        Ok(Script {
+        Ok(Parts {
             classes: classes.into_seq(),
             blocks: blocks.into_seq(),
             thread_count: threads,
@@ -316,13 +316,13 @@ impl Reader {
         })
     }
 
-    /// The script at the end of the text.
+    /// The parts of the script at the end of the text.
     #[tactic(auto, unfolding(cf_syntax::specs::Text::whole))]
-    pub fn whole(self, alloc: Global) -> Result<Script, LineFault>
+    pub fn whole(self, alloc: Global) -> Result<Parts, LineFault>
         ensures { GivesAs (λ s. s) result (whole (reading_of self)) }
     {
         self.ended()?;
-        Ok(self.into_script(alloc)?)
+        Ok(self.into_parts(alloc)?)
     }
 }
 

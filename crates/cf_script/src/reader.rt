@@ -50,7 +50,7 @@ pub fn read_script(alloc: Global, bytes: &[u8]) -> Result<Script, ScriptFault>
     }
     let count = reader.count;
     match reader.whole(alloc) {
-        Ok(script) => Ok(script),
+        Ok(parts) => Ok(Script::new(parts)),
         Err(fault) => Err(on_line(count, fault)),
     }
 }

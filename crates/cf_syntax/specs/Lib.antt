@@ -6,6 +6,7 @@ pub mod FormTable
 pub mod FormWords
 pub mod Lines
 pub mod Mentions
+pub mod Numbered
 pub mod Numbers
 pub mod Owned
 pub mod Packs

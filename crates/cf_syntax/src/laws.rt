@@ -1,12 +1,15 @@
 //! Laws of the text of a script and of its refusal, and of the words of a line.
-ghost use Rattle.std.specs.Prelude.{◌≡◌, ◌<◌, ◌⊎◌, ℕ, List, length, Option, Some, slice_get};
+ghost use Rattle.std.specs.Prelude.{◌≡◌, ◌<◌, ◌≤◌, ◌⊎◌, ℕ, List, length, Option, Some, slice_get};
+ghost use Rattle.cf_ids.specs.declared.limits.TheConstants.{SCRIPT_BYTES};
 ghost use Rattle.cf_syntax.specs.Words.{words};
+ghost use Rattle.cf_syntax.specs.Numbered.{IsNumbered};
 ghost use Rattle.cf_syntax.specs.Spaced.{Spaced};
 ghost use Rattle.cf_syntax.specs.BlockLines.{claims, packs, setup_lines, thread_block, thread_lines, uses_in};
 ghost use Rattle.cf_syntax.specs.Packs.{IsWithin};
 ghost use Rattle.cf_syntax.specs.Stage.{IsOfStage};
 ghost use Rattle.cf_syntax.specs.Text.{Text};
 ghost use Rattle.cf_syntax.specs.Refusals.{Refused};
+ghost use Rattle.cf_syntax.specs.declared.script.Parts.{Parts};
 ghost use Rattle.cf_syntax.specs.declared.script.Script.{Script};
 ghost use Rattle.cf_syntax.specs.declared.refusal.Refusal.{Refusal};
 
@@ -21,6 +24,11 @@ pub fn each_text_is_read_or_refused()
 /// Each statement of a text's script is of a form that the reader takes.
 pub fn texts_are_of_the_stage()
     ensures { (bytes : List ℕ) (s : Script) → Text bytes s → IsOfStage s }
+{}
+
+/// A script that is read from a text of at most 1,048,576 bytes has numbers that fit those of actions.
+pub fn a_text_has_numbers_that_fit()
+    ensures { (bs : List ℕ) (s : Parts) → length bs ≤ SCRIPT_BYTES → Text bs s → IsNumbered s }
 {}
 
 /// The words that are found in a line are those that it has, and it has no others.

@@ -1,10 +1,13 @@
 //! A script, its classes, its blocks and its names.
-ghost use Rattle.std.specs.Prelude.{◌≡◌, slice_get};
+ghost use Rattle.std.specs.Prelude.{◌≡◌, ◌≤◌, ◌<◌, ◌↔◌, IfSome, true, slice_get};
 ghost use Rattle.std.specs.Option.{option_copied, option_map};
+ghost use Rattle.cf_ids.specs.declared.limits.TheConstants.{THREADS};
 ghost use Rattle.cf_syntax.specs.BlockLines.{handler_block};
+ghost use Rattle.cf_syntax.specs.Numbered.{FitsText, IsNumbered, IsPlaced};
 
 use crate::statement::Statement;
-use cf_ids::{HandlerId, ModeId, NameId, Seq, VarId};
+use cf_ids::{HandlerId, ModeId, NameId, SCRIPT_BYTES, Seq, THREADS, VarId};
+use std::marker::Model;
 
 /// A class line: the class with the type number 14 and the number of class lines before it.
 #[derive(Drop)]
@@ -56,11 +59,11 @@ pub struct Handler {
     pub block: Option<usize>,
 }
 
-/// A script: its classes, its blocks in the order of the file, and the names of its handlers, modes and notices in the
-/// order of first use. The first block is setup, those of threads follow, and then those of handlers. Mode 0 is
-/// `default`.
+/// What a script is made of: its classes, its blocks in the order of the file, and the names of its handlers, modes and
+/// notices in the order of first use. The first block is setup, those of threads follow, and then those of handlers.
+/// Mode 0 is `default`.
 #[derive(Drop)]
-pub struct Script {
+pub struct Parts {
     /// The class lines, in order.
     pub classes: Seq<ClassLine>,
     /// The blocks, in order.
@@ -75,35 +78,117 @@ pub struct Script {
     pub notices: Seq<Seq<u8>>,
 }
 
+/// A script: parts whose numbers fit those of actions. There are at most 64 threads, the block of a handler has a
+/// number below 65,536, and no block has more statements or takes more from setup than a text can have bytes.
+#[derive(Drop)]
+pub struct Script {
+    parts: Parts,
+}
+
+impl Model for Script {
+    ghost use Rattle.cf_syntax.specs.declared.script.Parts.{Parts};
+    ghost use Rattle.cf_syntax.specs.Numbered.{IsNumbered};
+
+    ghost Value = { Parts };
+
+    ghost view = { λ s. s.parts };
+
+    ghost invariant = { λ s. IsNumbered s.parts };
+}
+
+/// Whether the block of a handler has a number below 65,536.
+fn is_placed(handler: &Handler) -> bool
+    ensures { (result ≡ true) ↔ IsPlaced handler.now }
+{
+    match handler.block {
+        Some(block) => block <= usize::from(u16::MAX),
+        None => true,
+    }
+}
+
+/// Whether a block is no longer than a text can make it.
+fn fits_text(block: &Block) -> bool
+    ensures { (result ≡ true) ↔ FitsText block.now }
+{
+    block.uses.as_slice().len() <= SCRIPT_BYTES && block.statements.as_slice().len() <= SCRIPT_BYTES
+}
+
+impl Parts {
+    /// Whether the numbers fit those of actions, as those of parts that are read from a text do.
+    pub fn are_numbered(&self) -> bool
+        ensures { (result ≡ true) ↔ IsNumbered self.now }
+    {
+        self.thread_count <= THREADS
+            && self
+                .handlers
+                .as_slice()
+                .iter()
+                .all(|handler| is_placed(handler))
+            && self.blocks.as_slice().iter().all(|block| fits_text(block))
+    }
+}
+
 impl Script {
+    /// The script of parts whose numbers fit, which `are_numbered` tests.
+    pub fn new(parts: Parts) -> Script
+        requires { IsNumbered parts }
+        ensures { result ≡ parts }
+    {
+        Script { parts }
+    }
+
+    /// That its numbers fit, as a fact for those who prove. It does nothing.
+    #[inline(always)]
+    pub fn has_numbers(&self)
+        ensures { IsNumbered self.now }
+    {
+        let _ = &self.parts;
+    }
+
+    /// The class lines, in order.
+    pub fn classes(&self) -> &[ClassLine]
+        ensures { result.now ≡ self.now.classes }
+    {
+        self.parts.classes.as_slice()
+    }
+
+    /// The blocks, in order.
+    pub fn blocks(&self) -> &[Block]
+        ensures { result.now ≡ self.now.blocks }
+    {
+        self.parts.blocks.as_slice()
+    }
+
     /// The class line of type 14 plus this number, and none if there is no such line.
     pub fn class(&self, i: usize) -> Option<&ClassLine>
         ensures { option_copied result ≡ slice_get self.now.classes i }
     {
-        self.classes.as_slice().get(i)
+        self.parts.classes.as_slice().get(i)
     }
 
     /// The block with this number, and none if there is none. Thread t has block t.
     pub fn block(&self, i: usize) -> Option<&Block>
         ensures { option_copied result ≡ slice_get self.now.blocks i }
     {
-        self.blocks.as_slice().get(i)
+        self.parts.blocks.as_slice().get(i)
     }
 
     /// How many threads there are, with setup.
     pub fn threads(&self) -> usize
-        ensures { result ≡ self.now.thread_count }
+        ensures count { result ≡ self.now.thread_count }
+        ensures few { result ≤ THREADS }
     {
-        self.thread_count
+        self.parts.thread_count
     }
 
     /// The number of a handler's block, and none if the script has none of that handler.
     pub fn handler(&self, h: HandlerId) -> Option<usize>
-        ensures { result ≡ handler_block self.now h }
+        ensures block { result ≡ handler_block self.now h }
+        ensures below { IfSome result (λ b. b < 65536) }
     {
-        let handler = self.handlers.as_slice().get(usize::from(h.0))?;
+        let handler = self.parts.handlers.as_slice().get(usize::from(h.0))?;
         let block = handler.block?;
-        if block < self.thread_count {
+        if block < self.parts.thread_count {
             None
         } else {
             Some(block)
@@ -114,7 +199,7 @@ impl Script {
     pub fn handler_name(&self, h: HandlerId) -> Option<&[u8]>
         ensures { option_copied result ≡ option_map (λ x. x.name) (slice_get self.now.handlers h) }
     {
-        let handler = self.handlers.as_slice().get(usize::from(h.0))?;
+        let handler = self.parts.handlers.as_slice().get(usize::from(h.0))?;
         Some(handler.name.as_slice())
     }
 
@@ -122,7 +207,7 @@ impl Script {
     pub fn mode(&self, m: ModeId) -> Option<&[u8]>
         ensures { option_copied result ≡ slice_get self.now.modes m }
     {
-        let name = self.modes.as_slice().get(usize::from(m.0))?;
+        let name = self.parts.modes.as_slice().get(usize::from(m.0))?;
         Some(name.as_slice())
     }
 
@@ -130,7 +215,7 @@ impl Script {
     pub fn notice(&self, n: NameId) -> Option<&[u8]>
         ensures { option_copied result ≡ slice_get self.now.notices n }
     {
-        let name = self.notices.as_slice().get(usize::from(n.0))?;
+        let name = self.parts.notices.as_slice().get(usize::from(n.0))?;
         Some(name.as_slice())
     }
 }

@@ -68,5 +68,5 @@ pub(crate) fn reserve_next(
         return Ok(());
     };
     let used = used_objects(&frame.table, statement);
-    store.reserve_for(alloc, script.classes.as_slice(), statement, &used)
+    store.reserve_for(alloc, script.classes(), statement, &used)
 }

@@ -41,7 +41,7 @@ fn first(statements: &[Statement], number: usize) -> &[Statement]
 fn earlier(script: &Script, number: u32) -> &[Statement]
     ensures { result.now ≡ take number (setup script.now) }
 {
-    match script.blocks.as_slice().first() {
+    match script.blocks().first() {
         Some(block) => first(block.statements.as_slice(), number as usize),
         None => &[],
     }

@@ -62,7 +62,7 @@ pub(crate) fn bind(table: &mut Table, ownership: &Ownership, object: &Option<Obj
 pub(crate) fn statement_at(script: &Script, number: u32) -> Option<&Statement>
     ensures { option_copied result ≡ slice_get (setup script.now) number }
 {
-    let block = script.blocks.as_slice().first()?;
+    let block = script.blocks().first()?;
     block.statements.as_slice().get(number as usize)
 }
 

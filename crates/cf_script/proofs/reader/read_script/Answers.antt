@@ -2,6 +2,7 @@
 use Rattle.std.proofs.Common.{ap, ◌∙◌, arith}
 use Rattle.cf_syntax.specs.Lines.{lines}
 use Rattle.cf_syntax.specs.Text.{Reading}
+use Rattle.cf_syntax.proofs.NumberedLaws.{text_numbered}
 use Rattle.cf_syntax.proofs.ReadingLaws.{text_of_stage}
 use Rattle.cf_script.specs.BlockViews.{reading_of}
 use Rattle.cf_script.proofs.ThreadLaws.{finish, script_finish}
@@ -21,8 +22,19 @@ returns-in-Err-clause-read c =
     line_refused (reading_of c.loop-rest.reader) (lines c.loop-rest.rest.now) c.next_line.result.0.now (lines c.next_line.result.1.now) c.args.bytes.now c.in-Err.fault c.on_line.result
     c.loop-rest.invariant.so_far c.next_line.ensures.lines c.in-Err.ensures.read c.on_line.ensures
 
+pub new-requires-in-Ok-whole : goal.new-requires-in-Ok-whole
+new-requires-in-Ok-whole c =
+    let none = none_left c.loop-rest.rest.now c.is_empty.result c.is_empty.ensures c.loop-rest-test.false in
+    text_numbered c.args.bytes.now c.in-Ok-whole.parts c.requires
+    (read_whole c.args.bytes.now (reading_of c.loop-rest.reader) c.loop-rest.rest.now c.in-Ok-whole.parts c.loop-rest.invariant.so_far none c.in-Ok-whole.ensures)
+
+pub returns-in-Ok-whole-clause-read : goal.returns-in-Ok-whole-clause-read
+returns-in-Ok-whole-clause-read c =
+    let none = none_left c.loop-rest.rest.now c.is_empty.result c.is_empty.ensures c.loop-rest-test.false in
+    rw c.new-in-Ok-whole.ensures (read_whole c.args.bytes.now (reading_of c.loop-rest.reader) c.loop-rest.rest.now c.in-Ok-whole.parts c.loop-rest.invariant.so_far none c.in-Ok-whole.ensures)
+
 pub returns-in-Ok-whole-clause-stage : goal.returns-in-Ok-whole-clause-stage
 returns-in-Ok-whole-clause-stage c =
     let none = none_left c.loop-rest.rest.now c.is_empty.result c.is_empty.ensures c.loop-rest-test.false in
-    text_of_stage c.args.bytes.now c.in-Ok-whole.script
-    (read_whole c.args.bytes.now (reading_of c.loop-rest.reader) c.loop-rest.rest.now c.in-Ok-whole.script c.loop-rest.invariant.so_far none c.in-Ok-whole.ensures)
+    rw c.new-in-Ok-whole.ensures (text_of_stage c.args.bytes.now c.in-Ok-whole.parts
+    (read_whole c.args.bytes.now (reading_of c.loop-rest.reader) c.loop-rest.rest.now c.in-Ok-whole.parts c.loop-rest.invariant.so_far none c.in-Ok-whole.ensures))

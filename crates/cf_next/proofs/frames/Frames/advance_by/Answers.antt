@@ -10,6 +10,5 @@ pub returns-clause-stand : goal.returns-clause-stand
 returns-clause-stand g c =
     let facts = g.F.Facts.known c.args.facts.now in
     let now = c.args.self.now in
-    λ n p.
-    c.go_on.ensures.stand (step-fits c.args._script.now facts now.thread now.stand c.args.step.now c.requires.step n p)
+    c.go_on.ensures.stand (step-fits c.args.script.now facts now.thread now.stand c.args.step.now c.requires.step c.has_numbers.ensures)
     ∙ ap (λ cut. advanced facts now.thread (demand_of c.args.step.now) c.args.answer.now (finals_in cut c.args.answer.now) c.args.list.now now.stand) c.cut.ensures

@@ -1,6 +1,6 @@
 //! What an action of a thread answers.
+use crate::description::Description;
 use crate::numbers::{ObjId, TypeId};
-use crate::sequence::Seq;
 
 /// The answer of an entry of a journal.
 #[derive(Debug, Drop)]
@@ -18,7 +18,7 @@ pub enum Answer {
     /// The object that was made or found.
     Object(ObjId),
     /// A description, as bytes.
-    Shown(Seq<u8>),
+    Shown(Description),
     /// Every answer that is a number.
     Number(i64),
     /// The value does not fit the kind.

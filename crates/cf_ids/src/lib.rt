@@ -3,11 +3,13 @@
 #![tactic(auto)]
 
 mod answer;
+mod description;
 mod limits;
 mod numbers;
 mod sequence;
 
 pub use answer::{Answer, Ended};
+pub use description::Description;
 pub use limits::{
     DEFAULT_LIMIT, FIELDS, HANDLERS, LARGEST_LIMIT, MODES, NOTICES, OBJECT_NUMBERS, OBJECTS,
     SCRIPT_BYTES, THREADS, TYPE_NUMBERS, TYPES, VARIABLES,

@@ -11,7 +11,7 @@ use crate::plan::Plan;
 use crate::seen::{Found, Seen, mutable_bytes_in, mutable_text_in, number_in, text_in};
 use cf_body::{BodyChange, Kind, describe};
 use cf_data::Bytes;
-use cf_ids::{Answer, Seq, TypeId};
+use cf_ids::{Answer, Description, TypeId};
 use cf_number::NumKind;
 use cf_string::{Str, StrFault};
 use cf_syntax::{ClassLine, Statement};
@@ -60,7 +60,7 @@ fn show(alloc: Global, classes: &[ClassLine], used: &Found) -> Result<Plan, NoMe
         return Ok(Plan::skipping());
     };
     let description = describe(alloc, classes, seen.body)?;
-    Ok(Plan::answering(Answer::Shown(Seq::from_vec(description))))
+    Ok(Plan::answering(Answer::Shown(Description::new(alloc, description)?)))
 }
 
 /// Reads a number as one of a kind.

@@ -1,5 +1,5 @@
 -- What is kept with the first one last: what is passed over, and what is found.
-use Rattle.std.proofs.Common.{◌≡◌, ℕ, ◌+◌, ◌≤◌, Bool, true, cond, List, [], ◌∷◌, ◌++◌, length, map, take, reverse, Option, Some, None, refl, sym, ap, ◌∙◌, arith, length-append}
+use Rattle.std.proofs.Common.{◌≡◌, ℕ, ◌+◌, ◌≤◌, Bool, true, cond, List, [], ◌∷◌, ◌++◌, length, map, take, Option, Some, None, refl, sym, ap, ◌∙◌, arith, length-append}
 use Rattle.std.specs.Prelude.{is_some}
 use Rattle.std.proofs.lemmas.List.{take_all, take-take, take-append-le}
 use Rattle.cf_next.specs.declared.parts.Callee.{Callee as CodeCallee}
@@ -7,7 +7,7 @@ use Rattle.cf_next.specs.declared.parts.Work.{Work as CodeWork}
 use Rattle.cf_next.specs.declared.parts.Work.TheVariants.{Release, Spend, Slots}
 use Rattle.cf_next.specs.Facts.{Callout, Facts}
 use Rattle.cf_next.specs.Stands.{Callee, Kind, Work}
-use Rattle.cf_next.specs.Demands.{Demand, calls, callout_of, call_if, call_demand, callees_left, slot_if, work_demand, work_left}
+use Rattle.cf_next.specs.Demands.{Demand, callout_of, call_if, call_demand, callees_left, slot_if, work_demand, work_left}
 use Rattle.cf_next.specs.Views.{callee_of, callees_of, work_of, works_of}
 use Rattle.cf_next.specs.WorkSteps.{item_demand, callee_demand}
 use Rattle.cf_next.proofs.RowLaws.{reverse-last}

@@ -15,7 +15,7 @@ use Rattle.cf_next.specs.declared.step.Step.{Step}
 use Rattle.cf_next.specs.declared.step.Step.TheVariants as steps
 use Rattle.cf_next.specs.Actions.{Site, action_of, cut_of}
 use Rattle.cf_next.specs.Advance.{is_post}
-use Rattle.cf_next.specs.Advancing.{Fits, IsFrameFound, IsWorkFound}
+use Rattle.cf_next.specs.Advancing.{Fits, IsFrameFound}
 use Rattle.cf_next.specs.Facts.{Facts}
 use Rattle.cf_next.specs.Stands.{Kind, of_block, of_handler, of_run, Frame, Stand}
 use Rattle.cf_next.specs.Next.{action_if, action_in, next, phase_action, top_frame}

@@ -1,5 +1,5 @@
 -- The frames of a thread as contracts see them.
-use Rattle.std.proofs.Common.{◌≡◌, ℕ, zero, suc, ◌+◌, ◌-◌, ◌≤◌, ◌<◌, Bool, true, false, cond, List, [], ◌∷◌, ◌++◌, length, map, take, drop, reverse, Option, Some, None, refl, sym, ap, ◌∙◌, subst, arith}
+use Rattle.std.proofs.Common.{◌≡◌, ℕ, suc, ◌≤◌, ◌<◌, Bool, true, false, cond, List, [], ◌∷◌, ◌++◌, length, take, drop, reverse, None, refl, sym, ap, ◌∙◌, subst, arith}
 use Rattle.std.specs.Option.{option_map}
 use Rattle.cf_next.specs.declared.object.MaybeObject.{MaybeObject}
 use Rattle.cf_next.specs.declared.parts.Bound.{Bound}
@@ -7,13 +7,12 @@ use Rattle.cf_next.specs.declared.parts.Callee.{Callee as CodeCallee}
 use Rattle.cf_next.specs.declared.parts.Frame.{Frame as CodeFrame}
 use Rattle.cf_next.specs.declared.parts.Kind.{Kind as CodeKind}
 use Rattle.cf_next.specs.declared.parts.Kind.TheVariants.{Block, Handler, Run}
-use Rattle.cf_next.specs.declared.parts.Run.{Run as CodeRun}
 use Rattle.cf_next.specs.Stands.{Role, look, is_run, stop_kind, stop_frames, has_run}
 use Rattle.cf_next.specs.Advance.{kind_called, on_top}
 use Rattle.cf_next.specs.Standing.{run_or, innermost_run}
 use Rattle.cf_next.specs.Grids.{top_row, on_top_row}
 use Rattle.cf_next.specs.Stacks.{frames_from, is_block, IsBased, IsStack, with_called, code_run_or, code_run, code_is_run, code_stopped, code_has_run, code_stop}
-use Rattle.cf_next.specs.Views.{bindings_of, block_in, callee_of, callees_of, cell_of, frame_of, kind_of, turn_of}
+use Rattle.cf_next.specs.Views.{bindings_of, block_in, callee_of, cell_of, frame_of, kind_of, turn_of}
 use Rattle.cf_next.proofs.RowLaws.{reverse-last}
 use Rattle.cf_next.proofs.StackLaws.{kept-last}
 
@@ -136,3 +135,9 @@ stop-view (f ∷ fs) bs ks = by (code_is_run f.kind) (stop-view fs (drop 1 bs) (
     by : (b : Bool) → frames_from (code_stop fs) (drop 1 bs) (drop 1 ks) ≡ stop_frames (frames_from fs (drop 1 bs) (drop 1 ks)) → frames_from (cond b (record f { kind = code_stopped f.kind } ∷ fs) (f ∷ code_stop fs)) bs ks ≡ cond b (record (frame_of f (top_row bs) (top_row ks)) { kind = stop_kind (kind_of f.kind) } ∷ frames_from fs (drop 1 bs) (drop 1 ks)) (frame_of f (top_row bs) (top_row ks) ∷ stop_frames (frames_from fs (drop 1 bs) (drop 1 ks)))
     by true e = rw (stop-kind f.kind, block-kind f.kind) refl
     by false e = ap (λ x. frame_of f (top_row bs) (top_row ks) ∷ x) e
+
+-- each frame of the code is one of the stand
+pub frames-size : (fs : List CodeFrame) (bindings : List (List Bound)) (collected : List (List CodeCallee))
+    → length (frames_from fs bindings collected) ≡ length fs
+frames-size [] bindings collected = refl
+frames-size (f ∷ fs) bindings collected = ap suc (frames-size fs (drop 1 bindings) (drop 1 collected))

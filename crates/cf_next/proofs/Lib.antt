@@ -9,3 +9,4 @@ pub mod SuffixLaws
 pub mod FrameLaws
 pub mod AheadLaws
 pub mod FormLaws
+pub mod HeldLaws

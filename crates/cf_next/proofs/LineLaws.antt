@@ -3,10 +3,9 @@ use Rattle.std.proofs.Common.{◌≡◌, ℕ, zero, suc, ◌+◌, ◌-◌, ◌�
 use Rattle.std.specs.Prelude.{slice_get}
 use Rattle.std.specs.Option.{option_map}
 use Rattle.cf_syntax.specs.declared.script.Given.{Given}
-use Rattle.cf_syntax.specs.declared.script.Block.{Block}
 use Rattle.cf_syntax.specs.declared.script.Script.{Script}
 use Rattle.cf_syntax.specs.declared.statement.Statement.{Statement}
-use Rattle.cf_syntax.specs.BlockLines.{BlockLine, claims, says, packs, claims_from, packs_from, packs_for, thread_lines, thread_block, uses_in, statements_in}
+use Rattle.cf_syntax.specs.BlockLines.{BlockLine, claims, says, packs, claims_from, packs_from, thread_lines, thread_block, uses_in, statements_in}
 
 -- ---- two lists, one after the other
 

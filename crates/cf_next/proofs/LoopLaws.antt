@@ -1,16 +1,16 @@
 -- Loops over what is kept with the first one last.
-use Rattle.std.proofs.Common.{◌≡◌, ℕ, ◌+◌, ◌≤◌, Bool, true, false, List, [], ◌∷◌, ◌++◌, length, take, Option, Some, None, refl, sym, ap, ◌∙◌, subst, arith}
+use Rattle.std.proofs.Common.{◌≡◌, ℕ, ◌≤◌, true, false, List, [], ◌∷◌, ◌++◌, length, take, Option, Some, None, refl, sym, ap, ◌∙◌, subst, arith}
 use Rattle.std.specs.Prelude.{is_some, IfSome}
 use Rattle.std.specs.Option.{option_map}
 use Rattle.cf_next.specs.declared.parts.Callee.{Callee as CodeCallee}
 use Rattle.cf_next.specs.declared.parts.Work.{Work as CodeWork}
 use Rattle.cf_next.specs.declared.step.Step.{Step}
 use Rattle.cf_next.specs.Facts.{Facts}
-use Rattle.cf_next.specs.Stands.{Callee, Kind, Work}
+use Rattle.cf_next.specs.Stands.{Kind}
 use Rattle.cf_next.specs.Demands.{Demand, call_demand, callees_left, work_demand, work_left}
 use Rattle.cf_next.specs.Steps.{demand_of}
 use Rattle.cf_next.specs.Views.{callee_of, callees_of, work_of, works_of}
-use Rattle.cf_next.specs.WorkSteps.{item_demand, callee_demand, work_left_of, callees_left_of, WorkLeft, IsWorkLeft, CalleesLeft, AreCalleesLeft}
+use Rattle.cf_next.specs.WorkSteps.{item_demand, callee_demand, work_left_of, callees_left_of, IsWorkLeft, AreCalleesLeft}
 use Rattle.cf_next.proofs.CallLaws.{begins-less, demand-passed, left-passed, demand-found, left-found, work-passed, rest-passed, work-found, rest-found}
 
 pub begins-next : {A : Type 0} (xs ys rest : List A) (x : A) → rest ≡ xs ++ x ∷ [] → rest ≡ take (length rest) ys → xs ≡ take (length xs) ys

@@ -1,7 +1,7 @@
 -- Rows on top of one another, in one list of cells.
-use Rattle.std.proofs.Common.{◌≡◌, ℕ, zero, suc, ◌+◌, ◌-◌, ◌≤◌, ◌<◌, List, [], ◌∷◌, ◌++◌, length, map, take, drop, reverse, refl, sym, ap, ◌∙◌, subst, arith, length-append}
-use Rattle.std.proofs.lemmas.List.{take_all, take-take, take-append-le, drop-append-le, drop_all, drop-take, reverse-append, length-take}
-use Rattle.cf_next.specs.Grids.{top_row, on_top_row, rows_of, AreNested}
+use Rattle.std.proofs.Common.{◌≡◌, ℕ, zero, suc, ◌+◌, ◌≤◌, List, [], ◌∷◌, ◌++◌, length, take, reverse, refl, arith, length-append}
+use Rattle.std.proofs.lemmas.List.{take_all, take-take, take-append-le, drop-append-le, drop_all, drop-take, reverse-append}
+use Rattle.cf_next.specs.Grids.{on_top_row, rows_of, AreNested}
 
 -- a cell at the end
 pub rows-push : {A : Type 0} (s : ℕ) (ss : List ℕ) (cells : List A) (c : A) → s ≤ length cells → rows_of (s ∷ ss) (cells ++ c ∷ []) ≡ on_top_row (λ (r : List A). r ++ c ∷ []) (rows_of (s ∷ ss) cells)

@@ -1,14 +1,12 @@
 -- How the parts of a thread's stand move on. This project's own.
-use Rattle.std.specs.Prelude.{◌≡◌, ℕ, ◌+◌, ◌≤◌, ◌<◌, ◌^◌, Bool, true, false, List, [], ◌∷◌, ◌++◌, length, map, Option, Some, None, if◌then◌else◌}
-use Rattle.cf_ids.specs.declared.answer.Answer.{Answer}
+use Rattle.std.specs.Prelude.{◌≡◌, ℕ, ◌+◌, ◌<◌, ◌^◌, false, List, [], ◌++◌, length, map, Option, if◌then◌else◌}
 use Rattle.cf_syntax.specs.declared.statement.Statement.{Statement}
 use Rattle.cf_syntax.specs.BlockLines.{says}
 use Rattle.cf_syntax.specs.declared.mention.Ownership.{Ownership}
-use Rattle.rl_turn.specs.declared.phases.Phase.{Phase}
 use Rattle.cf_next.specs.declared.step.Step.{Step}
 use Rattle.cf_next.specs.declared.step.Step.TheVariants as steps
 use Rattle.cf_next.specs.Facts.{Facts}
-use Rattle.cf_next.specs.Stands.{Role, as_receiver, Callee, callee, Kind, of_block, of_handler, of_run, Frame, Work, release_of, spend_of}
+use Rattle.cf_next.specs.Stands.{as_receiver, callee, Kind, Frame, Work}
 use Rattle.cf_next.specs.Demands.{work_left}
 use Rattle.cf_next.specs.Advance.{bindings_by, is_post, kind_item, releases_of, spend_work}
 use Rattle.cf_next.specs.Steps.{StepFits, called_left}

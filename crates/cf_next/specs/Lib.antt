@@ -16,3 +16,4 @@ pub mod Stacks
 pub mod Standing
 pub mod Finding
 pub mod Advancing
+pub mod Held

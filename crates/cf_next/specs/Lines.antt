@@ -1,5 +1,4 @@
 -- How contracts see a line of a block.
-use Rattle.std.specs.Prelude.{ℕ}
 use Rattle.cf_syntax.specs.BlockLines.{BlockLine, begins, claims, says, packs}
 use Rattle.cf_next.specs.declared.lines.Line.{Line}
 use Rattle.cf_next.specs.declared.lines.Line.TheVariants.{Begins, Claims, Says, Packs}

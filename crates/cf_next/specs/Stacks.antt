@@ -1,5 +1,6 @@
 -- How contracts see the frames of a thread, with the room that there is. This project's own.
 use Rattle.std.specs.Prelude.{◌≡◌, ℕ, ◌+◌, ◌-◌, ◌≤◌, ◌<◌, Bool, true, false, List, [], ◌∷◌, ◌++◌, length, drop, reverse, slice_index_or, Option, Some, None, if◌then◌else◌}
+use Rattle.cf_ids.specs.declared.limits.TheConstants.{VARIABLES}
 use Rattle.cf_next.specs.declared.object.MaybeObject.{MaybeObject}
 use Rattle.cf_next.specs.declared.parts.Bound.{Bound}
 use Rattle.cf_next.specs.declared.parts.Callee.{Callee as CodeCallee}
@@ -9,9 +10,8 @@ use Rattle.cf_next.specs.declared.parts.Kind.TheVariants.{Block, Handler, Run}
 use Rattle.cf_next.specs.declared.parts.Run.{Run as CodeRun}
 use Rattle.rl_turn.specs.declared.phases.Phase.{Phase}
 use Rattle.cf_next.specs.Facts.{Facts}
-use Rattle.cf_next.specs.Stands.{Binding, look, Callee, Role, Kind, of_block, of_handler, of_run, Frame}
+use Rattle.cf_next.specs.Stands.{look, Callee, Role, Kind, of_block, of_handler, of_run, Frame}
 use Rattle.cf_next.specs.Turns.{kind_after}
-use Rattle.cf_next.specs.Next.{top_frame}
 use Rattle.cf_next.specs.Advance.{kind_called}
 use Rattle.cf_next.specs.Grids.{top_row}
 use Rattle.cf_next.specs.Views.{frame_of, kind_of, block_in, bindings_of, cell_of}
@@ -51,7 +51,7 @@ pub record IsStack (frames : List CodeFrame) (bindings : List (List Bound)) (col
   pub based : IsBased frames
   pub bindings_each : length bindings ≡ length frames
   pub collected_each : length collected ≡ length frames
-  pub table_size : length table ≡ 256
+  pub table_size : length table ≡ VARIABLES
   pub table_is : (v : ℕ) → cell_of table v ≡ look v (bindings_of (top_row bindings))
 
 -- there is a frame

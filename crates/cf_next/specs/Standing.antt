@@ -1,5 +1,5 @@
 -- How contracts see where a thread stands, with the room that there is. This project's own.
-use Rattle.std.specs.Prelude.{◌≡◌, ℕ, ◌+◌, ◌^◌, ◌≤◌, ◌<◌, Bool, true, false, ◌&&◌, ◌==◌, List, [], ◌∷◌, length, option_to_list, Option, Some, None, cond}
+use Rattle.std.specs.Prelude.{ℕ, ◌+◌, ◌≤◌, Bool, true, false, ◌&&◌, ◌==◌, List, [], ◌∷◌, option_to_list, Option, Some, None, cond}
 use Rattle.std.specs.List.{All}
 use Rattle.cf_ids.specs.declared.answer.Answer.{Answer}
 use Rattle.cf_ids.specs.declared.answer.Answer.TheVariants as answers
@@ -8,7 +8,7 @@ use Rattle.rl_turn.specs.declared.phases.Phase.{Phase}
 use Rattle.rl_turn.specs.declared.phases.Phase.TheVariants.{Note}
 use Rattle.cf_next.specs.declared.action.Action.{Action}
 use Rattle.cf_next.specs.declared.action.Action.TheVariants as actions
-use Rattle.cf_next.specs.Stands.{Turn, Kind, of_block, of_handler, of_run, Frame, Stand}
+use Rattle.cf_next.specs.Stands.{Callee, Turn, Kind, of_block, of_handler, of_run, Frame, Stand}
 
 -- the thread and its stand; for how many more frames, bindings, collected ones and items of work there is room
 pub record Standing : Type 0 where
@@ -37,6 +37,12 @@ phase_or (Some p) = p
 
 abbrev pub last_phase : Turn → Phase
 last_phase r = phase_or r.last
+
+-- what the handler of a frame was called for, if the frame is of one
+abbrev pub kind_callee : Kind → Option Callee
+kind_callee of_block = None
+kind_callee (of_handler k) = Some k
+kind_callee (of_run r) = None
 
 -- ---- room
 

@@ -10,7 +10,7 @@ use Rattle.cf_next.specs.declared.object.Used.{Used}
 use Rattle.cf_next.specs.declared.step.Step.{Step}
 use Rattle.cf_next.specs.declared.step.Step.TheVariants as steps
 use Rattle.cf_next.specs.Facts.{Facts}
-use Rattle.cf_next.specs.Stands.{Binding, Callee, Kind, Frame, Stand}
+use Rattle.cf_next.specs.Stands.{Callee, Frame, Stand}
 use Rattle.cf_next.specs.Demands.{Demand, demand, does, ends, returns, owes, spends, drops, calls, enters, closes, callees_left, work_left, frame_lines}
 use Rattle.cf_next.specs.Next.{top_frame, used_objects, lines_before}
 use Rattle.cf_next.specs.Advance.{is_post}

@@ -13,7 +13,7 @@ use Rattle.cf_next.specs.declared.parts.Frame.{Frame as CodeFrame}
 use Rattle.cf_next.specs.declared.parts.Work.{Work as CodeWork}
 use Rattle.cf_next.specs.declared.parts.Work.TheVariants.{Release, Spend, Slots}
 use Rattle.cf_next.specs.Facts.{Callout}
-use Rattle.cf_next.specs.Stands.{Binding, Role, as_observer, as_source, as_timer, as_receiver, Callee, callee, Turn, Kind, of_block, of_handler, of_run, Frame, Work, release_of, spend_of, slots_of}
+use Rattle.cf_next.specs.Stands.{Binding, as_observer, as_source, as_timer, as_receiver, Callee, callee, Turn, Kind, of_block, of_handler, of_run, Frame, Work, release_of, spend_of, slots_of}
 
 -- an item's handler and info, and a registration's handler and observer
 abbrev pub callout_of_item : ℕ × Option ℕ → Callout

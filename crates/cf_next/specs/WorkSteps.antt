@@ -5,7 +5,7 @@ use Rattle.cf_next.specs.declared.parts.Callee.{Callee as CodeCallee}
 use Rattle.cf_next.specs.declared.parts.Work.{Work as CodeWork}
 use Rattle.cf_next.specs.declared.step.Step.{Step}
 use Rattle.cf_next.specs.declared.step.Step.TheVariants as steps
-use Rattle.cf_next.specs.Facts.{Callout, Facts}
+use Rattle.cf_next.specs.Facts.{Facts}
 use Rattle.cf_next.specs.Stands.{Callee, Kind, Work}
 use Rattle.cf_next.specs.Demands.{Demand, callout_of, call_if, callees_left, work_demand, work_left}
 use Rattle.cf_next.specs.Views.{callees_of, works_of}

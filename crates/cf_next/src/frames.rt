@@ -9,18 +9,18 @@ ghost use Rattle.cf_next.specs.Demands.{demand, does};
 ghost use Rattle.cf_next.specs.Facts.{Facts as Known};
 ghost use Rattle.cf_next.specs.Next.{action_in, block_of, next, top_frame};
 ghost use Rattle.cf_next.specs.Stands.{has_run, look, opening_stand, stop_stand};
-ghost use Rattle.cf_next.specs.Standing.{HasRoom, HasRoomFor, RoomStays, ListsObjects, finals_in, innermost_run, last_phase};
+ghost use Rattle.cf_next.specs.Standing.{HasRoom, HasRoomFor, RoomStays, ListsObjects, finals_in, innermost_run, kind_callee, last_phase};
 ghost use Rattle.cf_next.specs.Stacks.{line_passed};
 ghost use Rattle.cf_next.specs.Steps.{IsCutBy, IsFound, IsStep, SaysList, SaysRoom, StepLists, StepRoom, demand_of, step_cut};
 ghost use Rattle.cf_syntax.specs.BlockLines.{says};
 ghost use Rattle.cf_next.specs.Turns.{turn_facts};
-ghost use Rattle.cf_next.specs.Views.{turn_of};
+ghost use Rattle.cf_next.specs.Views.{callee_of, turn_of};
 
 use crate::action::Action;
 use crate::advance::{finish_statement, frames_after, is_post, work_after};
 use crate::facts::Facts;
 use crate::finding::{action_of_step, ahead_of, block_number, find_step};
-use crate::parts::Work;
+use crate::parts::{Callee, Kind, Work};
 use crate::stack::Stack;
 use crate::step::{Step, finalised};
 use crate::turn::turn_facts;
@@ -35,9 +35,9 @@ use std::marker::Model;
 #[derive(Drop)]
 pub struct Frames {
     thread: ThreadId,
-    stack: Stack,
+    pub(crate) stack: Stack,
     /// The work, the first item last.
-    work: Vec<Work>,
+    pub(crate) work: Vec<Work>,
     is_done: bool,
 }
 
@@ -89,6 +89,30 @@ impl Frames {
         ensures work_room { self.new.work_room ≡ self.old.work_room }
     {
         self.stack.stop()
+    }
+
+    /// Whether the thread is done.
+    pub fn is_done(&self) -> bool
+        ensures { result ≡ self.now.stand.is_done }
+    {
+        self.is_done
+    }
+
+    /// How many frames are below the innermost one.
+    pub fn depth(&self) -> usize
+        ensures { length self.now.stand.frames ≡ result + 1 }
+    {
+        self.stack.depth()
+    }
+
+    /// What the handler of the innermost frame was called for; none if that is no handler's.
+    pub fn callee(&self) -> Option<Callee>
+        ensures { option_map callee_of result ≡ kind_callee (top_frame self.now.stand.frames).kind }
+    {
+        match self.stack.kind() {
+            Kind::Handler { callee, .. } => Some(*callee),
+            _ => None,
+        }
     }
 
     /// The mode of the innermost run; none if there is no run.

@@ -8,6 +8,7 @@ mod calling;
 mod facts;
 mod finding;
 mod frames;
+mod held;
 mod lines;
 mod object;
 mod parts;

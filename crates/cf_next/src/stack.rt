@@ -1,6 +1,7 @@
 //! The frames of a thread.
 ghost use Rattle.std.specs.Prelude.{◌≡◌, ℕ, None, ◌+◌, ◌-◌, ◌≤◌, ◌<◌, ◌^◌, ◌∷◌, [], drop, length, map, reverse, false, slice_set, vec_len, vec_capacity, MatchOption, OnOk};
 ghost use Rattle.std.specs.Option.{option_copied, option_map};
+ghost use Rattle.cf_ids.specs.declared.limits.TheConstants.{VARIABLES};
 ghost use Rattle.cf_next.specs.Stands.{look, opening_stand, has_run, stop_frames};
 ghost use Rattle.cf_next.specs.Next.{top_frame};
 ghost use Rattle.cf_next.specs.Advance.{kind_called, on_top};
@@ -83,6 +84,13 @@ impl Stack {
         self.collected.reserve(1, callees)
     }
 
+    /// How many frames are below the innermost one.
+    pub(crate) fn depth(&self) -> usize
+        ensures { length self.now.frames ≡ result + 1 }
+    {
+        self.below.len()
+    }
+
     /// What the innermost frame is of.
     pub(crate) fn kind(&self) -> &Kind
         ensures some { HasFrame self.now.frames }
@@ -104,6 +112,14 @@ impl Stack {
         ensures { result ≡ look variable (top_frame self.now.frames).bindings }
     {
         self.table[usize::from(variable.0)].object()
+    }
+
+    /// What the variables of the innermost frame have, by number.
+    pub(crate) fn table(&self) -> &[MaybeObject; VARIABLES]
+        ensures cells { (v : ℕ) → cell_of result.now v ≡ look v (top_frame self.now.frames).bindings }
+        ensures size { length result.now ≡ 256 }
+    {
+        &self.table
     }
 
     /// What the innermost frame collected and is not called yet, the first one last.
@@ -234,7 +250,7 @@ fn no_cells() -> [MaybeObject; VARIABLES]
 
 /// Puts what a variable was bound to into a table.
 fn set(table: &mut [MaybeObject; VARIABLES], bound: &Bound)
-    ensures within { bound.now.variable < 256 }
+    ensures within { bound.now.variable < VARIABLES }
     ensures table { table.new ≡ slice_set table.old bound.now.variable bound.now.object }
 {
     table[usize::from(bound.variable.0)] = bound.object;
@@ -242,7 +258,7 @@ fn set(table: &mut [MaybeObject; VARIABLES], bound: &Bound)
 
 /// Makes a table of what variables were bound to, the newest last.
 fn fill(table: &mut [MaybeObject; VARIABLES], row: &[Bound])
-    ensures size { length table.new ≡ 256 }
+    ensures size { length table.new ≡ VARIABLES }
     ensures cells { (v : ℕ) → cell_of table.new v ≡ look v (bindings_of row.now) }
 {
     *table = no_cells();

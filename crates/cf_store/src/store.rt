@@ -107,6 +107,7 @@ impl Store {
         ensures left { let given_up = given_up_in self.now.bodies o in
             given_up ≤ k → result ≡ slice_get (left_in self.now.bodies o) (k - given_up) }
         ensures given_up { k < given_up_in self.now.bodies o → result ≡ None }
+        ensures few { OnSome result (k + 1 < 4294967296) }
     {
         let body = self.bodies.get(o.0 as usize)?;
         if k < body.given_up() as usize {

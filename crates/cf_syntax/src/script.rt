@@ -59,9 +59,9 @@ pub struct Handler {
     pub block: Option<usize>,
 }
 
-/// What a script is made of: its classes, its blocks in the order of the file, and the names of its handlers, modes and
-/// notices in the order of first use. The first block is setup, those of threads follow, and then those of handlers.
-/// Mode 0 is `default`.
+/// What a script is made of: its classes, its blocks in the order of the file, and the names of its handlers, modes
+/// and notices in the order of first use. The first block is setup, those of threads follow, and then those of
+/// handlers. Mode 0 is `default`.
 #[derive(Drop)]
 pub struct Parts {
     /// The class lines, in order.

@@ -1,5 +1,5 @@
 -- The loop invariants of `advance::collect_receivers`.
-use Rattle.std.proofs.Common.{◌≡◌, ◌+◌, ◌≤◌, length, map}
+use Rattle.std.proofs.Common.{◌≡◌, ◌≤◌, length, map}
 use Rattle.cf_next.specs.Stands.{as_receiver, callee}
 use Rattle.cf_next.specs.Advance.{on_top}
 use Rattle.cf_next.specs.Stacks.{with_collected}

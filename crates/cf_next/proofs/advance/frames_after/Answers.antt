@@ -1,5 +1,5 @@
 -- Answers to the goals of `advance::frames_after`.
-use Rattle.std.proofs.Common.{◌≡◌, ◌∙◌, ◌≤◌, List, ◌∷◌, length, ap, subst, arith, inl, inr}
+use Rattle.std.proofs.Common.{◌∙◌, List, ◌∷◌, ap, subst, arith, inl, inr}
 use Rattle.cf_next.specs.declared.step.Step.{Step}
 use Rattle.cf_next.specs.Stands.{Frame}
 use Rattle.cf_next.specs.Advance.{handler_frame}

@@ -1,5 +1,5 @@
 -- Answers to the goals of `advance::work_after`.
-use Rattle.std.proofs.Common.{◌≡◌, ◌∙◌, ◌≤◌, ◌+◌, List, ◌∷◌, ◌++◌, map, length, ap, subst, arith}
+use Rattle.std.proofs.Common.{◌∙◌, ◌+◌, List, ◌∷◌, ◌++◌, map, ap, subst, arith}
 use Rattle.cf_next.specs.declared.step.Step.{Step}
 use Rattle.cf_next.specs.Stands.{Work, release_of, slots_of}
 use Rattle.cf_next.specs.Advancing.{IsWorkFound}

@@ -1,5 +1,5 @@
 -- Answers to the goals of `lines::pack_line`.
-use Rattle.std.proofs.Common.{◌≡◌, ◌∙◌, None, sym, ap, length, arith}
+use Rattle.std.proofs.Common.{◌∙◌, sym, ap, arith}
 use Rattle.std.specs.Option.{option_copied}
 use Rattle.cf_next.proofs.LineLaws.{none-past}
 use Rattle.cf_next.proofs.PackLaws.{pack-next, pack-got}

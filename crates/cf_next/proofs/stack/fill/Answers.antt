@@ -1,5 +1,5 @@
 -- Answers to the goals of `stack::fill`.
-use Rattle.std.proofs.Common.{◌≡◌, ◌∙◌, ap, length, arith}
+use Rattle.std.proofs.Common.{◌∙◌, ap, length, arith}
 use Rattle.std.proofs.Math.ListN.{length-set}
 use Rattle.cf_next.specs.Views.{cell_of}
 use Rattle.cf_next.proofs.StackLaws.{cell-next}

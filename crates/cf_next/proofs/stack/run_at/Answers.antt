@@ -1,5 +1,5 @@
 -- Answers to the goals of `stack::run_at`.
-use Rattle.std.proofs.Common.{◌≡◌, ◌∙◌, sym, false, arith}
+use Rattle.std.proofs.Common.{arith}
 use Rattle.cf_next.proofs.LoopLaws.{begins-next}
 use Rattle.cf_next.proofs.StackLaws.{past-next}
 use Rattle.cf_next.proofs.stack.run_at.Goals as goal

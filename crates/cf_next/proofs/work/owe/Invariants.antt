@@ -1,5 +1,5 @@
 -- The loop invariants of `work::owe`.
-use Rattle.std.proofs.Common.{◌≡◌, ◌+◌, ◌≤◌, ◌++◌, length, map, vec_len, vec_capacity}
+use Rattle.std.proofs.Common.{◌≡◌, ◌+◌, ◌++◌, length, map, vec_len, vec_capacity}
 use Rattle.std.specs.List.{All}
 use Rattle.cf_ids.specs.Ranges.{IsObjectNumber}
 use Rattle.cf_next.specs.Stands.{release_of}

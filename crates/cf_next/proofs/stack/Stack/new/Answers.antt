@@ -1,5 +1,4 @@
 -- Answers to the goals of `stack::Stack::new`.
-use Rattle.std.proofs.Common.{refl}
 use Rattle.cf_next.proofs.FrameLaws.{new-stack}
 use Rattle.cf_next.proofs.stack.Stack.new.Goals as goal
 

@@ -1,5 +1,4 @@
 -- Answers to the goals of `stack::Stack::push`.
-use Rattle.std.proofs.Common.{refl}
 use Rattle.cf_next.proofs.FrameLaws.{push-stack}
 use Rattle.cf_next.proofs.stack.Stack.push.Goals as goal
 

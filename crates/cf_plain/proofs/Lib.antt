@@ -1,0 +1,5 @@
+-- The files of lemmas of cf_plain.
+pub mod Placing
+pub mod Ranking
+pub mod Showing
+pub mod Listing

@@ -1,0 +1,6 @@
+-- The loop invariants of `description::push_characters`.
+use Rattle.cf_plain.proofs.Showing.{Written}
+use Rattle.cf_plain.proofs.description.push_characters.Given as goal
+
+abbrev pub invariant-loop : goal.invariant-loop
+invariant-loop l = Written l.units l.initial.out.items l.out.items l.at l.counter

@@ -1,0 +1,2 @@
+-- The files of lemmas of cf_references.
+pub mod Finding

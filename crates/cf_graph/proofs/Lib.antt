@@ -8,4 +8,3 @@ pub mod Follows
 pub mod Closure
 pub mod Chosen
 pub mod Degrees
-pub mod OneThread

@@ -7,4 +7,3 @@ pub mod Flows
 pub mod Degrees
 pub mod Paths
 pub mod Walks
-pub mod OneThread

@@ -4,7 +4,6 @@
 mod degree;
 mod edge;
 mod laws;
-pub mod one_thread;
 mod reach;
 
 pub use degree::{in_degree, owners};

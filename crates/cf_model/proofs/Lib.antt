@@ -57,4 +57,3 @@ pub mod Numbering
 pub mod Leading
 pub mod Limiting
 pub mod Listing
-pub mod OneThread

@@ -23,4 +23,3 @@ pub mod Flowing
 pub mod Choices
 pub mod Runs
 pub mod Examples
-pub mod OneThread

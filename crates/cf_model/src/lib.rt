@@ -6,7 +6,6 @@ mod ending;
 mod entry;
 mod examples;
 mod laws;
-pub mod one_thread;
 
 pub use cf_next::Action;
 pub use ending::Ending;

@@ -33,6 +33,10 @@ pub struct Case {
     pub sizes: Vec<u64>,
     /// The exit status, where it is told.
     pub status: Option<u64>,
+    /// Whether each entry has its line.
+    pub is_full: bool,
+    /// The most entries of the journal, where that is told.
+    pub limit: Option<u64>,
     /// How many entries the journal has, where that is told.
     pub entries: Option<u64>,
     /// Each entry of the journal and its answer, a line each; empty where they are not told.
@@ -57,6 +61,8 @@ impl Case {
             failing_writes: Vec::new(alloc),
             sizes: vec![in alloc; 4_096]?,
             status: None,
+            is_full: false,
+            limit: None,
             entries: None,
             answers: Vec::new(alloc),
             written: Vec::new(alloc),
@@ -119,6 +125,7 @@ impl Case {
                 self.answers.clear();
                 self.section = Section::Answers;
             }
+            "journal" => self.is_full = true,
             "written" => {
                 self.written.clear();
                 self.is_written_told = true;
@@ -135,6 +142,7 @@ impl Case {
             "words" => self.words = words_of(self.alloc, value, &self.columns)?,
             "status" => self.status = Some(number_of(value)?),
             "entries" => self.entries = Some(number_of(value)?),
+            "limit" => self.limit = Some(number_of(value)?),
             "fail-read" => self.failing_reads = numbers_of(self.alloc, value, 0)?,
             "fail-write" => self.failing_writes = numbers_of(self.alloc, value, 0)?,
             "bytes-a-call" => self.sizes = numbers_of(self.alloc, value, 1)?,

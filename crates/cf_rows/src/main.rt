@@ -4,6 +4,7 @@
 
 mod answers;
 mod case;
+mod direct;
 mod fault;
 mod file;
 mod outcome;

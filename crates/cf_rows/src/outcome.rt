@@ -2,6 +2,8 @@
 
 use crate::answers::answers_of;
 use crate::case::Case;
+use crate::direct::{Came, came_of_script};
+use cf_ids::DEFAULT_LIMIT;
 use cf_io::{MemFile, MemSink, MemSource};
 use cf_run::{Report, cfrun_serial};
 use std::alloc::{AllocError, Global};
@@ -27,18 +29,17 @@ fn put_differences(
     case: &Case,
     size: u64,
 ) -> Result<(), AllocError> {
-    let mut sink = sink_of(alloc, case, size)?;
-    let report = report_of(alloc, case, size, &mut sink)?;
-    let entries = report.journal.len() as u64;
-    put_number(alloc, text, "status", case.status, u64::from(report.status))?;
+    let came = came_of(alloc, case, size)?;
+    let entries = came.journal.len() as u64;
+    put_number(alloc, text, "status", case.status, came.status)?;
     put_number(alloc, text, "entries", case.entries, entries)?;
     if !case.answers.is_empty() {
         let wanted = str::from_utf8(&case.answers).unwrap_or("");
-        let answers = answers_of(alloc, &report.journal, wanted)?;
+        let answers = answers_of(alloc, &came.journal, wanted)?;
         put_both(alloc, text, "answers", &case.answers, answers.as_bytes())?;
     }
     if case.is_written_told {
-        put_both(alloc, text, "written", &case.written, sink.taken())?;
+        put_both(alloc, text, "written", &case.written, &came.written)?;
     }
     Ok(())
 }
@@ -56,7 +57,24 @@ fn sink_of(alloc: Global, case: &Case, size: u64) -> Result<MemSink, AllocError>
     Ok(MemSink::new(alloc, case.failing_writes.clone()?, (size as usize).max(1)))
 }
 
-// Runs a case.
+// What a case comes to. One that asks for each line or for a limit is run without words.
+fn came_of(alloc: Global, case: &Case, size: u64) -> Result<Came, AllocError> {
+    if case.is_full || case.limit.is_some() {
+        let limit = case.limit.unwrap_or(DEFAULT_LIMIT as u64);
+        return came_of_script(alloc, &case.script, limit, case.is_full);
+    }
+    let mut sink = sink_of(alloc, case, size)?;
+    let report = report_of(alloc, case, size, &mut sink)?;
+    let mut written = Vec::new(alloc);
+    written.extend_from_slice(sink.taken())?;
+    Ok(Came {
+        status: u64::from(report.status),
+        journal: report.journal,
+        written,
+    })
+}
+
+// Runs a case by the top call.
 fn report_of(
     alloc: Global,
     case: &Case,

@@ -1,10 +1,4 @@
 -- The files of lemmas of cf_run.
-pub mod Words
-pub mod Writing
-pub mod Rendered
-pub mod Stops
 pub mod Concluding
-pub mod Raising
-pub mod Counting
-pub mod Tallying
-pub mod Closing
+pub mod Stalling
+pub mod Writing

@@ -1,20 +1,17 @@
 -- Fronts of texts, joined.
-use Rattle.std.proofs.Common.{◌≡◌, ℕ, zero, suc, ◌+◌, ◌<◌, List, [], ◌∷◌, ◌++◌, length, take, drop, get_or, Option, Some, None, refl, sym, ap, ◌∙◌, subst, arith, append_assoc, append-nil, inl, inr}
-use Rattle.std.proofs.lemmas.Bool.Decides.{eqb_tells}
-use Rattle.std.proofs.lemmas.List.{take-append-drop, length-append, length-drop, take_more}
-use Rattle.std.specs.Prelude.{slice_index_or, Result, Ok, Err}
+use Rattle.std.proofs.Common.{◌≡◌, ℕ, zero, suc, ◌+◌, ◌<◌, false, List, [], ◌∷◌, ◌++◌, length, take, drop, get_or, Option, Some, None, refl, sym, ap, ◌∙◌, subst, arith, append_assoc, append-nil}
+use Rattle.std.proofs.lemmas.List.{take-append-drop, length-append, length-drop, take_more, map-append}
+use Rattle.std.specs.Prelude.{Result, Ok, Err}
+use Rattle.std.specs.Global.{Vec}
 use Rattle.cf_io.specs.Bytes.{then_bytes}
-use Rattle.cf_contents.specs.Contents.{Object}
-use Rattle.cf_syntax.specs.declared.script.ClassLine.{ClassLine}
+use Rattle.cf_syntax.specs.declared.script.Script.{Script}
 use Rattle.cf_model.specs.declared.entry.Entry.{Entry}
 use Rattle.cf_model.specs.declared.ending.Ending.{Ending}
-use Rattle.cf_model.specs.OneThread.Rendering.{joined, entry_lines, lines_if, line_of, text_of_lines}
-use Rattle.cf_model.proofs.OneThread.Growth.{entry_lines-append, text_of_lines-append}
-use Rattle.cf_run.specs.Lines.{class_at, alive_if, alive_below, end_words, ends_of}
+use Rattle.cf_model.specs.Journals.{After}
+use Rattle.cf_render.specs.Ends.{lines_of}
+use Rattle.cf_render.specs.Rendering.{alive_from, end_lines, entry_lines, last_line, line, rendering, text_of_lines}
 use Rattle.cf_run.specs.declared.output.Unwritten.{Unwritten}
-use Rattle.cf_run.specs.declared.tally.Tally.{Tally}
-use Rattle.cf_run.specs.Tally.{nothing}
-use Rattle.cf_run.specs.Written.{Part, Cut, IsCause, WritesAll}
+use Rattle.cf_run.specs.Written.{Part, Cut, IsCause, WritesAll, line_if}
 
 -- bytes after bytes
 pub then_bytes-append : (old : Option (List ℕ)) (xs ys : List ℕ)
@@ -67,12 +64,22 @@ cut_behind before due old mid new e c = record {
 }
 
 -- a front of a text with more due after it
+abbrev part_ahead : (due behind : List ℕ) (old new : Option (List ℕ)) → Part due old new → Part (due ++ behind) old new
+part_ahead due behind old new p = record {
+  out = p.out;
+  rest = p.rest ++ behind;
+  parts = ap (λ (xs : List ℕ). xs ++ behind) p.parts ∙ append_assoc p.out p.rest behind;
+  taken = p.taken;
+}
+
 pub part_cut : (due behind : List ℕ) (old new : Option (List ℕ)) → 0 < length behind → Part due old new
     → Cut (due ++ behind) old new
-part_cut due behind old new lt p = record {
-  part = record { out = p.out; rest = p.rest ++ behind; parts = ap (λ (xs : List ℕ). xs ++ behind) p.parts ∙ append_assoc p.out p.rest behind; taken = p.taken };
-  short = omega (arith, length-append p.rest behind);
-}
+part_cut due behind old new lt p =
+    record { part = part_ahead due behind old new p; short = omega (arith, length-append p.rest behind) }
+
+cut_ahead : (due behind : List ℕ) (old new : Option (List ℕ)) → Cut due old new → Cut (due ++ behind) old new
+cut_ahead due behind old new c =
+    record { part = part_ahead due behind old new c.part; short = omega (arith, c.short, length-append c.part.rest behind) }
 
 -- a cause from a count that is as it was
 pub cause_from : (e : Unwritten) (old mid new : ℕ) → mid ≡ old → IsCause e mid new → IsCause e old new
@@ -107,28 +114,84 @@ at_place (x ∷ xs) (suc i) d h =
     let more : suc i + 1 ≡ suc (i + 1) = omega arith in
     rw more (ap (λ (ys : List _). x ∷ ys) (at_place xs i d (omega arith)))
 
-pub entries_split : (classes : List ClassLine) (journal : List Entry) (i : ℕ) (e : Entry) → i < length journal
+-- ---- the lines of entries
+
+pub text-append : (xs ys : List (List ℕ)) → text_of_lines (xs ++ ys) ≡ text_of_lines xs ++ text_of_lines ys
+text-append [] ys = refl
+text-append (l ∷ ls) ys =
+    ap (λ (t : List ℕ). l ++ 10 ∷ t) (text-append ls ys) ∙ sym (append_assoc l (10 ∷ text_of_lines ls) (text_of_lines ys))
+
+entries-append : (s : Script) (es fs : List Entry)
+    → entry_lines s false (es ++ fs) ≡ entry_lines s false es ++ entry_lines s false fs
+entries-append s [] fs = refl
+entries-append s (e ∷ es) fs =
+    ap (λ (ls : List (List ℕ)). line_if s e ++ ls) (entries-append s es fs)
+    ∙ sym (append_assoc (line_if s e) (entry_lines s false es) (entry_lines s false fs))
+
+-- the text of entries, and of the line of one
+abbrev pub text_of : Script → List Entry → List ℕ
+text_of s es = text_of_lines (entry_lines s false es)
+
+abbrev pub text_at : Script → Entry → List ℕ
+text_at s e = text_of_lines (line_if s e)
+
+text_of-append : (s : Script) (es fs : List Entry) → text_of s (es ++ fs) ≡ text_of s es ++ text_of s fs
+text_of-append s es fs = ap text_of_lines (entries-append s es fs) ∙ text-append (entry_lines s false es) (entry_lines s false fs)
+
+pub entries_split : (s : Script) (journal : List Entry) (i : ℕ) (e : Entry) → i < length journal
     → e ≡ get_or journal i e
-    → text_of_lines (entry_lines classes journal) ≡ text_of_lines (entry_lines classes (take i journal)) ++
-    (text_of_lines (lines_if (line_of classes e.thread e.action e.answer)) ++ text_of_lines (entry_lines classes (drop (i + 1) journal)))
-entries_split classes journal i e h is =
+    → text_of s journal ≡ text_of s (take i journal) ++ (text_at s e ++ text_of s (drop (i + 1) journal))
+entries_split s journal i e h is =
     let front = take i journal in
     let behind = drop (i + 1) journal in
     let parts : journal ≡ front ++ e ∷ behind = at_place journal i e h ∙ ap (λ (x : Entry). front ++ x ∷ behind) (sym is) in
-    ap (λ (js : List Entry). text_of_lines (entry_lines classes js)) parts
-    ∙ ap text_of_lines (entry_lines-append classes front (e ∷ behind))
-    ∙ text_of_lines-append (entry_lines classes front) (entry_lines classes (e ∷ behind))
-    ∙ ap (λ (xs : List ℕ). text_of_lines (entry_lines classes front) ++ xs) (text_of_lines-append (lines_if (line_of classes e.thread e.action e.answer)) (entry_lines classes behind))
+    ap (text_of s) parts ∙ text_of-append s front (e ∷ behind)
+    ∙ ap (λ (xs : List ℕ). text_of s front ++ xs) (text-append (line_if s e) (entry_lines s false behind))
 
-pub entries_more : (classes : List ClassLine) (journal : List Entry) (i : ℕ) (e : Entry) → i < length journal
+pub entries_more : (s : Script) (journal : List Entry) (i : ℕ) (e : Entry) → i < length journal
     → e ≡ get_or journal i e
-    → text_of_lines (entry_lines classes (take (i + 1) journal)) ≡ text_of_lines (entry_lines classes (take i journal))
-    ++ text_of_lines (lines_if (line_of classes e.thread e.action e.answer))
-entries_more classes journal i e h is =
+    → text_of s (take (i + 1) journal) ≡ text_of s (take i journal) ++ text_at s e
+entries_more s journal i e h is =
     let front = take i journal in
-    ap (λ (js : List Entry). text_of_lines (entry_lines classes js)) (take_more journal i e h ∙ ap (λ (x : Entry). front ++ x ∷ []) (sym is))
-    ∙ ap text_of_lines (entry_lines-append classes front (e ∷ []) ∙ ap (λ (ls : List (List ℕ)). entry_lines classes front ++ ls) (append-nil (lines_if (line_of classes e.thread e.action e.answer))))
-    ∙ text_of_lines-append (entry_lines classes front) (lines_if (line_of classes e.thread e.action e.answer))
+    ap (text_of s) (take_more journal i e h ∙ ap (λ (x : Entry). front ++ x ∷ []) (sym is))
+    ∙ text_of-append s front (e ∷ [])
+    ∙ ap (λ (ls : List (List ℕ)). text_of s front ++ text_of_lines ls) (append-nil (line_if s e))
+
+-- ---- lines in vectors
+
+-- the text of lines
+abbrev pub text_in : List (Vec ℕ) → List ℕ
+text_in ls = text_of_lines (lines_of ls)
+
+text_in-append : (xs ys : List (Vec ℕ)) → text_in (xs ++ ys) ≡ text_in xs ++ text_in ys
+text_in-append xs ys =
+    ap text_of_lines (map-append (λ (v : Vec ℕ). v.items) xs ys) ∙ text-append (lines_of xs) (lines_of ys)
+
+pub lines_split : (ls : List (Vec ℕ)) (i : ℕ) (l : Vec ℕ) → i < length ls → l ≡ get_or ls i l
+    → text_in ls ≡ text_in (take i ls) ++ ((l.items ++ 10 ∷ []) ++ text_in (drop (i + 1) ls))
+lines_split ls i l h is =
+    let front = take i ls in
+    let behind = drop (i + 1) ls in
+    let parts : ls ≡ front ++ l ∷ behind = at_place ls i l h ∙ ap (λ (x : Vec ℕ). front ++ x ∷ behind) (sym is) in
+    ap text_in parts ∙ text_in-append front (l ∷ behind)
+    ∙ ap (λ (xs : List ℕ). text_in front ++ xs) (sym (append_assoc l.items (10 ∷ []) (text_in behind)))
+
+pub lines_more : (ls : List (Vec ℕ)) (i : ℕ) (l : Vec ℕ) → i < length ls → l ≡ get_or ls i l
+    → text_in (take (i + 1) ls) ≡ text_in (take i ls) ++ (l.items ++ 10 ∷ [])
+lines_more ls i l h is =
+    let front = take i ls in
+    ap text_in (take_more ls i l h ∙ ap (λ (x : Vec ℕ). front ++ x ∷ []) (sym is)) ∙ text_in-append front (l ∷ [])
+
+-- an error of a text in the middle is one of the whole
+pub cut_fails : (e : Unwritten) (before due behind whole : List ℕ) (old mid new : Option (List ℕ))
+    (faults_old faults_mid faults_new : ℕ)
+    → whole ≡ before ++ (due ++ behind) → mid ≡ then_bytes old before → faults_mid ≡ faults_old
+    → Cut due mid new × IsCause e faults_mid faults_new → Cut whole old new × IsCause e faults_old faults_new
+cut_fails e before due behind whole old mid new fo fm fn is b f w =
+    rw is (
+      cut_behind before (due ++ behind) old mid new b (cut_ahead due behind mid new w.0),
+      cause_from e fo fm fn f w.1,
+    )
 
 -- a text in two parts, of which the second is not empty: an error in the first leaves something due, and so does one
 -- between the two
@@ -141,65 +204,28 @@ pub last_missing : (front last whole : List ℕ) (old new : Option (List ℕ)) �
     → new ≡ then_bytes old front → Cut whole old new
 last_missing front last whole old new is some taken = rw is (cut_behind front last old new new taken (cut_none last new new some refl))
 
--- ---- the lines of the objects that are left
-
-module _ (classes : List ClassLine) (objects : List Object) (tallies : List Tally) where
-  -- the line of an object, and the text of the lines below a number
-  abbrev alive_at : ℕ → List (List ℕ)
-  alive_at n = alive_if classes n (class_at objects n) (slice_index_or tallies n nothing)
-
-  abbrev text_below : ℕ → List ℕ
-  text_below n = text_of_lines (alive_below classes objects tallies n)
-
-  abbrev text_at : ℕ → List ℕ
-  text_at n = text_of_lines (alive_at n)
-
-  next_text : (n : ℕ) → text_below (suc n) ≡ text_below n ++ text_at n
-  next_text n = text_of_lines-append (alive_below classes objects tallies n) (alive_at n)
-
-  -- one object more
-  pub alive_more : (n : ℕ) → text_below (n + 1) ≡ text_below n ++ text_at n
-  alive_more n = let more : n + 1 ≡ suc n = omega arith in ap text_below more ∙ next_text n
-
-  pub alive_counted : (n before one : ℕ) → before ≡ length (alive_below classes objects tallies n)
-      → one ≡ length (alive_at n) → before + one ≡ length (alive_below classes objects tallies (n + 1))
-  alive_counted n before one so_far here =
-      let more : suc n ≡ n + 1 = omega arith in
-      ap (λ (k : ℕ). k + one) so_far ∙ ap (λ (k : ℕ). length (alive_below classes objects tallies n) + k) here ∙ sym (length-append (alive_below classes objects tallies n) (alive_at n))
-      ∙ ap (λ (k : ℕ). length (alive_below classes objects tallies k)) more
-
-  -- what is due about the line of an object
-  pub alive_split : (i n : ℕ) → i < n → (behind : List ℕ) × (text_below n ≡ text_below i ++ (text_at i ++ behind))
-  alive_split i zero lt = absurd (omega arith)
-  alive_split i (suc n) lt = elim (eqb_tells i n) [
-    | inl e ↦ ([], next_text n ∙ ap (λ (xs : List ℕ). text_below n ++ xs) (sym (append-nil (text_at n))) ∙ ap (λ (k : ℕ). text_below k ++ (text_at k ++ [])) (sym e.1))
-    | inr e ↦
-        let apart : i ≡ n → ⊥ = e.1 in
-        let p = alive_split i n (below_next i n lt apart) in (
-          p.0 ++ text_at n,
-          next_text n ∙ ap (λ (xs : List ℕ). xs ++ text_at n) p.1 ∙ append_assoc (text_below i) (text_at i ++ p.0) (text_at n) ∙ ap (λ (xs : List ℕ). text_below i ++ xs) (append_assoc (text_at i) p.0 (text_at n)),
-        )
-  ]
-    where
-      below_next : (i n : ℕ) → i < suc n → (i ≡ n → ⊥) → i < n
-      below_next i n lt apart = omega arith
-
 -- a line is some text
 pub line_some : (line : List ℕ) → 0 < length (line ++ 10 ∷ [])
 line_some line = omega (arith, length-append line (10 ∷ []))
 
--- the lines after those of the entries: those of the objects that are left, and the last one
-pub ends_parts : (classes : List ClassLine) (ending : Ending) (events : ℕ) (objects : List Object)
-    (tallies : List Tally) (finals : ℕ)
-    → text_of_lines (ends_of classes ending events objects tallies finals)
-    ≡ text_of_lines (alive_below classes objects tallies (length tallies)) ++ (joined (end_words ending events (length tallies) finals (length (alive_below classes objects tallies (length tallies)))) ++ 10 ∷ [])
-ends_parts classes ending events objects tallies finals =
-    let alive = alive_below classes objects tallies (length tallies) in text_of_lines-append alive (joined (end_words ending events (length tallies) finals (length alive)) ∷ [])
+-- ---- the text of a run
 
-pub ends_some : (classes : List ClassLine) (ending : Ending) (events : ℕ) (objects : List Object)
-    (tallies : List Tally) (finals : ℕ)
-    → 0 < length (text_of_lines (ends_of classes ending events objects tallies finals))
-ends_some classes ending events objects tallies finals =
-    let alive = alive_below classes objects tallies (length tallies) in
-    let last = joined (end_words ending events (length tallies) finals (length alive)) in
-    omega (arith, ap length (ends_parts classes ending events objects tallies finals), length-append (text_of_lines alive) (last ++ 10 ∷ []), line_some last)
+-- the text of the lines at the end
+abbrev pub ends_text : Script → List Entry → Ending → List ℕ
+ends_text s es ending = text_of_lines (end_lines s es (After s es).edges ending)
+
+pub run_parts : (s : Script) (es : List Entry) (ending : Ending)
+    → rendering s es ending false ≡ text_of s es ++ ends_text s es ending
+run_parts s es ending = text-append (entry_lines s false es) (end_lines s es (After s es).edges ending)
+
+pub ends_some : (s : Script) (es : List Entry) (ending : Ending) → 0 < length (ends_text s es ending)
+ends_some s es ending =
+    let st = After s es in
+    let alive = alive_from s.classes 0 st.parts.objects st.parts.finalised st.edges in
+    let last = last_line ending (length es) (length st.parts.objects) (length st.parts.finalised) (length alive) in
+    omega (
+      arith,
+      ap length (text-append alive (last ∷ [])),
+      length-append (text_of_lines alive) (last ++ 10 ∷ []),
+      line_some last,
+    )

@@ -15,8 +15,9 @@ named word = if is_file word then Some word else None
 abbrev pub file_of : List (List ℕ) → Option (List ℕ)
 file_of words =
     if length words == 2 && bytes_eq (word_at words 0) (codes "run") then named (word_at words 1)
-    else (if length words == 3 && (bytes_eq (word_at words 0) (codes "run") && bytes_eq (word_at words 1) (codes "--serial")) then named (word_at words 2)
-    else None)
+    else (if length words == 3
+    && (bytes_eq (word_at words 0) (codes "run") && bytes_eq (word_at words 1) (codes "--serial"))
+    then named (word_at words 2) else None)
 
 -- the words are of one of the two forms
 abbrev pub TakesWords : List (List ℕ) → Type 0

@@ -1,6 +1,6 @@
 -- What a command comes to: the lines that are due, what is said of them, and what each status tells. This
 -- project's own.
-use Rattle.std.specs.Prelude.{◌≡◌, ℕ, ◌<◌, ◌≤◌, ◌⊎◌, Bool, true, false, List, [], ◌∷◌, ◌++◌, ◌==◌, length, codes, Contains, Option, Some, None, IfSome, IsSomeAnd, IsTrue}
+use Rattle.std.specs.Prelude.{◌≡◌, ℕ, ◌<◌, ◌≤◌, ◌⊎◌, false, List, [], ◌∷◌, ◌++◌, length, codes, Contains, Option, Some, None, IfSome, IsSomeAnd}
 use Rattle.std.specs.Fmt.{decimal}
 use Rattle.cf_io.specs.Bytes.{IsAtEnd}
 use Rattle.cf_io.specs.Files.{File, content_of}
@@ -13,18 +13,14 @@ use Rattle.cf_syntax.specs.Refusals.{Refused}
 use Rattle.cf_syntax.specs.Owned.{Owned, Unfit}
 use Rattle.cf_model.specs.declared.entry.Entry.{Entry}
 use Rattle.cf_model.specs.declared.ending.Ending.{Ending}
-use Rattle.cf_model.specs.declared.ending.Ending.TheVariants.{Done, Limit, Full}
-use Rattle.cf_model.specs.OneThread.Steps.{makes}
-use Rattle.cf_model.specs.OneThread.Journals.{Next, After, IsLegal, IsWhole}
-use Rattle.cf_model.specs.OneThread.Endings.{Ends}
-use Rattle.cf_model.specs.OneThread.Finals.{FinalsFit}
-use Rattle.cf_model.specs.OneThread.Serial.{picked, IsSerial, pointer_after}
-use Rattle.cf_model.specs.OneThread.Rendering.{rendering}
+use Rattle.cf_model.specs.declared.ending.Ending.TheVariants.{Done, Limit, Full, Stalled}
+use Rattle.cf_model.specs.Journals.{IsWhole}
+use Rattle.cf_render.specs.Rendering.{rendering}
+use Rattle.cf_serial.specs.Serial.{HasRun}
 use Rattle.cf_run.specs.Calls.{Call, status_is, SourceFailed, SinkFailed, Wrote}
 use Rattle.cf_run.specs.Commands.{file_of, TakesWords}
-use Rattle.cf_run.specs.Tally.{default_limit}
 use Rattle.cf_run.specs.Written.{Cut}
-use Rattle.cf_ids.specs.declared.limits.TheConstants.{SCRIPT_BYTES}
+use Rattle.cf_ids.specs.declared.limits.TheConstants.{SCRIPT_BYTES, DEFAULT_LIMIT}
 
 -- the most bytes of a script
 abbrev pub script_bytes : ℕ
@@ -42,17 +38,12 @@ pub record IsRead (words : List (List ℕ)) (files : Option (List File)) (bytes 
   pub content : IsContent files file bytes
   pub within : length bytes ≤ script_bytes
 
--- a script has one block, which is setup: it has no thread and no handler
-abbrev pub has_one_block : Script → Bool
-has_one_block s = length s.blocks == 1
-
--- the words name a file, it was read, and its bytes are the text of a script that is owned and has one block
+-- the words name a file, it was read, and its bytes are the text of a script that is owned
 pub record IsAccepted (words : List (List ℕ)) (files : Option (List File)) (script : Script) : Type 0 where
   pub bytes : List ℕ
   pub read : IsRead words files bytes
   pub text : Text bytes script
   pub owned : Owned script
-  pub one_block : has_one_block script ≡ true
 
 -- a text whose script is not owned
 pub record IsUnfit (bytes : List ℕ) (r : Refusal) : Type 0 where
@@ -64,17 +55,9 @@ pub record IsUnfit (bytes : List ℕ) (r : Refusal) : Type 0 where
 abbrev pub without_line : Reason → Refusal
 without_line reason = record { line = 0; reason = reason }
 
--- a text whose script is owned, and has further blocks, which do not run yet
-pub record HasMoreBlocks (bytes : List ℕ) (r : Refusal) : Type 0 where
-  pub script : Script
-  pub text : Text bytes script
-  pub owned : Owned script
-  pub more : has_one_block script ≡ false
-  pub reason : r ≡ without_line reasons.Unread
-
--- bytes that are no text, the text of a script that is not owned, or that of one which does not run yet
+-- bytes that are no text, or the text of a script that is not owned
 abbrev pub IsFaulty : List ℕ → Refusal → Type 0
-IsFaulty bytes r = Refused bytes r ⊎ (IsUnfit bytes r ⊎ HasMoreBlocks bytes r)
+IsFaulty bytes r = Refused bytes r ⊎ IsUnfit bytes r
 
 -- the words name a file, it was read, and its bytes are faulty
 pub record IsFaultyFile (words : List (List ℕ)) (files : Option (List File)) (r : Refusal) : Type 0 where
@@ -133,18 +116,14 @@ reason_word reasons.Unbalanced = codes "Unbalanced"
 abbrev pub refusal_text : Refusal → List ℕ
 refusal_text r = codes "refused line " ++ (decimal r.line ++ (codes " " ++ (reason_word r.reason ++ codes "\n")))
 
--- the journal of a run: it is legal and has this ending, with the default limit, and its finals fit
-pub record IsJournal (script : Script) (ending : Ending) (entries : List Entry) : Type 0 where
-  pub legal : IsLegal script entries
-  pub ends : Ends script default_limit entries ending
-  pub finals : FinalsFit script entries
+-- the most entries of a journal
+abbrev pub default_limit : ℕ
+default_limit = DEFAULT_LIMIT
 
--- a run that could make no further object: the next action of the thread that the pointer picks makes one
-abbrev pub StopsSerially : Script → Ending → List Entry → Type 0
-StopsSerially s Full es =
-    IsSomeAnd (picked s (After s es) (pointer_after 0 es))
-    (λ t. IsSomeAnd (Next s (After s es) t) (λ a. IsTrue (makes s a)))
-StopsSerially s _ es = Unit {0}
+-- the journal of a serial run, with the default limit: it is legal and in the serial order, it has this ending, its
+-- callouts and finals fit, and each tick goes to the least date of a sleeper
+abbrev pub IsJournal : Script → Ending → List Entry → Type 0
+IsJournal script ending entries = HasRun script default_limit (Some []) ending entries
 
 -- the lines that are due: by the words, the file and the source's count of faults
 pub data IsDue (call : Call) (due : List ℕ) : Type 0 where
@@ -153,11 +132,9 @@ pub data IsDue (call : Call) (due : List ℕ) : Type 0 where
       → IsDue call due
   fault_due : TakesWords call.words → SourceFailed call → call.journal ≡ [] → due ≡ fault_text → IsDue call due
   run_due : (script : Script) (ending : Ending) → IsAccepted call.words call.source.files script
-      → IsJournal script ending call.journal
-      → IsSerial script call.journal → StopsSerially script ending call.journal
-      → due ≡ rendering script call.journal ending → IsDue call due
+      → IsJournal script ending call.journal → due ≡ rendering script call.journal ending false → IsDue call due
 
--- statuses 0, 7 and 8: an accepted script has run to this ending, and the bytes written are the rendering of its
+-- statuses 0, 7, 8 and 9: an accepted script has run to this ending, and the bytes written are the rendering of its
 -- journal; the source stands at the end of the file, and its count of faults is as it was
 pub record Ran (ending : Ending) (call : Call) : Type 0 where
   pub script : Script
@@ -165,9 +142,7 @@ pub record Ran (ending : Ending) (call : Call) : Type 0 where
   pub at_end : IsAtEnd call.source_after.left
   pub quiet : call.source_after.faults ≡ call.source.faults
   pub journal : IsJournal script ending call.journal
-  pub written : Wrote (rendering script call.journal ending) call
-  pub serial : IsSerial script call.journal
-  pub stops : StopsSerially script ending call.journal
+  pub written : Wrote (rendering script call.journal ending false) call
 
 -- status 2: the words are not of the two forms, and the source was not asked
 pub record Misused (call : Call) : Type 0 where
@@ -212,6 +187,7 @@ pub data Outcome (call : Call) : Type 0 where
   done : status_is 0 call → Ran Done call → Outcome call
   limited : status_is 7 call → Ran Limit call → Outcome call
   full : status_is 8 call → Ran Full call → Outcome call
+  stalled : status_is 9 call → Ran Stalled call → Outcome call
   misused : status_is 2 call → Misused call → Outcome call
   rejected : status_is 3 call → Rejected call → Outcome call
   unreadable : status_is 4 call → Unreadable call → Outcome call
@@ -237,7 +213,6 @@ pub record ReadsScript (call : Call) (script : Script) : Type 0 where
   pub within : length bytes ≤ script_bytes
   pub text : Text bytes script
   pub owned : Owned script
-  pub one_block : has_one_block script ≡ true
 
 -- a refusal is told by its line
 pub record IsTold (r : Refusal) (call : Call) : Type 0 where
@@ -252,6 +227,8 @@ pub record Tells (call : Call) : Type 0 where
   pub limited : status_is 7 call → Ran Limit call
   -- the next action makes an object, and as many were made as a run may make
   pub full : status_is 8 call → Ran Full call
+  -- every thread that is not done sleeps, and none has a date
+  pub stalled : status_is 9 call → Ran Stalled call
   -- the causes of the other statuses, and what is written with each
   pub misused : status_is 2 call → Misused call
   pub rejected : status_is 3 call → Rejected call
@@ -259,12 +236,12 @@ pub record Tells (call : Call) : Type 0 where
   pub unwritten : status_is 5 call → Unwritten call
   pub no_memory : status_is 6 call → Silent call ⊎ Shortened call
   -- there are no others
-  pub statuses : Contains (0 ∷ 2 ∷ 3 ∷ 4 ∷ 5 ∷ 6 ∷ 7 ∷ 8 ∷ []) call.status
-  -- faulty words give 2, unless a count rose or memory ran out
+  pub statuses : Contains (0 ∷ 2 ∷ 3 ∷ 4 ∷ 5 ∷ 6 ∷ 7 ∷ 8 ∷ 9 ∷ []) call.status
+  -- faulty words give 2, unless the sink's count rose or memory ran out
   pub misuse_is_told : file_of call.words ≡ None → ¬ (SinkFailed call) → status_is 2 call ⊎ status_is 6 call
-  -- of a source that tells its files: an accepted script runs, one whose journal is whole gives 0, and of a refused one
-  -- its line and reason are told
-  pub accepted_runs : (script : Script) → ReadsScript call script → Contains (0 ∷ 6 ∷ 7 ∷ 8 ∷ []) call.status
+  -- of a source that tells its files, if no count rose: an accepted script runs, one whose journal is whole gives 0, and
+  -- of a refused one its line and reason are told
+  pub accepted_runs : (script : Script) → ReadsScript call script → Contains (0 ∷ 6 ∷ 7 ∷ 8 ∷ 9 ∷ []) call.status
   pub whole_runs : (script : Script) → ReadsScript call script → IsWhole script call.journal
       → status_is 0 call ⊎ status_is 6 call
   pub refused_is_told : (bytes : List ℕ) (r : Refusal) → Reads call bytes → IsRefusedText bytes r

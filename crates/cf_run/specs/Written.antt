@@ -1,7 +1,10 @@
 -- What of the lines due a sink has taken. This project's own.
-use Rattle.std.specs.Prelude.{◌≡◌, ℕ, ◌<◌, List, ◌++◌, length, Option, Result, Ok, Err}
+use Rattle.std.specs.Prelude.{◌≡◌, ℕ, ◌<◌, false, List, [], ◌∷◌, ◌++◌, length, Option, Result, Ok, Err, if◌then◌else◌}
 use Rattle.cf_fault.specs.Fault.{HasRisen}
 use Rattle.cf_io.specs.Bytes.{then_bytes}
+use Rattle.cf_syntax.specs.declared.script.Script.{Script}
+use Rattle.cf_model.specs.declared.entry.Entry.{Entry}
+use Rattle.cf_render.specs.Rendering.{is_written, line}
 use Rattle.cf_run.specs.declared.output.Unwritten.{Unwritten}
 use Rattle.cf_run.specs.declared.output.Unwritten.TheVariants.{Fault, NoMemory}
 
@@ -33,3 +36,7 @@ abbrev pub WritesAll : {T : Type 0} → Result T Unwritten → List ℕ → (old
     → Type 0
 WritesAll (Ok x) due old new faults faults' = (new ≡ then_bytes old due) × (faults' ≡ faults)
 WritesAll (Err e) due old new faults faults' = Cut due old new × IsCause e faults faults'
+
+-- the line of an entry, if it is written
+abbrev pub line_if : Script → Entry → List (List ℕ)
+line_if s e = if is_written false e then line s e ∷ [] else []

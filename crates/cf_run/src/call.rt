@@ -2,7 +2,7 @@
 ghost use Rattle.std.specs.Prelude.{◌≡◌, ℕ, List};
 ghost use Rattle.cf_run.specs.Calls.{SourceState, told_by, took_by, call_by, call_of};
 ghost use Rattle.cf_run.specs.Outcomes.{Outcome, Tells};
-ghost use Rattle.cf_run.specs.Settled.{HasFew, Settles, due_of, status_after as after};
+ghost use Rattle.cf_run.specs.Settled.{CanWrite, Settles, due_of, status_after as after};
 ghost use Rattle.cf_run.specs.Written.{WritesAll};
 
 use crate::lines::refusal_line;
@@ -14,7 +14,7 @@ use std::alloc::Global;
 
 // Writes the lines that are due.
 fn write_settled<K: Sink>(alloc: Global, sink: &mut K, settled: &Settled) -> Result<(), Unwritten>
-    requires { HasFew settled.now }
+    requires { CanWrite settled.now }
     ensures { WritesAll result (due_of settled.now) (K.taken sink.old) (K.taken sink.new) (K.faults sink.old)
         (K.faults sink.new) }
 {
@@ -25,7 +25,7 @@ fn write_settled<K: Sink>(alloc: Global, sink: &mut K, settled: &Settled) -> Res
             let line = refusal_line(alloc, *refusal)?;
             write_text(sink, line.as_bytes())
         }
-        Settled::Ran(over) => write_run(alloc, sink, over),
+        Settled::Ran(ran) => write_run(alloc, sink, ran),
     }
 }
 
@@ -42,9 +42,10 @@ fn status_after(written: Result<(), Unwritten>, settled: &Settled) -> u8
 
 // Writes the lines that are due, and reports.
 fn conclude<K: Sink>(alloc: Global, sink: &mut K, settled: Settled) -> Report
-    requires { HasFew settled }
+    requires { CanWrite settled }
     ensures { (words : List (List ℕ)) (before after : SourceState) → Settles words before after settled
-        → Outcome (call_by words before after (took_by K.taken K.faults sink.old) (took_by K.taken K.faults sink.new) result) }
+        → Outcome (call_by words before after (took_by K.taken K.faults sink.old)
+        (took_by K.taken K.faults sink.new) result) }
 {
     let written = write_settled(alloc, sink, &settled);
     let status = status_after(written, &settled);
@@ -80,7 +81,8 @@ fn run_command<S: Source, K: Sink>(
 ///
 /// The status is 0 if the script ran to its end; 2 if the words are of no form; 3 where the file is refused; 4 where
 /// it could not be read; 5 where a line could not be written; 6 where memory ran out; 7 where the journal was at its
-/// limit of 1,000,000 entries before the script's end; 8 where the next action makes an object, and 65,536 were made.
+/// limit of 1,000,000 entries before the script's end; 8 where the next action makes an object, and 65,536 were made; 9
+/// where every thread that is not done sleeps without a date.
 pub fn cfrun_serial<S: Source, K: Sink>(
     alloc: Global,
     words: &[&str],

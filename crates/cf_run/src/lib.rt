@@ -7,10 +7,9 @@ mod command;
 mod lines;
 mod output;
 mod report;
-mod serial;
 mod settle;
-mod tally;
 
 pub use call::cfrun_serial;
 pub use cf_model::{Action, Ending, Entry};
+pub use cf_serial::{Ran, serial_run};
 pub use report::Report;

@@ -1,20 +1,16 @@
 //! Lines go out, each by one `write_all`.
-ghost use Rattle.std.specs.Prelude.{◌≡◌, ◌≤◌, length, IfOk};
-ghost use Rattle.cf_ids.specs.declared.limits.TheConstants.{OBJECTS};
-ghost use Rattle.cf_model.specs.OneThread.Rendering.{line_of, lines_if, entry_lines, text_of_lines};
-ghost use Rattle.cf_world.specs.Worlds.{state_of};
-ghost use Rattle.cf_run.specs.Lines.{class_at, alive_if, alive_below, ends_of, classes_in, run_text};
+ghost use Rattle.std.specs.Prelude.{◌≡◌, ◌∷◌, ◌++◌, [], false, OnOk};
+ghost use Rattle.cf_render.specs.Ends.{lines_of};
+ghost use Rattle.cf_render.specs.Rendering.{entry_lines, rendering, text_of_lines};
+ghost use Rattle.cf_run.specs.Settled.{HasRunBy};
+ghost use Rattle.cf_run.specs.Written.{Writes, WritesAll, line_if};
 ghost use Rattle.cf_run.specs.declared.output.Unwritten.TheVariants.{NoMemory};
-ghost use Rattle.cf_run.specs.Written.{Writes, WritesAll};
 
-use crate::lines::{alive_line, end_line, entry_line};
-use crate::serial::Over;
-use crate::tally::Tally;
-use cf_ids::ObjId;
 use cf_io::{Sink, write_all};
 use cf_model::Entry;
-use cf_script::ClassLine;
-use cf_world::World;
+use cf_render::{edges_in_any_order, end_lines, is_written, put_line};
+use cf_script::Script;
+use cf_serial::Ran;
 use std::alloc::{AllocError, Global};
 use thiserror::Error;
 
@@ -47,126 +43,81 @@ pub fn write_text<K: Sink>(sink: &mut K, text: &[u8]) -> Result<(), Unwritten>
     }
 }
 
-// Writes the line of an entry, where one is written.
+// Writes the line of an entry, if it is written. The line stands in a text that each line uses again.
 fn write_entry<K: Sink>(
-    alloc: Global,
     sink: &mut K,
-    classes: &[ClassLine],
+    text: &mut Vec<u8>,
+    script: &Script,
     entry: &Entry,
 ) -> Result<(), Unwritten>
-    ensures { Writes result
-        (text_of_lines (lines_if (line_of classes.now entry.now.thread entry.now.action entry.now.answer)))
-        (K.taken sink.old) (K.taken sink.new) (K.faults sink.old) (K.faults sink.new) }
+    ensures { Writes result (text_of_lines (line_if script.now entry.now)) (K.taken sink.old) (K.taken sink.new)
+        (K.faults sink.old) (K.faults sink.new) }
 {
-    match entry_line(alloc, classes, entry)? {
-        Some(line) => write_text(sink, line.as_slice()),
-        None => Ok(()),
+    if !is_written(false, entry) {
+        return Ok(());
     }
+    text.clear();
+    put_line(text, script, entry)?;
+    write_text(sink, text.as_slice())
 }
 
 // Writes the lines of the entries.
 fn write_entries<K: Sink>(
     alloc: Global,
     sink: &mut K,
-    classes: &[ClassLine],
+    script: &Script,
     journal: &[Entry],
 ) -> Result<(), Unwritten>
-    ensures { Writes result (text_of_lines (entry_lines classes.now journal.now)) (K.taken sink.old) (K.taken sink.new)
-        (K.faults sink.old) (K.faults sink.new) }
+    ensures { Writes result (text_of_lines (entry_lines script.now false journal.now)) (K.taken sink.old)
+        (K.taken sink.new) (K.faults sink.old) (K.faults sink.new) }
 {
+    let mut text = Vec::new(alloc);
     for entry in journal {
-        write_entry(alloc, sink, classes, entry)?;
+        write_entry(sink, &mut text, script, entry)?;
     }
     Ok(())
 }
 
-// Writes the line of an object, where references lead to it, and gives how many lines that are.
-fn write_alive<K: Sink>(
-    alloc: Global,
-    sink: &mut K,
-    classes: &[ClassLine],
-    world: &World,
-    object: ObjId,
-    tally: Tally,
-) -> Result<usize, Unwritten>
-    ensures text { Writes result
-        (text_of_lines (alive_if classes.now object (class_at (state_of world.now).objects object) tally))
-        (K.taken sink.old) (K.taken sink.new) (K.faults sink.old) (K.faults sink.new) }
-    ensures count { IfOk result
-        (λ n. n ≡ length (alive_if classes.now object (class_at (state_of world.now).objects object) tally)) }
-    ensures few { IfOk result (λ n. n ≤ 1) }
+// Puts a line with its line feed in a text's place.
+fn put_in_place(text: &mut Vec<u8>, line: &[u8]) -> Result<(), AllocError>
+    ensures { OnOk result (text.new.items ≡ line.now ++ 10 ∷ []) }
 {
-    match alive_line(alloc, classes, world, object, tally)? {
-        Some(line) => {
-            write_text(sink, line.as_slice())?;
-            Ok(1)
-        }
-        None => Ok(0),
-    }
+    text.clear();
+    text.extend_from_slice(line)?;
+    Ok(text.push(b'\n')?)
 }
 
-// Writes the lines of the objects that are left, by how many references lead to each, and gives how many lines these
-// are.
-fn write_left<K: Sink>(
-    alloc: Global,
-    sink: &mut K,
-    classes: &[ClassLine],
-    world: &World,
-    tallies: &[Tally],
-) -> Result<usize, Unwritten>
-    requires { length tallies.now ≤ OBJECTS }
-    ensures text { Writes result
-        (text_of_lines (alive_below classes.now (state_of world.now).objects tallies.now (length tallies.now)))
-        (K.taken sink.old) (K.taken sink.new) (K.faults sink.old) (K.faults sink.new) }
-    ensures count { IfOk result
-        (λ n. n ≡ length (alive_below classes.now (state_of world.now).objects tallies.now (length tallies.now))) }
+// Writes a line that has no line feed yet. It stands in a text that each line uses again.
+fn write_line<K: Sink>(sink: &mut K, text: &mut Vec<u8>, line: &[u8]) -> Result<(), Unwritten>
+    ensures { WritesAll result (line.now ++ 10 ∷ []) (K.taken sink.old) (K.taken sink.new) (K.faults sink.old)
+        (K.faults sink.new) }
 {
-    let mut alive = 0;
-    for (number, tally) in tallies.iter().enumerate() {
-        let object = ObjId(number as u32);
-        alive += write_alive(alloc, sink, classes, world, object, *tally)?;
-    }
-    Ok(alive)
+    put_in_place(text, line)?;
+    write_text(sink, text.as_slice())
 }
 
-// Writes the lines after those of the entries: one for each object that is left, and the last one.
-fn write_ends<K: Sink>(
-    alloc: Global,
-    sink: &mut K,
-    classes: &[ClassLine],
-    events: usize,
-    over: &Over,
-) -> Result<(), Unwritten>
-    requires { length over.now.tallies.items ≤ OBJECTS }
-    ensures { WritesAll result
-        (text_of_lines (ends_of classes.now over.now.ending events (state_of over.now.world).objects over.now.tallies.items over.now.finals))
-        (K.taken sink.old) (K.taken sink.new) (K.faults sink.old) (K.faults sink.new) }
+// Writes lines that have no line feeds yet.
+fn write_lines<K: Sink>(alloc: Global, sink: &mut K, lines: &[Vec<u8>]) -> Result<(), Unwritten>
+    ensures { WritesAll result (text_of_lines (lines_of lines.now)) (K.taken sink.old) (K.taken sink.new)
+        (K.faults sink.old) (K.faults sink.new) }
 {
-    let tallies = over.tallies.as_slice();
-    let alive = write_left(alloc, sink, classes, &over.world, tallies)?;
-    let made = tallies.len();
-    let line = end_line(alloc, over.ending, events, made, over.finals, alive)?;
-    write_text(sink, line.as_slice())
-}
-
-// The type names of a world's script.
-fn classes_of(world: &World) -> &[ClassLine]
-    ensures { result.now ≡ classes_in world.now.script }
-{
-    match world.script() {
-        Some(checked) => checked.script().classes(),
-        None => &[],
+    let mut text = Vec::new(alloc);
+    for line in lines {
+        write_line(sink, &mut text, line)?;
     }
+    Ok(())
 }
 
 /// Writes the lines of a run that is over.
-pub fn write_run<K: Sink>(alloc: Global, sink: &mut K, over: &Over) -> Result<(), Unwritten>
-    requires { length over.now.tallies.items ≤ OBJECTS }
-    ensures { WritesAll result (run_text over.now.world over.now.ending over.now.tallies.items over.now.finals)
-        (K.taken sink.old) (K.taken sink.new) (K.faults sink.old) (K.faults sink.new) }
+pub fn write_run<K: Sink>(alloc: Global, sink: &mut K, ran: &Ran) -> Result<(), Unwritten>
+    requires { HasRunBy ran.now }
+    ensures { WritesAll result (rendering ran.now.script ran.now.journal.items ran.now.ending false) (K.taken sink.old)
+        (K.taken sink.new) (K.faults sink.old) (K.faults sink.new) }
 {
-    let classes = classes_of(&over.world);
-    let journal = over.world.journal();
-    write_entries(alloc, sink, classes, journal)?;
-    write_ends(alloc, sink, classes, journal.len(), over)
+    let script = ran.script.script();
+    let journal = ran.journal.as_slice();
+    write_entries(alloc, sink, script, journal)?;
+    edges_in_any_order();
+    let lines = end_lines(alloc, script, journal, ran.edges.as_slice(), ran.ending)?;
+    write_lines(alloc, sink, lines.as_slice())
 }

@@ -6,7 +6,7 @@ use cf_model::Entry;
 /// has run.
 #[derive(Drop)]
 pub struct Report {
-    /// The exit status: 0, or 2 to 8, as `cfrun_serial` says.
+    /// The exit status: 0, or 2 to 9, as `cfrun_serial` says.
     pub status: u8,
     /// The entries of the run, from the first on; none if no script has run.
     pub journal: Vec<Entry>,

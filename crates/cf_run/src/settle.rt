@@ -6,18 +6,17 @@ ghost use Rattle.cf_io.specs.Whole.{UnlessReadFault};
 ghost use Rattle.cf_io.specs.Bytes.{IsAtEnd};
 ghost use Rattle.cf_io.specs.Files.{content_of};
 ghost use Rattle.cf_run.specs.Calls.{told_by};
-ghost use Rattle.cf_run.specs.Lines.{entries_in};
-ghost use Rattle.cf_run.specs.Outcomes.{IsContent, has_one_block};
+ghost use Rattle.cf_run.specs.Outcomes.{IsContent};
 ghost use Rattle.cf_run.specs.Settled.{Accepts, SettlesBytes, Settles, status_by, status_of, entries_of};
 
 use crate::command::file_of;
-use crate::serial::{Over, run_script};
-use cf_ids::SCRIPT_BYTES;
+use cf_ids::{DEFAULT_LIMIT, SCRIPT_BYTES};
 use cf_io::{ReadAll, Source, read_all};
 use cf_model::{Ending, Entry};
+use cf_outside::StepClock;
 use cf_owncheck::{Checked, OwnFault, check_owners};
-use cf_script::{Reason, Refusal, Script, ScriptFault, read_script};
-use cf_world::World;
+use cf_script::{Reason, Refusal, ScriptFault, read_script};
+use cf_serial::{Ran, serial_run};
 use std::alloc::{AllocError, Global};
 
 /// What a command came to.
@@ -30,7 +29,7 @@ pub enum Settled {
     /// Its bytes are refused.
     Refused(Refusal),
     /// Its script has run.
-    Ran(Over),
+    Ran(Ran),
 }
 
 // The bytes of a file, where they are no more than a script may have.
@@ -40,35 +39,22 @@ fn read_file<S: Source>(alloc: Global, source: &mut S, name: &str) -> Result<Vec
     ensures at_end { OnOk result (IsAtEnd (S.left source.new)) }
     ensures quiet { UnlessReadFault result (S.faults source.new ≡ S.faults source.old) }
     ensures too_long { IsErrOf result ReadAll.TooLong →
-        IfSome (S.files source.old) (λ told. IsSomeAnd (content_of told name.now) (λ bytes. SCRIPT_BYTES < length bytes)) }
+        IfSome (S.files source.old)
+        (λ told. IsSomeAnd (content_of told name.now) (λ bytes. SCRIPT_BYTES < length bytes)) }
     ensures fault { IsErrOf result ReadAll.ReadFault → HasRisen (S.faults source.old) (S.faults source.new) }
 {
     source.open(name).map_err(|_| ReadAll::ReadFault)?;
     read_all(alloc, source, SCRIPT_BYTES)
 }
 
-// A script has no block but setup.
-fn has_one_block(script: &Script) -> bool
-    ensures { result ≡ has_one_block script.now }
-{
-    script.blocks().len() == 1
-}
-
-// The refusal of a script that does not run yet.
-const NOT_RUN: Refusal = Refusal {
-    line: 0,
-    reason: Reason::Unread,
-};
-
-// The owned script of one block that bytes are the text of.
+// The owned script that bytes are the text of.
 #[tactic(auto, using(cf_syntax::proofs::RefusalLaws::refused_from))]
 fn accept(alloc: Global, bytes: &[u8]) -> Result<Checked, ScriptFault>
     requires { length bytes.now ≤ SCRIPT_BYTES }
     ensures { Accepts result bytes.now }
 {
     match check_owners(read_script(alloc, bytes)?) {
-        Ok(checked) if has_one_block(checked.script()) => Ok(checked),
-        Ok(_) => Err(ScriptFault::Refused(NOT_RUN)),
+        Ok(checked) => Ok(checked),
         Err(OwnFault::Refused(refusal)) => Err(ScriptFault::Refused(refusal)),
         Err(OwnFault::NoMemory) => Err(ScriptFault::NoMemory),
     }
@@ -81,8 +67,8 @@ fn settle_bytes(alloc: Global, bytes: &[u8]) -> Result<Settled, AllocError>
 {
     match accept(alloc, bytes) {
         Ok(checked) => {
-            let over = run_script(alloc, checked)?;
-            Ok(Settled::Ran(over))
+            let ran = serial_run(alloc, checked, DEFAULT_LIMIT as u32, &mut StepClock)?;
+            Ok(Settled::Ran(ran))
         }
         Err(ScriptFault::Refused(refusal)) => Ok(Settled::Refused(refusal)),
         Err(ScriptFault::NoMemory) => Err(AllocError),
@@ -126,23 +112,13 @@ fn ending_status(ending: Ending) -> u8
     }
 }
 
-// The journal of a world.
-fn journal_of(alloc: Global, world: World) -> Vec<Entry>
-    ensures { result.items ≡ entries_in world.script world.journal }
-{
-    match world.end() {
-        Some((_, journal)) => journal,
-        None => Vec::new(alloc),
-    }
-}
-
 impl Settled {
     /// The exit status where all its lines are written.
     pub fn status(&self) -> u8
         ensures { result ≡ status_of self.now }
     {
         match self {
-            Settled::Ran(over) => ending_status(over.ending),
+            Settled::Ran(ran) => ending_status(ran.ending),
             Settled::Usage => 2,
             Settled::Refused(_) => 3,
             Settled::ReadFault => 4,
@@ -154,7 +130,7 @@ impl Settled {
         ensures { result.items ≡ entries_of self }
     {
         match self {
-            Settled::Ran(over) => journal_of(alloc, over.world),
+            Settled::Ran(ran) => ran.journal,
             _ => Vec::new(alloc),
         }
     }

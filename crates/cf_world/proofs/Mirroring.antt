@@ -4,14 +4,26 @@ use Rattle.std.specs.Prelude.{slice_get}
 use Rattle.std.specs.Option.{option_map}
 use Rattle.std.proofs.lemmas.Bool.{eq-eqb, cases_lt}
 use Rattle.std.proofs.lemmas.Bool.Decides.{nat_tests, eqb_tells}
-use Rattle.cf_graph.specs.OneThread.Edges.{counted}
+use Rattle.cf_graph.specs.Edges.{counted}
 use Rattle.cf_contents.specs.Contents.{Object, times, slots_in, slots_at}
-use Rattle.cf_contents.specs.Deeds.{Change, objects_after}
-use Rattle.cf_contents.specs.Stores.{Held, live, with_body, body_changed, body_finalised, body_dropped, bodies_changed, is_live_body, is_live_in, given_up_by, given_up_in, left_to, left_in}
+use Rattle.cf_contents.specs.Deeds.{Change, unchanged, objects_after}
+use Rattle.cf_contents.specs.Stores.{Held, objects_of, live, with_body, body_changed, body_finalised, body_dropped, bodies_changed, is_live_body, is_live_in, given_up_by, given_up_in, left_to, left_in}
 use Rattle.cf_contents.proofs.BodyLaws.{get-map, get-own, get-other, length-objects, objects-changed, objects-kept, objects-append}
 use Rattle.cf_contents.proofs.ContentLaws.{length-objects_after}
-use Rattle.cf_model.specs.OneThread.State.{Work, release_of, slots_of, left_of, trimmed}
-use Rattle.cf_world.specs.Mirrors.{Mirrors, trimmed_by}
+use Rattle.cf_model.specs.State.{Parts, left_of}
+use Rattle.cf_world.specs.Grounds.{Mirrors}
+
+-- bodies mirror the objects that were made, those that are finalised, and the bodies of the slots that were given up
+pub record AreMirrored (objects : List Object) (finalised dropped : List ℕ) (bodies : List Held) : Type 0 where
+  pub objects_are : objects_of bodies ≡ objects
+  pub lives : (o : ℕ) → is_live_in bodies o ≡ (ltb o (length objects) && (times o finalised == 0))
+  pub given_up : (o : ℕ) → given_up_in bodies o ≡ times o dropped
+
+pub mirrored : (p : Parts) (bodies : List Held) → Mirrors p bodies → AreMirrored p.objects p.finalised p.dropped bodies
+mirrored p bodies h = record { objects_are = h.objects_are; lives = h.live; given_up = h.given_up }
+
+pub mirrors_by : (p : Parts) (bodies : List Held) → AreMirrored p.objects p.finalised p.dropped bodies → Mirrors p bodies
+mirrors_by p bodies h = record { objects_are = h.objects_are; live = h.lives; given_up = h.given_up }
 
 -- ---- the slots that are left
 
@@ -23,16 +35,10 @@ left_is : (bodies : List Held) (o : ℕ) (n : ℕ) (h : Option Held) → slice_g
 left_is bodies o n None e g = sym (drop-none n)
 left_is bodies o n (Some h) e g = ap (λ (k : ℕ). drop k (slots_in h.object.content)) g
 
-pub left-mirrors : (objects : List Object) (finalised dropped : List ℕ) (bodies : List Held) (o : ℕ) → Mirrors objects finalised dropped bodies → left_in bodies o ≡ left_of objects dropped o
+pub left-mirrors : (objects : List Object) (finalised dropped : List ℕ) (bodies : List Held) (o : ℕ) → AreMirrored objects finalised dropped bodies → left_in bodies o ≡ left_of objects dropped o
 left-mirrors objects finalised dropped bodies o h =
     left_is bodies o (times o dropped) (slice_get bodies o) refl (h.given_up o)
     ∙ ap (λ (ob : Option Object). drop (times o dropped) (slots_at ob)) (sym (get-map bodies o) ∙ ap (λ (os : List Object). slice_get os o) h.objects_are)
-
-pub trimmed-mirrors : (objects : List Object) (finalised dropped : List ℕ) (bodies : List Held) (work : List Work) → Mirrors objects finalised dropped bodies → trimmed_by bodies work ≡ trimmed objects dropped work
-trimmed-mirrors objects finalised dropped bodies [] h = refl
-trimmed-mirrors objects finalised dropped bodies (release_of o ∷ work) h = refl
-trimmed-mirrors objects finalised dropped bodies (slots_of b ∷ work) h =
-    rw (left-mirrors objects finalised dropped bodies b h, trimmed-mirrors objects finalised dropped bodies work h) refl
 
 -- ---- a change
 
@@ -64,10 +70,10 @@ given-changed : (o : Option ℕ) (change : Change) (bodies : List Held) (p : ℕ
 given-changed None change bodies p = refl
 given-changed (Some o) change bodies p = given-body (body_changed change) (λ h. refl) o p bodies
 
-pub mirrors_changed : (objects : List Object) (finalised dropped : List ℕ) (bodies : List Held) (o : Option ℕ) (change : Change) → Mirrors objects finalised dropped bodies → Mirrors (objects_after o change objects) finalised dropped (bodies_changed o change bodies)
-mirrors_changed objects finalised dropped bodies o change h = record {
+pub mirrored_changed : (objects : List Object) (finalised dropped : List ℕ) (bodies : List Held) (o : Option ℕ) (change : Change) → AreMirrored objects finalised dropped bodies → AreMirrored (objects_after o change objects) finalised dropped (bodies_changed o change bodies)
+mirrored_changed objects finalised dropped bodies o change h = record {
   objects_are = objects-changed o change bodies ∙ ap (objects_after o change) h.objects_are;
-  live = λ p. rw (length-objects_after o change objects) (live-changed o change bodies p ∙ h.live p);
+  lives = λ p. rw (length-objects_after o change objects) (live-changed o change bodies p ∙ h.lives p);
   given_up = λ p. given-changed o change bodies p ∙ h.given_up p;
 }
 
@@ -90,7 +96,7 @@ get-past [] o h = refl
 get-past (x ∷ xs) zero h = absurd (omega arith)
 get-past (x ∷ xs) (suc o) h = get-past xs o (omega arith)
 
-module _ (objects : List Object) (finalised dropped : List ℕ) (bodies : List Held) (ob : Object) (h : Mirrors objects finalised dropped bodies) (unmade : times (length objects) finalised ≡ 0) (undropped : times (length objects) dropped ≡ 0) where
+module _ (objects : List Object) (finalised dropped : List ℕ) (bodies : List Held) (ob : Object) (h : AreMirrored objects finalised dropped bodies) (unmade : times (length objects) finalised ≡ 0) (undropped : times (length objects) dropped ≡ 0) where
   size : length bodies ≡ length objects
   size = sym (length-objects bodies) ∙ ap length h.objects_are
 
@@ -109,7 +115,7 @@ module _ (objects : List Object) (finalised dropped : List ℕ) (bodies : List H
   before_live p below =
       let old : ltb p (length objects) ≡ true = grind (arith, nat_tests) in
       let new : ltb p (length (objects ++ ob ∷ [])) ≡ true = rw more (grind (arith, nat_tests)) in
-      rw new (ap is_live_body (get-before bodies (live ob) p (omega (arith, below, size))) ∙ h.live p ∙ rw old refl)
+      rw new (ap is_live_body (get-before bodies (live ob) p (omega (arith, below, size))) ∙ h.lives p ∙ rw old refl)
 
   past_none : (p : ℕ) → length objects < p → slice_get (bodies ++ live ob ∷ []) p ≡ None
   past_none p above = get-past (bodies ++ live ob ∷ []) p (omega (arith, above, size, length-append bodies (live ob ∷ [])))
@@ -122,10 +128,10 @@ module _ (objects : List Object) (finalised dropped : List ℕ) (bodies : List H
   past_given : (p : ℕ) → length objects < p → given_up_in (bodies ++ live ob ∷ []) p ≡ times p dropped
   past_given p above = ap given_up_by (past_none p above ∙ sym (get-past bodies p (omega (arith, above, size)))) ∙ h.given_up p
 
-  pub mirrors_made : Mirrors (objects ++ ob ∷ []) finalised dropped (bodies ++ live ob ∷ [])
-  mirrors_made = record {
+  pub mirrored_made : AreMirrored (objects ++ ob ∷ []) finalised dropped (bodies ++ live ob ∷ [])
+  mirrored_made = record {
     objects_are = objects-append bodies (live ob ∷ []) ∙ ap (λ (os : List Object). os ++ ob ∷ []) h.objects_are;
-    live = λ p. elim (cases_lt p (length objects)) [
+    lives = λ p. elim (cases_lt p (length objects)) [
       | inl below ↦ before_live p below
       | inr above ↦ elim (eqb_tells (length objects) p) [
         | inl e ↦ subst (λ (k : ℕ). is_live_in (bodies ++ live ob ∷ []) k ≡ (ltb k (length (objects ++ ob ∷ [])) && (times k finalised == 0))) e.1 end_live
@@ -148,7 +154,7 @@ some_made [] o lt = absurd (omega arith)
 some_made (b ∷ bs) zero lt = (b, refl)
 some_made (b ∷ bs) (suc o) lt = some_made bs o (omega arith)
 
-module _ (objects : List Object) (finalised dropped : List ℕ) (bodies : List Held) (o : ℕ) (h : Mirrors objects finalised dropped bodies) (made : o < length objects) where
+module _ (objects : List Object) (finalised dropped : List ℕ) (bodies : List Held) (o : ℕ) (h : AreMirrored objects finalised dropped bodies) (made : o < length objects) where
   within : o < length bodies
   within = omega (arith, made, length-objects bodies, ap length h.objects_are)
 
@@ -160,15 +166,15 @@ module _ (objects : List Object) (finalised dropped : List ℕ) (bodies : List H
       let some : (times o (o ∷ finalised) == 0) ≡ false = grind (arith, nat_tests) in
       ap is_live_body (get-own body_finalised o bodies ∙ ap (option_map body_finalised) there.1) ∙ sym (rw (below, some) refl)
 
-  pub mirrors_finalised : Mirrors objects (o ∷ finalised) dropped (with_body body_finalised o bodies)
-  mirrors_finalised = record {
+  pub mirrored_finalised : AreMirrored objects (o ∷ finalised) dropped (with_body body_finalised o bodies)
+  mirrored_finalised = record {
     objects_are = objects-kept body_finalised (λ b. refl) o bodies ∙ h.objects_are;
-    live = λ p. elim (eqb_tells o p) [
+    lives = λ p. elim (eqb_tells o p) [
       | inl e ↦ subst (λ (k : ℕ). is_live_in (with_body body_finalised o bodies) k ≡ (ltb k (length objects) && (times k (o ∷ finalised) == 0))) e.1 finalised_live
       | inr e ↦
           let none : counted (eqb o p) ≡ 0 = ap counted e.0 in
           let same : times p (o ∷ finalised) ≡ times p finalised = omega (arith, none) in
-          ap is_live_body (get-other body_finalised o p bodies e.1) ∙ h.live p ∙ sym (ap (λ (n : ℕ). ltb p (length objects) && (n == 0)) same)
+          ap is_live_body (get-other body_finalised o p bodies e.1) ∙ h.lives p ∙ sym (ap (λ (n : ℕ). ltb p (length objects) && (n == 0)) same)
     ];
     given_up = λ p. given-body body_finalised (λ b. refl) o p bodies ∙ h.given_up p;
   }
@@ -180,10 +186,10 @@ module _ (objects : List Object) (finalised dropped : List ℕ) (bodies : List H
       let before : there.0.given_up ≡ times o dropped = ap given_up_by (sym there.1) ∙ h.given_up o in
       ap given_up_by (get-own body_dropped o bodies ∙ ap (option_map body_dropped) there.1) ∙ omega (arith, before, own)
 
-  pub mirrors_dropped : Mirrors objects finalised (o ∷ dropped) (with_body body_dropped o bodies)
-  mirrors_dropped = record {
+  pub mirrored_dropped : AreMirrored objects finalised (o ∷ dropped) (with_body body_dropped o bodies)
+  mirrored_dropped = record {
     objects_are = objects-kept body_dropped (λ b. refl) o bodies ∙ h.objects_are;
-    live = λ p. live-body body_dropped (λ b. refl) o p bodies ∙ h.live p;
+    lives = λ p. live-body body_dropped (λ b. refl) o p bodies ∙ h.lives p;
     given_up = λ p. elim (eqb_tells o p) [
       | inl e ↦ subst (λ (k : ℕ). given_up_in (with_body body_dropped o bodies) k ≡ times k (o ∷ dropped)) e.1 dropped_own
       | inr e ↦
@@ -191,3 +197,19 @@ module _ (objects : List Object) (finalised dropped : List ℕ) (bodies : List H
           ap given_up_by (get-other body_dropped o p bodies e.1) ∙ h.given_up p ∙ omega (arith, none)
     ];
   }
+
+-- ---- a change of nothing
+
+body_unchanged : (o : ℕ) (bodies : List Held) → with_body (body_changed unchanged) o bodies ≡ bodies
+body_unchanged o [] = refl
+body_unchanged zero (h ∷ hs) = refl
+body_unchanged (suc o) (h ∷ hs) = ap (λ (bs : List Held). h ∷ bs) (body_unchanged o hs)
+
+pub bodies_unchanged : (o : Option ℕ) (bodies : List Held) → bodies_changed o unchanged bodies ≡ bodies
+bodies_unchanged None bodies = refl
+bodies_unchanged (Some o) bodies = body_unchanged o bodies
+
+-- ---- how many objects were made
+
+pub count-mirrors : (p : Parts) (bodies : List Held) → Mirrors p bodies → length bodies ≡ length p.objects
+count-mirrors p bodies h = sym (length-objects bodies) ∙ ap length h.objects_are

@@ -1,378 +1,429 @@
 -- The references by the parts of a world are those of the state, each as often.
-use Rattle.std.proofs.Common.{◌≡◌, ℕ, zero, suc, ◌+◌, ◌-◌, ◌<◌, ◌≤◌, ◌^◌, Bool, List, [], ◌∷◌, ◌++◌, length, take, map, replicate, get_or, Option, Some, None, refl, sym, ap, ◌∙◌, subst, arith, inl, inr, append_assoc}
-use Rattle.std.specs.Prelude.{slice_get, count_by}
+use Rattle.std.proofs.Common.{◌≡◌, ℕ, zero, suc, ◌+◌, ◌-◌, ◌<◌, ◌≤◌, Bool, true, false, cond, List, [], ◌∷◌, ◌++◌, length, map, replicate, drop, Option, Some, None, refl, sym, ap, ◌∙◌, subst, eqb, arith, inl, inr}
+use Rattle.std.specs.Prelude.{slice_get, slice_index_or, count_by, option_to_list}
 use Rattle.std.proofs.lemmas.List.{map-append}
+use Rattle.std.proofs.lemmas.Bool.{cases_lt}
 use Rattle.std.proofs.lemmas.Bool.Decides.{eqb_tells}
-use Rattle.cf_graph.specs.OneThread.Holders.{Holder, variable, owed, slot, code_of}
-use Rattle.cf_graph.specs.declared.edge.Edge.{Edge}
-use Rattle.cf_graph.specs.OneThread.Edges.{Reference, edge_of, edges_of, weigh, one, counted}
-use Rattle.cf_graph.proofs.OneThread.Counts.{weigh-append}
-use Rattle.cf_graph.proofs.OneThread.Degrees.{same_counts}
-use Rattle.cf_syntax.specs.declared.counts.Counts.{Counts}
+use Rattle.std.specs.Option.{option_map}
 use Rattle.cf_syntax.specs.declared.script.Script.{Script}
-use Rattle.cf_syntax.specs.declared.statement.Statement.{Statement}
-use Rattle.cf_syntax.specs.BlockLines.{BlockLine, says}
-use Rattle.cf_syntax.specs.Counting.{Counted, HasRoom}
-use Rattle.cf_syntax.specs.Owned.{bound_by, given_by, released_by}
-use Rattle.cf_syntax.proofs.OwnedLaws.{total_le, bound_by_le, given_by_le, taken_by_le}
-use Rattle.cf_contents.specs.Contents.{times}
-use Rattle.cf_contents.specs.Stores.{Held, MayGrow, left_in, left_to}
-use Rattle.cf_contents.proofs.BodyLaws.{length-objects}
-use Rattle.cf_model.specs.OneThread.State.{State, Work, release_of, slots_of, look}
-use Rattle.cf_model.specs.OneThread.Steps.{held_by, reference, owed_reference, slot_reference}
+use Rattle.cf_syntax.specs.Owned.{given, released}
+use Rattle.cf_graph.specs.declared.edge.Edge.{Edge}
+use Rattle.cf_graph.specs.Holders.{Holder, variable, callout, owed, parcel, slot, in_mode, in_common}
+use Rattle.cf_graph.specs.Edges.{Reference, edge_of, edges_of, held_by, held_if, weigh, one, counted}
+use Rattle.cf_graph.specs.Operations.{without}
+use Rattle.cf_graph.proofs.Counts.{weigh-append, weigh-without}
+use Rattle.cf_graph.proofs.Degrees.{same_counts}
+use Rattle.cf_graph.proofs.Flows.{one_own, own_weigh, other_weigh}
+use Rattle.cf_contents.specs.Contents.{Object, slots_in, slots_at, times}
+use Rattle.cf_contents.specs.Stores.{Held, left_in, left_to, given_up_by, objects_of}
+use Rattle.cf_contents.proofs.BodyLaws.{get-map, length-objects}
+use Rattle.cf_next.specs.Stands.{look, Binding, Frame, Work, release_of, spend_of, slots_of, Stand}
+use Rattle.cf_next.specs.Next.{top_frame}
+use Rattle.cf_next.specs.Standing.{Standing}
+use Rattle.cf_next.specs.Held.{below, copies, owed_objects, passed_lines, variable_objects}
+use Rattle.cf_next.proofs.HeldLaws.{below-none, below-suc}
+use Rattle.cf_model.specs.State.{State, Parts, blank, stand_at, first_held, left_of}
 use Rattle.cf_model.specs.declared.entry.Entry.{Entry}
-use Rattle.cf_model.specs.OneThread.Journals.{setup, After}
-use Rattle.cf_model.proofs.OneThread.Slots.{kinds_apart, one_apart, one_own, own_weigh, other_weigh}
-use Rattle.cf_model.proofs.OneThread.Holding.{some_is}
-use Rattle.cf_model.proofs.OneThread.Working.{owed_in}
-use Rattle.cf_model.proofs.OneThread.Sizes.{few_made, few_members}
-use Rattle.cf_model.proofs.OneThread.Soundness.{IsForeign, IsSound, sound}
-use Rattle.cf_world.specs.declared.work.Item.{Item}
-use Rattle.cf_world.specs.declared.work.Item.TheVariants.{Release, Slots}
-use Rattle.cf_world.specs.Mirrors.{Follows, held_at}
-use Rattle.cf_world.specs.Works.{works}
-use Rattle.cf_world.specs.Running.{IsAt}
-use Rattle.cf_world.specs.Worlds.{WorldView, state_of}
-use Rattle.cf_world.specs.Inside.{view_of, IsWorld}
-use Rattle.cf_world.specs.declared.world.World.TheInside.{Inside}
-use Rattle.cf_world.proofs.Acting.{begun_is}
-use Rattle.cf_world.specs.Referring.{given, released, below, held_references, copies, counted_references, variable_references, owed_references, slot_references}
-use Rattle.cf_world.proofs.Mirroring.{left-mirrors}
+use Rattle.cf_model.specs.Journals.{After, IsLegal}
+use Rattle.cf_model.specs.Parcels.{from_holder, HasOneAtMost}
+use Rattle.cf_model.specs.Stage.{IsPlainStand, IsPlainState}
+use Rattle.cf_model.specs.Tokens.{HeldAsTold, tokens, one_if, owed_in, frames_hold, frame_holds, callouts_hold}
+use Rattle.cf_model.proofs.FirstHeld.{first_there, nothing_held, one_of_holder}
+use Rattle.cf_model.proofs.Places.{kinds_apart, held_objects as times-held}
+use Rattle.cf_model.proofs.Limiting.{few_of_legal}
+use Rattle.cf_model.proofs.Parcels.{parcels_one}
+use Rattle.cf_model.proofs.PlainStates.{plain_after, plain_frames}
+use Rattle.cf_model.proofs.Sound.{sound}
+use Rattle.cf_world.specs.Begun.{AreFrames, IsBegun, view_of}
+use Rattle.cf_world.specs.declared.begun.Begun.TheInside.{Inside}
+use Rattle.cf_world.specs.Worlds.{edges_in}
+use Rattle.cf_world.specs.Grounds.{MayRun, Mirrors, HoldsParcels, parcel_at}
+use Rattle.cf_world.specs.Referring.{AddsGround, variable_references, thread_references, stand_references, place_references, parcel_references, slot_references, HasVariables, AllHaveVariables, stands_of}
 
 -- ---- lists, one after another
-
-pub below-none : (f : ℕ → List Reference) → below f 0 ≡ []
-unfolding below
-below-none f = refl
-
-below-suc : (f : ℕ → List Reference) (n : ℕ) → below f (suc n) ≡ below f n ++ f n
-unfolding below
-below-suc f n = refl
-
-pub below-more : (f : ℕ → List Reference) (n : ℕ) → below f (n + 1) ≡ below f n ++ f n
-below-more f n = let e : n + 1 ≡ suc n = omega arith in ap (below f) e ∙ below-suc f n
-
--- what is after one list more
-pub edges-more : (f : ℕ → List Reference) (n : ℕ) (start before after more : List Edge) → before ≡ start ++ edges_of (below f n) → after ≡ before ++ more → edges_of (f n) ≡ more → after ≡ start ++ edges_of (below f (n + 1))
-edges-more f n start before after more so_far is here =
-    is ∙ ap (λ (es : List Edge). es ++ more) so_far ∙ append_assoc start (edges_of (below f n)) more
-    ∙ ap (λ (es : List Edge). start ++ (edges_of (below f n) ++ es)) (sym here)
-    ∙ ap (λ (es : List Edge). start ++ es) (sym (map-append edge_of (below f n) (f n)))
-    ∙ ap (λ (rs : List Reference). start ++ edges_of rs) (sym (below-more f n))
-
-pub below-same : (f g : ℕ → List Reference) (n : ℕ) → ((i : ℕ) → i < n → f i ≡ g i) → below f n ≡ below g n
-below-same f g zero h = below-none f ∙ sym (below-none g)
-below-same f g (suc n) h =
-    below-suc f n ∙ ap (λ (rs : List Reference). rs ++ f n) (below-same f g n (λ i lt. h i (omega (arith, lt))))
-    ∙ ap (λ (rs : List Reference). below g n ++ rs) (h n (omega arith)) ∙ sym (below-suc g n)
 
 weigh-below-suc : (w : Reference → ℕ) (f : ℕ → List Reference) (n : ℕ) → weigh w (below f (suc n)) ≡ weigh w (below f n) + weigh w (f n)
 weigh-below-suc w f n = ap (weigh w) (below-suc f n) ∙ weigh-append w (below f n) (f n)
 
-weigh-below-none : (w : Reference → ℕ) (f : ℕ → List Reference) (n : ℕ) → ((i : ℕ) → i < n → weigh w (f i) ≡ 0) → weigh w (below f n) ≡ 0
+weigh-below-none : (w : Reference → ℕ) (f : ℕ → List Reference) (n : ℕ) → ((i : ℕ) → weigh w (f i) ≡ 0) → weigh w (below f n) ≡ 0
 weigh-below-none w f zero h = ap (weigh w) (below-none f)
-weigh-below-none w f (suc n) h = omega (arith, weigh-below-suc w f n, h n (omega arith), weigh-below-none w f n (λ i lt. h i (omega (arith, lt))))
+weigh-below-none w f (suc n) h = omega (arith, weigh-below-suc w f n, h n, weigh-below-none w f n h)
+
+weigh-below-other : (w : Reference → ℕ) (f : ℕ → List Reference) (n k : ℕ) → n ≤ k → ((i : ℕ) → (i ≡ k → ⊥) → weigh w (f i) ≡ 0) → weigh w (below f n) ≡ 0
+weigh-below-other w f zero k le h = ap (weigh w) (below-none f)
+weigh-below-other w f (suc n) k le h =
+    omega (arith, weigh-below-suc w f n, h n (λ e. omega (arith, e, le)), weigh-below-other w f n k (omega (arith, le)) h)
 
 -- where one list alone weighs something, and no list after the last does
-weigh-below : (w : Reference → ℕ) (f : ℕ → List Reference) (n k : ℕ) → ((i : ℕ) → (k ≡ i → ⊥) → weigh w (f i) ≡ 0) → (n ≤ k → weigh w (f k) ≡ 0) → weigh w (below f n) ≡ weigh w (f k)
+weigh-below : (w : Reference → ℕ) (f : ℕ → List Reference) (n k : ℕ) → ((i : ℕ) → (i ≡ k → ⊥) → weigh w (f i) ≡ 0) → (n ≤ k → weigh w (f k) ≡ 0) → weigh w (below f n) ≡ weigh w (f k)
 weigh-below w f zero k others outside = ap (weigh w) (below-none f) ∙ sym (outside (omega arith))
-weigh-below w f (suc n) k others outside = elim (eqb_tells k n) [
+weigh-below w f (suc n) k others outside = elim (eqb_tells n k) [
   | inl e ↦
-      let rest : weigh w (below f n) ≡ 0 = weigh-below-none w f n (λ i lt. others i (λ q. omega (arith, lt, q, e.1))) in
-      let here : weigh w (f n) ≡ weigh w (f k) = ap (λ (i : ℕ). weigh w (f i)) (sym e.1) in
+      let rest : weigh w (below f n) ≡ 0 = weigh-below-other w f n k (omega (arith, e.1)) others in
+      let here : weigh w (f n) ≡ weigh w (f k) = ap (λ (i : ℕ). weigh w (f i)) e.1 in
       omega (arith, weigh-below-suc w f n, rest, here)
   | inr e ↦
-      let apart : k ≡ n → ⊥ = e.1 in
+      let apart : n ≡ k → ⊥ = e.1 in
       omega (arith, weigh-below-suc w f n, others n apart, weigh-below w f n k others (λ le. outside (beyond n k le apart)))
 ]
   where
-    beyond : (n k : ℕ) → n ≤ k → (k ≡ n → ⊥) → suc n ≤ k
+    beyond : (n k : ℕ) → n ≤ k → (n ≡ k → ⊥) → suc n ≤ k
     beyond n k le apart = omega arith
 
 -- ---- what each list weighs
 
-weigh-replicate : (w : Reference → ℕ) (n k : ℕ) (r : Reference) → w r ≡ k → (k ≡ 0 → weigh w (replicate n r) ≡ 0) × (k ≡ 1 → weigh w (replicate n r) ≡ n)
-weigh-replicate w zero k r e = (λ q. refl, λ q. refl)
-weigh-replicate w (suc n) k r e = let p = weigh-replicate w n k r e in (λ q. omega (arith, e, q, p.0 q), λ q. omega (arith, e, q, p.1 q))
+copies-weigh : (k : Holder) (o : ℕ) (found : Option ℕ) (n : ℕ) → weigh (one (held_by k o)) (map (held_by k) (copies found n)) ≡ one_if found o n
+copies-weigh k o None n = refl
+copies-weigh k o (Some p) n = by (eqb p o) refl n
+  where
+    by : (b : Bool) → eqb p o ≡ b → (n : ℕ) → weigh (one (held_by k o)) (map (held_by k) (replicate n p)) ≡ cond b n 0
+    by true e zero = refl
+    by true e (suc n) = omega (arith, one_own k o p, ap counted e, by true e n)
+    by false e zero = refl
+    by false e (suc n) = omega (arith, one_own k o p, ap counted e, by false e n)
 
-held-none : (r : Reference) (v : ℕ) (found : Option ℕ) (n : ℕ) → (r.holder ≡ variable 0 v → ⊥) → weigh (one r) (held_references v found n) ≡ 0
-held-none r v None n apart = refl
-held-none r v (Some o) n apart = (weigh-replicate (one r) n 0 (reference 0 v o) (one_apart r (reference 0 v o) (λ q. apart (ap (λ (p : Reference). p.holder) q)))).0 refl
+owed-weigh : (t o : ℕ) (work : List Work) → weigh (one (held_by (owed t) o)) (map (held_by (owed t)) (owed_objects work)) ≡ owed_in o work
+owed-weigh t o [] = refl
+owed-weigh t o (release_of p ∷ work) = omega (arith, one_own (owed t) o p, owed-weigh t o work)
+owed-weigh t o (spend_of i ∷ work) = owed-weigh t o work
+owed-weigh t o (slots_of b k ∷ work) = owed-weigh t o work
 
-owed-none : (r : Reference) (ws : List Item) → (r.holder ≡ owed 0 → ⊥) → weigh (one r) (owed_references ws) ≡ 0
-owed-none r [] apart = refl
-owed-none r (Release o ∷ ws) apart = omega (arith, one_apart r (owed_reference 0 o) (λ q. apart (ap (λ (p : Reference). p.holder) q)), owed-none r ws apart)
-owed-none r (Slots b ∷ ws) apart = owed-none r ws apart
+-- what a place of a parcel has is what its one reference leads to
+parcel-weigh : (h : Holder) (es : List Reference) (o : ℕ) (found : Option ℕ) → first_held h es ≡ found → HasOneAtMost h es → weigh (one (held_by h o)) (held_if h found) ≡ weigh (one (held_by h o)) es
+parcel-weigh h es o None e single = sym (single.none e o)
+parcel-weigh h es o (Some p) e single =
+    let left = without (held_by h p) es in
+    let none : weigh (from_holder h) left ≡ 0 = nothing_held h left (single.gone p e) in
+    let here : weigh (one (held_by h o)) (held_if h (Some p)) ≡ one (held_by h o) (held_by h p) + 0 = refl in
+    omega (arith, none, here, one_of_holder h o left, weigh-without (one (held_by h o)) (held_by h p) es (first_there h p es e))
 
-owed_in-append : (o : ℕ) (us vs : List Work) → owed_in o (us ++ vs) ≡ owed_in o us + owed_in o vs
-owed_in-append o [] vs = omega arith
-owed_in-append o (release_of p ∷ us) vs = omega (arith, owed_in-append o us vs)
-owed_in-append o (slots_of b ∷ us) vs = owed_in-append o us vs
+variable_parts : (t d v u e w : ℕ) → variable t d v ≡ variable u e w → (t ≡ u) × (d ≡ e) × (v ≡ w)
+variable_parts t d v u e w q = (cc, cc, cc)
 
-owed-weigh : (o : ℕ) (ws : List Item) → weigh (one (owed_reference 0 o)) (owed_references ws) ≡ owed_in o (works ws)
-owed-weigh o [] = refl
-owed-weigh o (Release p ∷ ws) = omega (arith, one_own (owed 0) o p, owed-weigh o ws, owed_in-append o (works ws) (release_of p ∷ []))
-owed-weigh o (Slots b ∷ ws) = omega (arith, owed-weigh o ws, owed_in-append o (works ws) (slots_of b ∷ []))
+owed_part : (t u : ℕ) → owed t ≡ owed u → t ≡ u
+owed_part t u q = cc
 
-first_number : Holder → ℕ
-first_number h = (code_of h).first
+slot_part : (b c : ℕ) → slot b ≡ slot c → b ≡ c
+slot_part b c q = cc
 
-second_number : Holder → ℕ
-second_number h = (code_of h).second
+parcel_part : (t k u m : ℕ) → parcel t k ≡ parcel u m → (t ≡ u) × (k ≡ m)
+parcel_part t k u m q = (cc, cc)
 
-variable_apart : (v w : ℕ) → (v ≡ w → ⊥) → variable 0 v ≡ variable 0 w → ⊥
-unfolding second_number
-variable_apart v w apart q = apart (ap second_number q)
+thread-none : (s : Script) (r : Reference) (t : ℕ) (stand : Stand) → ((v : ℕ) → r.holder ≡ variable t 0 v → ⊥) → (r.holder ≡ owed t → ⊥) → weigh (one r) (thread_references s t stand) ≡ 0
+thread-none s r t stand a b =
+    let f = top_frame stand.frames in
+    omega (
+      arith,
+      weigh-append (one r) (below (variable_references s t f) 256) (map (held_by (owed t)) (owed_objects stand.work)),
+      weigh-below-none (one r) (variable_references s t f) 256 (λ v. other_weigh r (variable t 0 v) (variable_objects (passed_lines s f) f v) (a v)),
+      other_weigh r (owed t) (owed_objects stand.work) b,
+    )
 
-slot_apart : (b c : ℕ) → (b ≡ c → ⊥) → slot b ≡ slot c → ⊥
-unfolding first_number
-slot_apart b c apart q = apart (ap first_number q)
+none-past : (found : Option ℕ) (k : Holder) (w : Reference → ℕ) (n : ℕ) → found ≡ None → weigh w (map (held_by k) (copies found n)) ≡ 0
+none-past None k w n e = refl
+none-past (Some o) k w n e = absurd cc
 
--- holders of other threads
-foreign_variable : (t v : ℕ) → (t ≡ 0 → ⊥) → IsForeign (variable t v)
-unfolding first_number
-foreign_variable t v apart = record {
-  variable = λ w q. apart (ap first_number q);
-  owed = kinds_apart (variable t v) (owed 0) refl;
-  slot = λ b. kinds_apart (variable t v) (slot b) refl;
-}
+-- a variable of a thread's frame
+thread-variable : (s : Script) (t v o : ℕ) (stand : Stand) → HasVariables stand → weigh (one (held_by (variable t 0 v) o)) (thread_references s t stand) ≡ frame_holds s (top_frame stand.frames) v o
+thread-variable s t v o stand few =
+    let f = top_frame stand.frames in
+    let r = held_by (variable t 0 v) o in
+    let n = given v (passed_lines s f) - released v (passed_lines s f) in
+    omega (
+      arith,
+      weigh-append (one r) (below (variable_references s t f) 256) (map (held_by (owed t)) (owed_objects stand.work)),
+      weigh-below (one r) (variable_references s t f) 256 v
+          (λ i apart. other_weigh r (variable t 0 i) (variable_objects (passed_lines s f) f i) (λ q. apart (sym (variable_parts t 0 v t 0 i q).2)))
+          (λ le. none-past (look v f.bindings) (variable t 0 v) (one r) n (few v le)),
+      copies-weigh (variable t 0 v) o (look v f.bindings) n,
+      other_weigh r (owed t) (owed_objects stand.work) (kinds_apart (variable t 0 v) (owed t) refl),
+    )
 
-foreign_owed : (t : ℕ) → (t ≡ 0 → ⊥) → IsForeign (owed t)
-unfolding first_number
-foreign_owed t apart = record {
-  variable = λ w. kinds_apart (owed t) (variable 0 w) refl;
-  owed = λ q. apart (ap first_number q);
-  slot = λ b. kinds_apart (owed t) (slot b) refl;
-}
+-- what its work owes
+thread-owed : (s : Script) (t o : ℕ) (stand : Stand) → weigh (one (held_by (owed t) o)) (thread_references s t stand) ≡ owed_in o stand.work
+thread-owed s t o stand =
+    let f = top_frame stand.frames in
+    let r = held_by (owed t) o in
+    omega (
+      arith,
+      weigh-append (one r) (below (variable_references s t f) 256) (map (held_by (owed t)) (owed_objects stand.work)),
+      weigh-below-none (one r) (variable_references s t f) 256 (λ v. other_weigh r (variable t 0 v) (variable_objects (passed_lines s f) f v) (kinds_apart (owed t) (variable t 0 v) refl)),
+      owed-weigh t o stand.work,
+    )
 
-none_held : (table : List (Option ℕ)) (v : ℕ) → length table ≤ v → held_at table v ≡ None
-none_held [] v le = refl
-none_held (x ∷ xs) zero le = absurd (omega arith)
-none_held (x ∷ xs) (suc v) le = none_held xs v (omega (arith, le))
+-- ---- bodies
+
+drop-none : (n : ℕ) → ◌≡◌ {A = List ℕ} (drop n []) []
+drop-none zero = refl
+drop-none (suc n) = refl
+
+left_is : (bodies : List Held) (o : ℕ) (n : ℕ) (h : Option Held) → slice_get bodies o ≡ h → given_up_by h ≡ n → left_to h ≡ drop n (slots_at (option_map (λ (b : Held). b.object) h))
+left_is bodies o n None e g = sym (drop-none n)
+left_is bodies o n (Some h) e g = ap (λ (k : ℕ). drop k (slots_in h.object.content)) g
+
+left-mirrors : (p : Parts) (bodies : List Held) (o : ℕ) → Mirrors p bodies → left_in bodies o ≡ left_of p.objects p.dropped o
+left-mirrors p bodies o h =
+    left_is bodies o (times o p.dropped) (slice_get bodies o) refl (h.given_up o)
+    ∙ ap (λ (ob : Option Object). drop (times o p.dropped) (slots_at ob)) (sym (get-map bodies o) ∙ ap (λ (os : List Object). slice_get os o) h.objects_are)
 
 none_made : (bodies : List Held) (b : ℕ) → length bodies ≤ b → slice_get bodies b ≡ None
 none_made [] b le = refl
 none_made (x ∷ xs) zero le = absurd (omega arith)
 none_made (x ∷ xs) (suc b) le = none_made xs b (omega (arith, le))
 
+no_row : (rows : List (List (Option ℕ))) (t : ℕ) → length rows ≤ t → slice_index_or rows t [] ≡ []
+no_row [] t le = refl
+no_row (x ∷ xs) zero le = absurd (omega arith)
+no_row (x ∷ xs) (suc t) le = no_row xs t (omega (arith, le))
+
+no_place : (row : List (Option ℕ)) (k : ℕ) → length row ≤ k → slice_index_or row k None ≡ None
+no_place [] k le = refl
+no_place (x ∷ xs) zero le = absurd (omega arith)
+no_place (x ∷ xs) (suc k) le = no_place xs k (omega (arith, le))
+
+no_stand : (stands : List Stand) (t : ℕ) → length stands ≤ t → stand_at t stands ≡ blank
+no_stand [] zero le = refl
+no_stand [] (suc t) le = refl
+no_stand (x ∷ xs) zero le = absurd (omega arith)
+no_stand (x ∷ xs) (suc t) le = no_stand xs t (omega (arith, le))
+
+-- ---- stands
+
+-- a thread is in its block alone, or it is not there; its variables have small numbers
+record IsLone (t : ℕ) (stand : Stand) : Type 0 where
+  frames : (s : Script) (d v o : ℕ) → frames_hold s stand.frames d v o ≡ cond (eqb 0 d) (frame_holds s (top_frame stand.frames) v o) 0
+  callouts : (d o : ℕ) → callouts_hold stand.frames d o ≡ 0
+  variables : HasVariables stand
+
+either-none : (b : Bool) → ◌≡◌ {A = ℕ} (cond b 0 0) 0
+either-none true = refl
+either-none false = refl
+
+blank-lone : (t : ℕ) → IsLone t blank
+blank-lone t = record {
+  frames = λ s d v o. sym (either-none (eqb 0 d));
+  callouts = λ d o. refl;
+  variables = λ v le. refl;
+}
+
+plain-lone : (t : ℕ) (stand : Stand) → IsPlainStand t stand → HasVariables stand → IsLone t stand
+plain-lone t stand h few =
+    let is = plain_frames t stand h in
+    record {
+      frames = λ s d v o. rw is refl;
+      callouts = λ d o. rw is (either-none (eqb 0 d));
+      variables = few;
+    }
+
 -- ---- all of them
 
-module _ (s : Script) (st : State) (bodies : List Held) (table : List (Option ℕ)) (items : List Item) (number : ℕ) (is_done : Bool) (sound_here : IsSound s st) (h : Follows st bodies table (works items) number is_done) where
-  abbrev passed : List Statement
-  passed = take number (setup s)
+module _ (s : Script) (st : State) (rows : List (List (Option ℕ))) (bodies : List Held) (held : HeldAsTold s st) (plain : IsPlainState s st) (single : (t k : ℕ) → HasOneAtMost (parcel t k) st.edges) (mirrors : Mirrors st.parts bodies) (parcels : HoldsParcels s st rows) (few : (t : ℕ) → t < s.thread_count → HasVariables (stand_at t st.stands)) where
+  abbrev of_threads : List Reference
+  of_threads = below (stand_references s st.stands) s.thread_count
 
-  abbrev of_variables : List Reference
-  of_variables = below (variable_references table passed) 256
+  abbrev of_parcels : List Reference
+  of_parcels = below (parcel_references rows) (length rows)
 
   abbrev of_slots : List Reference
   of_slots = below (slot_references bodies) (length bodies)
 
   abbrev all : List Reference
-  all = (of_variables ++ owed_references items) ++ of_slots
+  all = (of_threads ++ of_parcels) ++ of_slots
 
-  weigh-all : (w : Reference → ℕ) → weigh w all ≡ weigh w of_variables + weigh w (owed_references items) + weigh w of_slots
-  weigh-all w = omega (arith, weigh-append w (of_variables ++ owed_references items) of_slots, weigh-append w of_variables (owed_references items))
+  weigh-all : (w : Reference → ℕ) → weigh w all ≡ weigh w of_threads + weigh w of_parcels + weigh w of_slots
+  weigh-all w = omega (arith, weigh-append w (of_threads ++ of_parcels) of_slots, weigh-append w of_threads of_parcels)
 
-  no_variables : (r : Reference) → ((v : ℕ) → r.holder ≡ variable 0 v → ⊥) → weigh (one r) of_variables ≡ 0
-  no_variables r apart = weigh-below-none (one r) (variable_references table passed) 256 (λ v lt. held-none r v (held_at table v) (given v passed - released v passed) (apart v))
+  no_threads : (r : Reference) → ((t v : ℕ) → r.holder ≡ variable t 0 v → ⊥) → ((t : ℕ) → r.holder ≡ owed t → ⊥) → weigh (one r) of_threads ≡ 0
+  no_threads r a b = weigh-below-none (one r) (stand_references s st.stands) s.thread_count (λ t. thread-none s r t (stand_at t st.stands) (a t) (b t))
+
+  places-none : (r : Reference) (t : ℕ) → ((k : ℕ) → r.holder ≡ parcel t k → ⊥) → weigh (one r) (parcel_references rows t) ≡ 0
+  places-none r t h =
+      weigh-below-none (one r) (place_references rows t) (length (slice_index_or rows t [])) (λ k. other_weigh r (parcel t k) (option_to_list (parcel_at rows t k)) (h k))
+
+  no_parcels : (r : Reference) → ((t k : ℕ) → r.holder ≡ parcel t k → ⊥) → weigh (one r) of_parcels ≡ 0
+  no_parcels r h = weigh-below-none (one r) (parcel_references rows) (length rows) (λ t. places-none r t (h t))
 
   no_slots : (r : Reference) → ((b : ℕ) → r.holder ≡ slot b → ⊥) → weigh (one r) of_slots ≡ 0
-  no_slots r apart = weigh-below-none (one r) (slot_references bodies) (length bodies) (λ b lt. other_weigh r (slot b) (left_in bodies b) (apart b))
+  no_slots r h = weigh-below-none (one r) (slot_references bodies) (length bodies) (λ b. other_weigh r (slot b) (left_in bodies b) (h b))
 
-  foreign_same : (r : Reference) → IsForeign r.holder → weigh (one r) all ≡ weigh (one r) st.edges
-  foreign_same r f = omega (arith, weigh-all (one r), no_variables r f.variable, owed-none r items f.owed, no_slots r f.slot, sound_here.others r f)
+  gone : (t : ℕ) → s.thread_count ≤ t → stand_at t st.stands ≡ blank
+  gone t le = no_stand st.stands t (omega (arith, le, plain.stand_count))
 
-  abbrev owns : ℕ → ℕ
-  owns v = given v passed - released v passed
-
-  is_passed : passed ≡ take st.frame.number (setup s)
-  is_passed = ap (λ (n : ℕ). take n (setup s)) h.stands.number_is
-
-  held_same : (v o : ℕ) → look v st.frame.bindings ≡ Some o → weigh (one (reference 0 v o)) st.edges + released v passed ≡ given v passed
-  held_same v o is = subst (λ (ss : List Statement). weigh (one (reference 0 v o)) st.edges + released v ss ≡ given v ss) (sym is_passed) (sound_here.holds.held v o is)
-
-  clash : (o : ℕ) → ◌≡◌ {A = Option ℕ} None (Some o) → ⊥
-  clash o e = absurd cc
-
-  -- what a variable holds is what it owns
-  own_same : (v o : ℕ) (found : Option ℕ) → look v st.frame.bindings ≡ found → weigh (one (reference 0 v o)) (held_references v found (owns v)) ≡ weigh (one (reference 0 v o)) st.edges
-  own_same v o None is = sym (sound_here.holds.loose v o (λ q. clash o (sym is ∙ q)))
-  own_same v o (Some p) is = elim (eqb_tells p o) [
-    | inl e ↦
-        let one_here : one (reference 0 v o) (reference 0 v p) ≡ 1 = one_own (variable 0 v) o p ∙ ap counted e.0 in
-        let size : weigh (one (reference 0 v o)) (replicate (owns v) (reference 0 v p)) ≡ owns v = (weigh-replicate (one (reference 0 v o)) (owns v) 1 (reference 0 v p) one_here).1 refl in
-        let held = held_same v o (is ∙ ap (λ (k : ℕ). Some k) e.1) in
-        omega (arith, size, held)
-    | inr e ↦
-        let none_here : one (reference 0 v o) (reference 0 v p) ≡ 0 = one_own (variable 0 v) o p ∙ ap counted e.0 in
-        (weigh-replicate (one (reference 0 v o)) (owns v) 0 (reference 0 v p) none_here).0 refl
-        ∙ sym (sound_here.holds.loose v o (λ q. e.1 (some_is p o (sym is ∙ q))))
+  lone : (t : ℕ) → IsLone t (stand_at t st.stands)
+  lone t = elim (cases_lt t s.thread_count) [
+    | inl lt ↦ plain-lone t (stand_at t st.stands) (plain.stands t lt) (few t lt)
+    | inr le ↦ subst (IsLone t) (sym (gone t le)) (blank-lone t)
   ]
 
-  variable_same : (v o : ℕ) → weigh (one (reference 0 v o)) all ≡ weigh (one (reference 0 v o)) st.edges
-  variable_same v o =
-      let r = reference 0 v o in
-      let here : weigh (one r) of_variables ≡ weigh (one r) (variable_references table passed v) =
-      weigh-below (one r) (variable_references table passed) 256 v
-      (λ i apart. held-none r i (held_at table i) (owns i) (variable_apart v i apart))
-      (λ le. ap (λ (found : Option ℕ). weigh (one r) (held_references v found (owns v))) (none_held table v (omega (arith, h.stands.size, le)))) in
-      let own = own_same v o (held_at table v) (sym (h.stands.table_is v)) in
-      omega (arith, weigh-all (one r), here, own, owed-none r items (kinds_apart (variable 0 v) (owed 0) refl), no_slots r (λ b. kinds_apart (variable 0 v) (slot b) refl))
+  no_frame : (t v o : ℕ) → s.thread_count ≤ t → frame_holds s (top_frame (stand_at t st.stands).frames) v o ≡ 0
+  no_frame t v o le = ap (λ (x : Stand). frame_holds s (top_frame x.frames) v o) (gone t le)
 
-  owed_same : (o : ℕ) → weigh (one (owed_reference 0 o)) all ≡ weigh (one (owed_reference 0 o)) st.edges
-  owed_same o =
-      let r = owed_reference 0 o in
-      let there : weigh (one r) st.edges ≡ owed_in o (works items) = sound_here.worked.owed o ∙ ap (owed_in o) (sym h.stands.work_is) in
-      omega (arith, weigh-all (one r), owed-weigh o items, there, no_variables r (λ v. kinds_apart (owed 0) (variable 0 v) refl), no_slots r (λ b. kinds_apart (owed 0) (slot b) refl))
+  no_work : (t o : ℕ) → s.thread_count ≤ t → owed_in o (stand_at t st.stands).work ≡ 0
+  no_work t o le = ap (λ (x : Stand). owed_in o x.work) (gone t le)
 
-  slot_same : (b o : ℕ) → weigh (one (slot_reference b o)) all ≡ weigh (one (slot_reference b o)) st.edges
+  own_variable : (t v o : ℕ) → weigh (one (held_by (variable t 0 v) o)) of_threads ≡ frame_holds s (top_frame (stand_at t st.stands).frames) v o
+  own_variable t v o =
+      let r = held_by (variable t 0 v) o in
+      let here = thread-variable s t v o (stand_at t st.stands) (lone t).variables in
+      weigh-below (one r) (stand_references s st.stands) s.thread_count t
+      (λ i apart. thread-none s r i (stand_at i st.stands) (λ w q. apart (sym (variable_parts t 0 v i 0 w q).0)) (kinds_apart (variable t 0 v) (owed i) refl))
+      (λ le. here ∙ no_frame t v o le)
+      ∙ here
+
+  own_owed : (t o : ℕ) → weigh (one (held_by (owed t) o)) of_threads ≡ owed_in o (stand_at t st.stands).work
+  own_owed t o =
+      let r = held_by (owed t) o in
+      let here = thread-owed s t o (stand_at t st.stands) in
+      weigh-below (one r) (stand_references s st.stands) s.thread_count t
+      (λ i apart. thread-none s r i (stand_at i st.stands) (λ w. kinds_apart (owed t) (variable i 0 w) refl) (λ q. apart (sym (owed_part t i q))))
+      (λ le. here ∙ no_work t o le)
+      ∙ here
+
+  variable_same : (t d v o : ℕ) → weigh (one (held_by (variable t d v) o)) all ≡ frames_hold s (stand_at t st.stands).frames d v o
+  variable_same t d v o = elim (eqb_tells 0 d) [
+    | inl e ↦
+        let r = held_by (variable t 0 v) o in
+        let is : frames_hold s (stand_at t st.stands).frames 0 v o ≡ frame_holds s (top_frame (stand_at t st.stands).frames) v o = (lone t).frames s 0 v o in
+        subst (λ (n : ℕ). weigh (one (held_by (variable t n v) o)) all ≡ frames_hold s (stand_at t st.stands).frames n v o) e.1
+        (omega (
+          arith,
+          weigh-all (one r),
+          own_variable t v o,
+          is,
+          no_parcels r (λ u k. kinds_apart (variable t 0 v) (parcel u k) refl),
+          no_slots r (λ b. kinds_apart (variable t 0 v) (slot b) refl),
+        ))
+    | inr e ↦
+        let r = held_by (variable t d v) o in
+        let is : frames_hold s (stand_at t st.stands).frames d v o ≡ 0 = (lone t).frames s d v o ∙ ap (λ (b : Bool). cond b (frame_holds s (top_frame (stand_at t st.stands).frames) v o) 0) e.0 in
+        omega (
+          arith,
+          weigh-all (one r),
+          is,
+          no_threads r (λ u w q. e.1 (sym (variable_parts t d v u 0 w q).1)) (λ u. kinds_apart (variable t d v) (owed u) refl),
+          no_parcels r (λ u k. kinds_apart (variable t d v) (parcel u k) refl),
+          no_slots r (λ b. kinds_apart (variable t d v) (slot b) refl),
+        )
+  ]
+
+  owed_same : (t o : ℕ) → weigh (one (held_by (owed t) o)) all ≡ owed_in o (stand_at t st.stands).work
+  owed_same t o =
+      let r = held_by (owed t) o in
+      omega (
+        arith,
+        weigh-all (one r),
+        own_owed t o,
+        no_parcels r (λ u k. kinds_apart (owed t) (parcel u k) refl),
+        no_slots r (λ b. kinds_apart (owed t) (slot b) refl),
+      )
+
+  -- a holder that none of the lists has
+  none_same : (h : Holder) (o : ℕ) → ((t v : ℕ) → h ≡ variable t 0 v → ⊥) → ((t : ℕ) → h ≡ owed t → ⊥) → ((t k : ℕ) → h ≡ parcel t k → ⊥) → ((b : ℕ) → h ≡ slot b → ⊥) → weigh (one (held_by h o)) all ≡ 0
+  none_same h o a b c d =
+      let r = held_by h o in omega (arith, weigh-all (one r), no_threads r a b, no_parcels r c, no_slots r d)
+
+  own_place : (t k o : ℕ) → weigh (one (held_by (parcel t k) o)) (parcel_references rows t) ≡ weigh (one (held_by (parcel t k) o)) (place_references rows t k)
+  own_place t k o =
+      let r = held_by (parcel t k) o in
+      weigh-below (one r) (place_references rows t) (length (slice_index_or rows t [])) k
+      (λ i apart. other_weigh r (parcel t i) (option_to_list (parcel_at rows t i)) (λ q. apart (sym (parcel_part t k t i q).1)))
+      (λ le. ap (λ (found : Option ℕ). weigh (one r) (held_if (parcel t k) found)) (no_place (slice_index_or rows t []) k le))
+
+  no_parcel : (t : ℕ) (w : Reference → ℕ) → length rows ≤ t → weigh w (parcel_references rows t) ≡ 0
+  no_parcel t w le =
+      ap (λ (n : ℕ). weigh w (below (place_references rows t) n)) (ap length (no_row rows t le)) ∙ ap (weigh w) (below-none (place_references rows t))
+
+  own_parcel : (t k o : ℕ) → weigh (one (held_by (parcel t k) o)) of_parcels ≡ weigh (one (held_by (parcel t k) o)) (place_references rows t k)
+  own_parcel t k o =
+      let r = held_by (parcel t k) o in
+      weigh-below (one r) (parcel_references rows) (length rows) t
+      (λ i apart. places-none r i (λ m q. apart (sym (parcel_part t k i m q).0)))
+      (λ le. no_parcel t (one r) le)
+      ∙ own_place t k o
+
+  parcel_same : (t k o : ℕ) → weigh (one (held_by (parcel t k) o)) all ≡ weigh (one (held_by (parcel t k) o)) st.edges
+  parcel_same t k o =
+      let r = held_by (parcel t k) o in
+      omega (
+        arith,
+        weigh-all (one r),
+        own_parcel t k o,
+        parcel-weigh (parcel t k) st.edges o (parcel_at rows t k) (sym (parcels.at t k)) (single t k),
+        no_threads r (λ u v. kinds_apart (parcel t k) (variable u 0 v) refl) (λ u. kinds_apart (parcel t k) (owed u) refl),
+        no_slots r (λ b. kinds_apart (parcel t k) (slot b) refl),
+      )
+
+  slot_same : (b o : ℕ) → weigh (one (held_by (slot b) o)) all ≡ times o (left_of st.parts.objects st.parts.dropped b)
   slot_same b o =
-      let r = slot_reference b o in
+      let r = held_by (slot b) o in
       let here : weigh (one r) of_slots ≡ weigh (one r) (slot_references bodies b) =
       weigh-below (one r) (slot_references bodies) (length bodies) b
-      (λ i apart. other_weigh r (slot i) (left_in bodies i) (slot_apart b i apart))
-      (λ le. ap (λ (found : Option Held). weigh (one r) (map (slot_reference b) (left_to found))) (none_made bodies b le)) in
-      let there : weigh (one r) st.edges ≡ times o (left_in bodies b) = sound_here.kept.slots b o ∙ ap (times o) (sym (left-mirrors st.objects st.finalised st.dropped bodies b h.mirrors)) in
-      omega (arith, weigh-all (one r), here, own_weigh (slot b) o (left_in bodies b), there, no_variables r (λ v. kinds_apart (slot b) (variable 0 v) refl), owed-none r items (kinds_apart (slot b) (owed 0) refl))
+      (λ c apart. other_weigh r (slot c) (left_in bodies c) (λ q. apart (sym (slot_part b c q))))
+      (λ le. ap (λ (h : Option Held). weigh (one r) (map (held_by (slot b)) (left_to h))) (none_made bodies b le)) in
+      let there : weigh (one r) (slot_references bodies b) ≡ times o (left_of st.parts.objects st.parts.dropped b) =
+      own_weigh (slot b) o (left_in bodies b) ∙ times-held (slot b) o (left_in bodies b) ∙ ap (times o) (left-mirrors st.parts bodies b mirrors) in
+      omega (
+        arith,
+        weigh-all (one r),
+        here,
+        there,
+        no_threads r (λ u v. kinds_apart (slot b) (variable u 0 v) refl) (λ u. kinds_apart (slot b) (owed u) refl),
+        no_parcels r (λ u k. kinds_apart (slot b) (parcel u k) refl),
+      )
 
-  reference_same : (k : Holder) (o : ℕ) → weigh (one (held_by k o)) all ≡ weigh (one (held_by k o)) st.edges
-  reference_same (variable t v) o = elim (eqb_tells t 0) [
-    | inl e ↦ subst (λ (u : ℕ). weigh (one (reference u v o)) all ≡ weigh (one (reference u v o)) st.edges) (sym e.1) (variable_same v o)
-    | inr e ↦ foreign_same (reference t v o) (foreign_variable t v e.1)
-  ]
-  reference_same (owed t) o = elim (eqb_tells t 0) [
-    | inl e ↦ subst (λ (u : ℕ). weigh (one (owed_reference u o)) all ≡ weigh (one (owed_reference u o)) st.edges) (sym e.1) (owed_same o)
-    | inr e ↦ foreign_same (owed_reference t o) (foreign_owed t e.1)
-  ]
-  reference_same (slot b) o = slot_same b o
+  reference_same : (h : Holder) (o : ℕ) → weigh (one (held_by h o)) all ≡ weigh (one (held_by h o)) st.edges
+  reference_same (variable t d v) o = variable_same t d v o ∙ sym (held (variable t d v) o)
+  reference_same (callout t d) o =
+      none_same (callout t d) o (λ u v. kinds_apart (callout t d) (variable u 0 v) refl) (λ u. kinds_apart (callout t d) (owed u) refl)
+      (λ u k. kinds_apart (callout t d) (parcel u k) refl) (λ b. kinds_apart (callout t d) (slot b) refl)
+      ∙ sym (held (callout t d) o ∙ (lone t).callouts d o)
+  reference_same (owed t) o = owed_same t o ∙ sym (held (owed t) o)
+  reference_same (parcel t k) o = parcel_same t k o
+  reference_same (slot b) o = slot_same b o ∙ sym (held (slot b) o)
+  reference_same (in_mode t m) o =
+      none_same (in_mode t m) o (λ u v. kinds_apart (in_mode t m) (variable u 0 v) refl) (λ u. kinds_apart (in_mode t m) (owed u) refl)
+      (λ u k. kinds_apart (in_mode t m) (parcel u k) refl) (λ b. kinds_apart (in_mode t m) (slot b) refl)
+      ∙ sym (plain.modes t m o)
+  reference_same (in_common t) o =
+      none_same (in_common t) o (λ u v. kinds_apart (in_common t) (variable u 0 v) refl) (λ u. kinds_apart (in_common t) (owed u) refl)
+      (λ u k. kinds_apart (in_common t) (parcel u k) refl) (λ b. kinds_apart (in_common t) (slot b) refl)
+      ∙ sym (plain.common_items t o)
 
   -- as many of them as of the state's pass each test
-  pub edges_same : (p : Edge → Bool) (es : List Edge) → es ≡ (edges_of of_variables ++ edges_of (owed_references items)) ++ edges_of of_slots → count_by p es ≡ count_by p (edges_of st.edges)
+  pub edges_same : (p : Edge → Bool) (es : List Edge) → es ≡ (edges_of of_threads ++ edges_of of_parcels) ++ edges_of of_slots → count_by p es ≡ count_by p (edges_of st.edges)
   edges_same p es is =
       let whole : es ≡ edges_of all =
-      is ∙ ap (λ (fs : List Edge). fs ++ edges_of of_slots) (sym (map-append edge_of of_variables (owed_references items)))
-      ∙ sym (map-append edge_of (of_variables ++ owed_references items) of_slots) in
+      is ∙ ap (λ (fs : List Edge). fs ++ edges_of of_slots) (sym (map-append edge_of of_threads of_parcels))
+      ∙ sym (map-append edge_of (of_threads ++ of_parcels) of_slots) in
       ap (count_by p) whole ∙ same_counts p all st.edges (λ r. reference_same r.holder r.object)
 
--- ---- the steps of loops
-
--- the references of a variable as callers see them
-pub edges-held : (v : ℕ) (found : Option ℕ) (n : ℕ) → edges_of (held_references v found n) ≡ copies found n
-edges-held v None n = refl
-edges-held v (Some o) n = each n
-  where
-    each : (n : ℕ) → edges_of (replicate n (reference 0 v o)) ≡ replicate n (edge_of (owed_reference 0 o))
-    each zero = refl
-    each (suc n) = ap (λ (es : List Edge). edge_of (owed_reference 0 o) ∷ es) (each n)
-
--- the counts are those after statements
-pub counted-same : (table : List (Option ℕ)) (c : Counts) (earlier : List Statement) → Counted c (map says earlier) → below (counted_references table c) 256 ≡ below (variable_references table earlier) 256
-counted-same table c earlier t =
-    below-same (counted_references table c) (variable_references table earlier) 256
-    (λ v small. ap (λ (n : ℕ). held_references v (held_at table v) (n - get_or c.released v 0)) (t.gives v small) ∙ ap (λ (n : ℕ). held_references v (held_at table v) (given v earlier - n)) (t.takes v small))
-
-pub owed-more : (us vs : List Item) → owed_references (us ++ vs) ≡ owed_references us ++ owed_references vs
-owed-more [] vs = refl
-owed-more (Release o ∷ us) vs = ap (λ (rs : List Reference). owed_reference 0 o ∷ rs) (owed-more us vs)
-owed-more (Slots b ∷ us) vs = owed-more us vs
-
--- one copy more
-pub copies-more : (x : Edge) (n : ℕ) (start before after : List Edge) → before ≡ start ++ replicate n x → after ≡ before ++ x ∷ [] → after ≡ start ++ replicate (n + 1) x
-copies-more x n start before after so_far is =
-    let e : n + 1 ≡ suc n = omega arith in
-    is ∙ ap (λ (es : List Edge). es ++ x ∷ []) so_far ∙ append_assoc start (replicate n x) (x ∷ []) ∙ ap (λ (es : List Edge). start ++ es) (last n ∙ ap (λ (k : ℕ). replicate k x) (sym e))
-  where
-    last : (n : ℕ) → replicate n x ++ x ∷ [] ≡ replicate (suc n) x
-    last zero = refl
-    last (suc n) = ap (λ (es : List Edge). x ∷ es) (last n)
-
--- one item of work more
-pub owed-item : (start before after : List Edge) (us vs ws : List Item) → before ≡ start ++ edges_of (owed_references us) → after ≡ before ++ edges_of (owed_references vs) → ws ≡ us ++ vs → after ≡ start ++ edges_of (owed_references ws)
-owed-item start before after us vs ws so_far is more =
-    is ∙ ap (λ (es : List Edge). es ++ edges_of (owed_references vs)) so_far ∙ append_assoc start (edges_of (owed_references us)) (edges_of (owed_references vs))
-    ∙ ap (λ (es : List Edge). start ++ es) (sym (map-append edge_of (owed_references us) (owed_references vs)) ∙ ap edges_of (sym (owed-more us vs)) ∙ ap (λ (xs : List Item). edges_of (owed_references xs)) (sym more))
-
--- one slot more, and the end of them
-take_found : (os : List ℕ) (n o : ℕ) → slice_get os n ≡ Some o → take (suc n) os ≡ take n os ++ o ∷ []
-take_found [] n o e = absurd cc
-take_found (x ∷ os) zero o e = ap (λ (y : ℕ). y ∷ []) (some_is x o e)
-take_found (x ∷ os) (suc n) o e = ap (λ (ys : List ℕ). x ∷ ys) (take_found os n o e)
-
-pub found_within : (os : List ℕ) (n o : ℕ) → slice_get os n ≡ Some o → n < length os
-found_within [] n o e = absurd cc
-found_within (x ∷ os) zero o e = omega arith
-found_within (x ∷ os) (suc n) o e = omega (arith, found_within os n o e)
-
-take_none : (os : List ℕ) (n : ℕ) → slice_get os n ≡ None → take n os ≡ os
-take_none [] zero e = refl
-take_none [] (suc n) e = refl
-take_none (x ∷ os) zero e = absurd cc
-take_none (x ∷ os) (suc n) e = ap (λ (ys : List ℕ). x ∷ ys) (take_none os n e)
-
-pub slots-more : (b : ℕ) (os : List ℕ) (given place o : ℕ) (start before after : List Edge) → given ≤ place → slice_get os (place - given) ≡ Some o → before ≡ start ++ edges_of (map (slot_reference b) (take (place - given) os)) → after ≡ before ++ edge_of (slot_reference b o) ∷ [] → after ≡ start ++ edges_of (map (slot_reference b) (take (place + 1 - given) os))
-slots-more b os given place o start before after le e so_far is =
-    let next : place + 1 - given ≡ suc (place - given) = omega arith in
-    let taken_now : take (place + 1 - given) os ≡ take (place - given) os ++ o ∷ [] = ap (λ (n : ℕ). take n os) next ∙ take_found os (place - given) o e in
-    let rs = map (slot_reference b) (take (place - given) os) in
-    is ∙ ap (λ (es : List Edge). es ++ edge_of (slot_reference b o) ∷ []) so_far ∙ append_assoc start (edges_of rs) (edge_of (slot_reference b o) ∷ [])
-    ∙ ap (λ (es : List Edge). start ++ es) (sym (map-append edge_of rs (slot_reference b o ∷ [])) ∙ ap edges_of (sym (map-append (slot_reference b) (take (place - given) os) (o ∷ []))) ∙ ap (λ (xs : List ℕ). edges_of (map (slot_reference b) xs)) (sym taken_now))
-
-pub slots-end : (b : ℕ) (os : List ℕ) (n : ℕ) (start now : List Edge) → slice_get os n ≡ None → now ≡ start ++ edges_of (map (slot_reference b) (take n os)) → now ≡ start ++ edges_of (map (slot_reference b) os)
-slots-end b os n start now e is = is ∙ ap (λ (xs : List ℕ). start ++ edges_of (map (slot_reference b) xs)) (take_none os n e)
-
--- one variable more
-get_or_any : (table : List (Option ℕ)) (v : ℕ) (d : Option ℕ) → v < length table → get_or table v d ≡ held_at table v
-get_or_any [] v d lt = absurd (omega arith)
-get_or_any (x ∷ xs) zero d lt = refl
-get_or_any (x ∷ xs) (suc v) d lt = get_or_any xs v d (omega (arith, lt))
-
-pub variables-more : (table : List (Option ℕ)) (c : Counts) (v : ℕ) (d : Option ℕ) (n : ℕ) (start before after : List Edge) → v < length table → n ≡ get_or c.given v 0 - get_or c.released v 0 → before ≡ start ++ edges_of (below (counted_references table c) v) → after ≡ before ++ copies (get_or table v d) n → after ≡ start ++ edges_of (below (counted_references table c) (v + 1))
-variables-more table c v d n start before after lt size so_far is =
-    edges-more (counted_references table c) v start before after (copies (get_or table v d) n) so_far is
-    (edges-held v (held_at table v) (get_or c.given v 0 - get_or c.released v 0)
-    ∙ ap (λ (k : ℕ). copies (held_at table v) k) (sym size) ∙ ap (λ (found : Option ℕ). copies found n) (sym (get_or_any table v d lt)))
+-- the edges of a world are those of the state after its journal
+pub world-edges : (s : Script) (journal : List Entry) (rows : List (List (Option ℕ))) (bodies : List Held) (frames : List Standing) (p : Edge → Bool) (es : List Edge)
+    → MayRun s → Mirrors (After s journal).parts bodies → HoldsParcels s (After s journal) rows → AreFrames s (After s journal) frames → AllHaveVariables (stands_of frames) (length frames)
+    → es ≡ (edges_of (below (stand_references s (stands_of frames)) (length frames)) ++ edges_of (below (parcel_references rows) (length rows))) ++ edges_of (below (slot_references bodies) (length bodies))
+    → count_by p es ≡ count_by p (edges_of (After s journal).edges)
+world-edges s journal rows bodies frames p es runs mirrors parcels framed variables is =
+    let st = After s journal in
+    let places = edges_of (below (parcel_references rows) (length rows)) in
+    let slots = edges_of (below (slot_references bodies) (length bodies)) in
+    let few : (t : ℕ) → t < s.thread_count → HasVariables (stand_at t st.stands) =
+    λ t lt. subst (λ (ss : List Stand). HasVariables (stand_at t ss)) framed.stand (variables t (omega (arith, lt, framed.count))) in
+    edges_same s st rows bodies (sound s journal runs.owned).held (plain_after s journal runs.stage) (λ t k. parcels_one s journal t k) mirrors parcels few p es
+    (is ∙ ap (λ (n : ℕ). (edges_of (below (stand_references s (stands_of frames)) n) ++ places) ++ slots) framed.count
+    ∙ ap (λ (ss : List Stand). (edges_of (below (stand_references s ss) s.thread_count) ++ places) ++ slots) framed.stand)
 
 -- a world has at most as many bodies as there are numbers of objects
-pub few_bodies : (s : Script) (journal : List Entry) (bodies : List Held) (table : List (Option ℕ)) (work : List Work) (number : ℕ) (is_done : Bool) → IsAt s journal bodies table work number is_done → length bodies ≤ 65536
-few_bodies s journal bodies table work number is_done at =
-    omega (arith, few_made s journal at.legal, length-objects bodies, ap length at.follows.mirrors.objects_are)
+pub few-bodies : (s : Script) (journal : List Entry) (bodies : List Held) → IsLegal s journal → Mirrors (After s journal).parts bodies → length bodies ≤ 65536
+few-bodies s journal bodies legal mirrors =
+    omega (arith, (few_of_legal s journal legal).objects, length-objects bodies, ap length mirrors.objects_are)
 
--- each collection may have one more member, since a journal is far shorter than a collection may be
-pub may_grow : (s : Script) (journal : List Entry) (bodies : List Held) (table : List (Option ℕ)) (work : List Work) (number : ℕ) (is_done : Bool)
-    → IsAt s journal bodies table work number is_done → length journal ≤ 4000000 → MayGrow bodies
-may_grow s journal bodies table work number is_done at few o =
-    omega (arith, few, rw (← at.follows.mirrors.objects_are) at (few_members s journal o at.legal))
-
--- the edges of a world are those of the state after its journal
-pub world-edges : (s : Script) (journal : List Entry) (bodies : List Held) (table : List (Option ℕ)) (items : List Item) (number : ℕ) (is_done : Bool) (p : Edge → Bool) (es : List Edge) → IsAt s journal bodies table (works items) number is_done → es ≡ (edges_of (below (variable_references table (take number (setup s))) 256) ++ edges_of (owed_references items)) ++ edges_of (below (slot_references bodies) (length bodies)) → count_by p es ≡ count_by p (edges_of (After s journal).edges)
-world-edges s journal bodies table items number is_done p es at is =
-    edges_same s (After s journal) bodies table items number is_done (sound s journal at.owned at.legal) at.follows p es is
-
--- what is added one after another is all of them
-pub edges-whole : (table : List (Option ℕ)) (c : Counts) (done earlier : List Statement) (us items : List Item) (start held owed_too all_of slots : List Edge) → start ≡ [] → held ≡ start ++ edges_of (below (counted_references table c) 256) → owed_too ≡ held ++ edges_of (owed_references us) → us ≡ items → all_of ≡ owed_too ++ slots → Counted c (map says done) → done ≡ earlier → all_of ≡ (edges_of (below (variable_references table earlier) 256) ++ edges_of (owed_references items)) ++ slots
-edges-whole table c done earlier us items start held owed_too all_of slots none first second same third tallied is =
-    let held_is : held ≡ edges_of (below (variable_references table earlier) 256) =
-    first ∙ ap (λ (es : List Edge). es ++ edges_of (below (counted_references table c) 256)) none
-    ∙ ap edges_of (counted-same table c done tallied ∙ ap (λ (ss : List Statement). below (variable_references table ss) 256) is) in
-    third ∙ ap (λ (es : List Edge). es ++ slots)
-    (second ∙ ap (λ (es : List Edge). es ++ edges_of (owed_references us)) held_is ∙ ap (λ (ws : List Item). edges_of (below (variable_references table earlier) 256) ++ edges_of (owed_references ws)) same)
-
-pub view-edges : (w : Inside) (s : Script) (view : WorldView) (p : Edge → Bool) (es : List Edge) → w.script ≡ Some s → IsWorld w → view_of w ≡ view → es ≡ (edges_of (below (variable_references w.frame.table (take w.frame.number (setup s))) 256) ++ edges_of (owed_references w.frame.work.items)) ++ edges_of (below (slot_references w.store.bodies) (length w.store.bodies)) → count_by p es ≡ count_by p (edges_of (state_of view).edges)
-view-edges w s view p es script inv is here =
-    let state_is : state_of (view_of w) ≡ After s w.journal.items = rw script refl in
-    world-edges s w.journal.items w.store.bodies w.frame.table w.frame.work.items w.frame.number w.frame.is_done p es (begun_is w s script inv).at here
-    ∙ ap (λ (st : State). count_by p (edges_of st.edges)) (sym state_is ∙ ap state_of is)
-
--- running counts of statements that take no more than they gave
-pub counts_own : (c : Counts) (done earlier : List Statement) → Counted c (map says done) → done ≡ earlier → ((v : ℕ) → released v earlier ≤ given v earlier)
-    → (v : ℕ) → v < 256 → get_or c.released v 0 ≤ get_or c.given v 0
-counts_own c done earlier counted is owns v small =
-    let most = rw (← is) at (owns v) in omega (arith, counted.gives v small, counted.takes v small, most)
-
--- running counts of fewer than 2^64 lines can rise
-pub room_for_one : (c : Counts) (earlier : List BlockLine) → Counted c earlier → length earlier + 1 < 2 ^ 64 → HasRoom c 1
-room_for_one c earlier counted few = record {
-  binds = λ v small. omega (arith, counted.binds v small, total_le (bound_by v) (bound_by_le v) earlier);
-  gives = λ v small. omega (arith, counted.gives v small, total_le (given_by v) (given_by_le v) earlier);
-  takes = λ v small. omega (arith, counted.takes v small, total_le (released_by v) (taken_by_le v) earlier);
-}
+-- the edges that are listed of a world whose script has begun
+pub begun-edges : (w : Inside) (p : Edge → Bool) (none first es : List Edge) → IsBegun w → MayRun w.ground.script → none ≡ []
+    → first ≡ none ++ edges_of (below (stand_references w.ground.script (stands_of w.frames.items)) (length w.frames.items)) → AllHaveVariables (stands_of w.frames.items) (length w.frames.items)
+    → AddsGround w.ground first es → count_by p es ≡ count_by p (edges_of (edges_in (view_of w)))
+begun-edges w p none first es begun runs empty is variables adds =
+    let threads = edges_of (below (stand_references w.ground.script (stands_of w.frames.items)) (length w.frames.items)) in
+    let places = edges_of (below (parcel_references adds.rows) (length adds.rows)) in
+    let slots = edges_of (below (slot_references adds.bodies) (length adds.bodies)) in
+    world-edges w.ground.script w.ground.journal adds.rows adds.bodies w.frames.items p es runs adds.mirrors adds.places begun.frames variables
+    (adds.added ∙ ap (λ (fs : List Edge). (fs ++ places) ++ slots) (is ∙ ap (λ (fs : List Edge). fs ++ threads) empty))

@@ -1,8 +1,10 @@
 -- The files of definitions of cf_world.
 pub mod Worlds
-pub mod Mirrors
-pub mod Works
-pub mod Running
-pub mod Inside
+pub mod Grounds
+pub mod Entering
+pub mod Kept
+pub mod Begun
+pub mod Bindings
 pub mod Ends
+pub mod Leads
 pub mod Referring

@@ -1,57 +1,64 @@
--- The references that there are, by the parts of a world: those of variables, of owed work and of slots.
-use Rattle.std.specs.Prelude.{ℕ, zero, suc, ◌-◌, ◌≤◌, List, [], ◌∷◌, ◌++◌, map, replicate, Option, Some, None, slice_index}
-use Rattle.cf_syntax.specs.declared.counts.Counts.{Counts}
-use Rattle.cf_syntax.specs.declared.statement.Statement.{Statement}
-use Rattle.cf_syntax.specs.BlockLines.{says}
-use Rattle.cf_syntax.specs.Owned as owned
+-- The references that there are, by the parts of a world: those of variables and of owed work by where threads stand,
+-- those of parcels by their rows, and those of slots by bodies. This project's own.
+use Rattle.std.specs.Prelude.{◌≡◌, ℕ, ◌<◌, ◌≤◌, List, [], ◌∷◌, ◌++◌, length, map, Option, None, slice_index_or}
+use Rattle.cf_syntax.specs.declared.script.Script.{Script}
 use Rattle.cf_graph.specs.declared.edge.Edge.{Edge}
-use Rattle.cf_graph.specs.OneThread.Edges.{Reference, edge_of}
+use Rattle.cf_graph.specs.Holders.{variable, owed, parcel, slot}
+use Rattle.cf_graph.specs.Edges.{Reference, held_by, held_if, edge_of, edges_of}
 use Rattle.cf_contents.specs.Stores.{Held, left_in}
-use Rattle.cf_model.specs.OneThread.Steps.{reference, owed_reference, slot_reference}
-use Rattle.cf_world.specs.declared.work.Item.{Item}
-use Rattle.cf_world.specs.declared.work.Item.TheVariants.{Release, Slots}
-use Rattle.cf_world.specs.Mirrors.{held_at}
+use Rattle.cf_next.specs.Stands.{look, Frame, Stand}
+use Rattle.cf_next.specs.Next.{top_frame}
+use Rattle.cf_next.specs.Standing.{Standing}
+use Rattle.cf_next.specs.Held.{below, passed_lines, variable_objects, owed_objects}
+use Rattle.cf_model.specs.State.{stand_at}
+use Rattle.cf_world.specs.Grounds.{GroundView, HoldsParcels, Mirrors, parcel_at, state_of}
 
--- the lists of the numbers below one, one after another
-unfoldable pub below : (ℕ → List Reference) → ℕ → List Reference
-below f zero = []
-below f (suc n) = below f n ++ f n
+-- the references of a variable of a thread's one frame, as many as the lines done leave to it
+abbrev pub variable_references : Script → ℕ → Frame → ℕ → List Reference
+variable_references s t f v = map (held_by (variable t 0 v)) (variable_objects (passed_lines s f) f v)
 
--- a number of references from a variable to its object
-abbrev pub held_references : ℕ → Option ℕ → ℕ → List Reference
-held_references v None n = []
-held_references v (Some o) n = replicate n (reference 0 v o)
+-- those of a thread: of its variables and of its work
+abbrev pub thread_references : Script → ℕ → Stand → List Reference
+thread_references s t stand =
+    below (variable_references s t (top_frame stand.frames)) 256 ++ map (held_by (owed t)) (owed_objects stand.work)
 
--- a number of references from the thread to an object, as callers see them
-abbrev pub copies : Option ℕ → ℕ → List Edge
-copies None n = []
-copies (Some o) n = replicate n (edge_of (owed_reference 0 o))
+-- the same by the stands of all threads
+abbrev pub stand_references : Script → List Stand → ℕ → List Reference
+stand_references s stands t = thread_references s t (stand_at t stands)
 
--- the references of a variable, as many as counts say
-abbrev pub counted_references : List (Option ℕ) → Counts → ℕ → List Reference
-counted_references table c v = held_references v (held_at table v) (slice_index c.given v - slice_index c.released v)
+-- those of a place of a parcel
+abbrev pub place_references : List (List (Option ℕ)) → (t k : ℕ) → List Reference
+place_references rows t k = held_if (parcel t k) (parcel_at rows t k)
 
--- how many references statements give to a variable, and take from it
-abbrev pub given : ℕ → List Statement → ℕ
-given v earlier = owned.given v (map says earlier)
+-- those of all places of a parcel
+abbrev pub parcel_references : List (List (Option ℕ)) → ℕ → List Reference
+parcel_references rows t = below (place_references rows t) (length (slice_index_or rows t []))
 
-abbrev pub released : ℕ → List Statement → ℕ
-released v earlier = owned.released v (map says earlier)
-
--- the references of a variable, as many as it owns after statements
-abbrev pub variable_references : List (Option ℕ) → List Statement → ℕ → List Reference
-variable_references table earlier v = held_references v (held_at table v) (given v earlier - released v earlier)
-
--- of no variable do these statements take more than they gave
-abbrev pub OwnsAll : List Statement → Type 0
-OwnsAll earlier = (v : ℕ) → released v earlier ≤ given v earlier
-
--- the references that the thread was given out
-abbrev pub owed_references : List Item → List Reference
-owed_references [] = []
-owed_references (Release o ∷ ws) = owed_reference 0 o ∷ owed_references ws
-owed_references (Slots b ∷ ws) = owed_references ws
-
--- the references in the slots that are left to a body
+-- those in the slots that are left to a body
 abbrev pub slot_references : List Held → ℕ → List Reference
-slot_references bodies b = map (slot_reference b) (left_in bodies b)
+slot_references bodies b = map (held_by (slot b)) (left_in bodies b)
+
+-- an edge from a thread
+abbrev pub thread_edge : ℕ → ℕ → Edge
+thread_edge t o = edge_of (held_by (owed t) o)
+
+-- the variables of a thread's frame have numbers below 256
+abbrev pub HasVariables : Stand → Type 0
+HasVariables stand = (v : ℕ) → 256 ≤ v → look v (top_frame stand.frames).bindings ≡ None
+
+-- the same of each of the first threads, so many
+abbrev pub AllHaveVariables : List Stand → ℕ → Type 0
+AllHaveVariables stands n = (t : ℕ) → t < n → HasVariables (stand_at t stands)
+
+-- the stands of threads
+abbrev pub stands_of : List Standing → List Stand
+stands_of frames = map (λ (f : Standing). f.stand) frames
+
+-- edges to which those of parcels and of slots are added, by the rows and the bodies of a ground
+pub record AddsGround (g : GroundView) (before after : List Edge) : Type 0 where
+  pub rows : List (List (Option ℕ))
+  pub bodies : List Held
+  pub mirrors : Mirrors (state_of g).parts bodies
+  pub places : HoldsParcels g.script (state_of g) rows
+  pub added : after ≡ (before ++ edges_of (below (parcel_references rows) (length rows)))
+      ++ edges_of (below (slot_references bodies) (length bodies))

@@ -1,102 +1,143 @@
 //! The references that there are.
-ghost use Rattle.std.specs.Prelude.{◌≡◌, ℕ, ◌<◌, ◌≤◌, [], ◌∷◌, ◌++◌, length, map, take, replicate, slice_index, OnOk, IfOk};
-ghost use Rattle.cf_syntax.specs.BlockLines.{says};
-ghost use Rattle.cf_syntax.specs.Counting.{Counted};
-ghost use Rattle.cf_graph.specs.OneThread.Edges.{edge_of, edges_of};
-ghost use Rattle.cf_model.specs.OneThread.Steps.{owed_reference};
-ghost use Rattle.cf_model.specs.OneThread.Journals.{setup};
-ghost use Rattle.cf_world.specs.Referring.{OwnsAll, below, copies, counted_references, variable_references, owed_references, slot_references};
+ghost use Rattle.std.specs.Prelude.{◌≡◌, ℕ, ◌<◌, ◌≤◌, ◌++◌, Bool, count_by, length, map, IfOk, OnOk};
+ghost use Rattle.cf_syntax.specs.BlockLines.{thread_block, uses_in};
+ghost use Rattle.cf_graph.specs.declared.edge.Edge.{Edge};
+ghost use Rattle.cf_graph.specs.Edges.{edges_of};
+ghost use Rattle.cf_next.specs.Held.{below};
+ghost use Rattle.cf_next.specs.Standing.{Standing};
+ghost use Rattle.cf_world.specs.Grounds.{HasPlaces};
+ghost use Rattle.cf_world.specs.Referring.{AddsGround, HasVariables, AllHaveVariables, parcel_references, place_references, slot_references, stand_references, stands_of, thread_edge, thread_references};
+ghost use Rattle.cf_world.specs.Worlds.{edges_in};
 
-use crate::frame::{Frame, Table};
-use crate::work::Item;
+use crate::begun::Begun;
+use crate::ground::Ground;
+use crate::parcels::{Parcels, places};
 use cf_graph::{Edge, Owner};
-use cf_ids::{ObjId, ThreadId, VARIABLES};
+use cf_ids::{ObjId, ThreadId};
+use cf_next::Frames;
 use cf_store::Store;
-use cf_syntax::{Counts, Script, Statement};
+use cf_syntax::Script;
 use std::alloc::{AllocError as NoMemory, Global};
 
-/// The counts of statements.
-fn count(statements: &[Statement]) -> Counts
-    ensures { Counted result (map says statements.now) }
-{
-    let mut counts = Counts::new();
-    for statement in statements {
-        counts.count(statement.ownership());
-    }
-    counts
-}
-
-/// The first statements, as many as there are up to a number.
-fn first(statements: &[Statement], number: usize) -> &[Statement]
-    ensures { result.now ≡ take number statements.now }
-{
-    if number < statements.len() {
-        &statements[..number]
-    } else {
-        statements
+impl Begun {
+    /// The references, each as often as there are, in any order.
+    pub fn edges(&self, alloc: Global) -> Result<Vec<Edge>, NoMemory>
+        ensures { IfOk result (λ es. (p : Edge → Bool)
+            → count_by p es.items ≡ count_by p (edges_of (edges_in self.now))) }
+    {
+        let mut edges = Vec::new(alloc);
+        add_threads(
+            alloc,
+            &mut edges,
+            self.ground.script(),
+            self.frames.as_slice(),
+        )?;
+        add_ground(&mut edges, &self.ground)?;
+        Ok(edges)
     }
 }
 
-/// The statements of setup before a number.
-fn earlier(script: &Script, number: u32) -> &[Statement]
-    ensures { result.now ≡ take number (setup script.now) }
+/// Adds the edges of parcels and of slots.
+fn add_ground(edges: &mut Vec<Edge>, ground: &Ground) -> Result<(), NoMemory>
+    ensures { OnOk result (AddsGround ground.now edges.old.items edges.new.items) }
 {
-    match script.blocks().first() {
-        Some(block) => first(block.statements.as_slice(), number as usize),
-        None => &[],
-    }
+    add_parcels(edges, ground.script(), &ground.parcels)?;
+    add_bodies(edges, &ground.store)
 }
 
-/// Adds an edge from setup's thread as often as a number says.
-fn add_copies(edges: &mut Vec<Edge>, object: ObjId, number: usize) -> Result<(), NoMemory>
-    ensures { OnOk result (edges.new.items ≡ edges.old.items ++ replicate number (edge_of (owed_reference 0 object))) }
+/// Adds an edge from a thread to each of some objects.
+fn add_held(edges: &mut Vec<Edge>, t: ThreadId, objects: &[ObjId]) -> Result<(), NoMemory>
+    ensures { OnOk result (edges.new.items ≡ edges.old.items ++ map (thread_edge t) objects.now) }
 {
-    for _ in 0..number {
+    for object in objects {
         edges.push(Edge {
-            owner: Owner::Thread(ThreadId::SETUP),
+            owner: Owner::Thread(t),
+            object: *object,
+        })?;
+    }
+    Ok(())
+}
+
+/// Adds the edges of a thread: of its variables, and of what it owes.
+fn add_thread(
+    alloc: Global,
+    edges: &mut Vec<Edge>,
+    script: &Script,
+    t: ThreadId,
+    frames: &Frames,
+) -> Result<(), NoMemory>
+    requires { script.now.thread_count ≤ 64 }
+    ensures items { OnOk result
+        (edges.new.items ≡ edges.old.items ++ edges_of (thread_references script.now t frames.now.stand)) }
+    ensures variables { HasVariables frames.now.stand }
+{
+    let mut objects = Vec::new(alloc);
+    frames.held(script, &mut objects)?;
+    add_held(edges, t, objects.as_slice())
+}
+
+/// Adds the edges of all threads.
+fn add_threads(
+    alloc: Global,
+    edges: &mut Vec<Edge>,
+    script: &Script,
+    frames: &[Frames],
+) -> Result<(), NoMemory>
+    requires threads { script.now.thread_count ≤ 64 }
+    requires few { length frames.now ≤ 64 }
+    ensures items { OnOk result (edges.new.items ≡ edges.old.items
+        ++ edges_of (below (stand_references script.now (stands_of frames.now)) (length frames.now))) }
+    ensures variables { OnOk result (AllHaveVariables (stands_of frames.now) (length frames.now)) }
+{
+    for t in 0..frames.len() {
+        add_thread(alloc, edges, script, ThreadId(t as u8), &frames[t])?;
+    }
+    Ok(())
+}
+
+/// Adds the edge of a place of a parcel, where it has an object.
+fn add_place(
+    edges: &mut Vec<Edge>,
+    parcels: &Parcels,
+    t: ThreadId,
+    k: usize,
+) -> Result<(), NoMemory>
+    ensures { OnOk result (edges.new.items ≡ edges.old.items ++ edges_of (place_references parcels.now t k)) }
+{
+    if let Some(object) = parcels.at(t, k) {
+        edges.push(Edge {
+            owner: Owner::Parcel(t),
             object,
         })?;
     }
     Ok(())
 }
 
-/// The same for the object of a variable, where it has one.
-fn add_variable(edges: &mut Vec<Edge>, object: Option<ObjId>, number: usize) -> Result<(), NoMemory>
-    ensures { OnOk result (edges.new.items ≡ edges.old.items ++ copies object number) }
+/// Adds the edges of a parcel of so many places.
+fn add_parcel(
+    edges: &mut Vec<Edge>,
+    parcels: &Parcels,
+    t: ThreadId,
+    places: usize,
+) -> Result<(), NoMemory>
+    ensures { OnOk result
+        (edges.new.items ≡ edges.old.items ++ edges_of (below (place_references parcels.now t) places)) }
 {
-    match object {
-        Some(object) => add_copies(edges, object, number),
-        None => Ok(()),
-    }
-}
-
-/// Adds the edges of the variables of setup.
-fn add_variables(edges: &mut Vec<Edge>, table: &Table, counts: &Counts) -> Result<(), NoMemory>
-    requires { (v : ℕ) → v < 256 → slice_index counts.now.released v ≤ slice_index counts.now.given v }
-    ensures { OnOk result (edges.new.items ≡ edges.old.items ++ edges_of (below (counted_references table.now counts.now) 256)) }
-{
-    for v in 0..VARIABLES {
-        add_variable(edges, table[v], counts.given[v] - counts.released[v])?;
+    for k in 0..places {
+        add_place(edges, parcels, t, k)?;
     }
     Ok(())
 }
 
-/// Adds the edge of an item of work, where it is a release.
-fn add_item(edges: &mut Vec<Edge>, item: &Item) -> Result<(), NoMemory>
-    ensures { OnOk result (edges.new.items ≡ edges.old.items ++ edges_of (owed_references (item.now ∷ []))) }
+/// Adds the edges of all parcels.
+fn add_parcels(edges: &mut Vec<Edge>, script: &Script, parcels: &Parcels) -> Result<(), NoMemory>
+    requires threads { script.now.thread_count ≤ 64 }
+    requires places { HasPlaces script.now parcels.now }
+    ensures { OnOk result (edges.new.items ≡ edges.old.items
+        ++ edges_of (below (parcel_references parcels.now) (length parcels.now))) }
 {
-    match item {
-        Item::Release(object) => add_copies(edges, *object, 1),
-        Item::Slots(_) => Ok(()),
-    }
-}
-
-/// Adds the edges of what the thread was given out.
-fn add_owed(edges: &mut Vec<Edge>, work: &[Item]) -> Result<(), NoMemory>
-    ensures { OnOk result (edges.new.items ≡ edges.old.items ++ edges_of (owed_references work.now)) }
-{
-    for item in work {
-        add_item(edges, item)?;
+    for t in 0..script.threads() {
+        add_parcel(edges, parcels, ThreadId(t as u8), places(script, t))?;
     }
     Ok(())
 }
@@ -119,32 +160,11 @@ fn add_body(edges: &mut Vec<Edge>, store: &Store, body: ObjId) -> Result<(), NoM
 /// Adds the edges of the slots of all bodies.
 fn add_bodies(edges: &mut Vec<Edge>, store: &Store) -> Result<(), NoMemory>
     requires { length store.now.bodies ≤ 65536 }
-    ensures { OnOk result (edges.new.items ≡ edges.old.items ++ edges_of (below (slot_references store.now.bodies) (length store.now.bodies))) }
+    ensures { OnOk result (edges.new.items ≡ edges.old.items
+        ++ edges_of (below (slot_references store.now.bodies) (length store.now.bodies))) }
 {
     for body in 0..store.count() {
         add_body(edges, store, ObjId(body as u32))?;
     }
     Ok(())
-}
-
-/// The edges that there are: those of variables, of owed releases and of slots.
-pub(crate) fn edges_by(
-    alloc: Global,
-    script: &Script,
-    store: &Store,
-    frame: &Frame,
-) -> Result<Vec<Edge>, NoMemory>
-    requires few { length store.now.bodies ≤ 65536 }
-    requires owns { OwnsAll (take frame.now.number (setup script.now)) }
-    ensures { IfOk result (λ es. es.items
-        ≡ edges_of (below (variable_references frame.now.table (take frame.now.number (setup script.now))) 256)
-        ++ edges_of (owed_references frame.now.work.items)
-        ++ edges_of (below (slot_references store.now.bodies) (length store.now.bodies))) }
-{
-    let counts = count(earlier(script, frame.number));
-    let mut edges = Vec::new(alloc);
-    add_variables(&mut edges, &frame.table, &counts)?;
-    add_owed(&mut edges, frame.work.as_slice())?;
-    add_bodies(&mut edges, store)?;
-    Ok(edges)
 }

@@ -1,17 +1,19 @@
-//! The world of a run: its script, its journal, the bodies of its objects and where its thread stands. Each call that
-//! changes it adds the one legal entry.
+//! The world of a run: where its threads stand, and what they stand on, by the definitions of the model.
 #![tactic(auto)]
 
-mod advance;
-mod demand;
+mod applying;
+mod begun;
+mod counts;
 mod edges;
-mod enter;
-mod frame;
+mod flags;
+mod found;
+mod ground;
+mod leading;
+mod looking;
 mod next;
-mod release;
-mod work;
+mod parcels;
+mod statements;
 mod world;
 
-pub use next::Next;
-pub use std::alloc::AllocError as NoMemory;
+pub use next::{LeadNext, Next};
 pub use world::World;

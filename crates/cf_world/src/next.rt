@@ -1,4 +1,4 @@
-//! What a thread does next.
+//! What a thread and what the lead do next.
 
 use cf_model::Action;
 
@@ -17,4 +17,17 @@ pub enum Next {
     Limit,
     /// Its action makes an object, and as many were made as one run may make.
     Full,
+}
+
+/// What the lead does next, which moves time where all threads sleep.
+#[derive(Clone, Copy)]
+pub enum LeadNext {
+    /// A tick to at least this time, the least date of a sleeper, in ticks.
+    Tick(u64),
+    /// A stall: all sleep, and none has a date.
+    Stall,
+    /// Nothing: some started thread neither sleeps nor is done.
+    Busy,
+    /// Nothing more: all are done, or the last entry is a stall.
+    Over,
 }

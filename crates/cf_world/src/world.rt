@@ -1,86 +1,59 @@
 //! The world.
-ghost use Rattle.std.specs.Prelude.{◌≡◌, ◌-◌, ◌≤◌, [], ◌∷◌, ◌++◌, Bool, length, slice_get, count_by, Some, None, IsSome, IsSomeAnd, IfOk, OnOk, OnErr};
+ghost use Rattle.std.specs.Prelude.{◌≡◌, ◌-◌, ◌<◌, ◌≤◌, [], ◌∷◌, ◌++◌, Bool, length, slice_get, count_by, Some, None, IsSome, IsSomeAnd, IfOk, OnOk, OnErr};
 ghost use Rattle.std.specs.Option.{option_map, option_copied};
-ghost use Rattle.cf_contents.specs.Contents.{Object};
 ghost use Rattle.cf_graph.specs.declared.edge.Edge.{Edge};
-ghost use Rattle.cf_graph.specs.OneThread.Edges.{edges_of};
-ghost use Rattle.cf_model.specs.OneThread.Finals.{cut_of};
-ghost use Rattle.cf_world.specs.Worlds.{nowhere, state_of, next_in, acting, entered, ended_in, IsLegalWorld};
+ghost use Rattle.cf_graph.specs.Edges.{edges_of};
+ghost use Rattle.cf_next.specs.Actions.{cut_of};
+ghost use Rattle.cf_syntax.specs.Stage.{IsOfStage};
+ghost use Rattle.cf_next.specs.declared.action.Action.TheVariants as actions;
+ghost use Rattle.cf_world.specs.declared.next.LeadNext.TheVariants as leads;
+ghost use Rattle.cf_world.specs.Worlds.{IsLegalWorld, IsThread, IsTick, acting, applied, edges_in, ended_in, entered, lead_in, led, made_in, next_in, nowhere, prepared, retained_by, retains_in};
 ghost use Rattle.cf_world.specs.Ends.{given_back};
 
-use crate::advance::{enter_next, release_next};
-use crate::demand::{next_of, reserve_next};
-use crate::edges::edges_by;
-use crate::frame::Frame;
-use crate::next::Next;
+use crate::begun::Begun;
+use crate::next::{LeadNext, Next};
 use cf_graph::Edge;
-use cf_ids::{Ended, ObjId, ThreadId, TypeId};
+use cf_ids::{Ended, ObjId, ThreadId};
 use cf_model::Entry;
 use cf_owncheck::Checked;
-use cf_store::Store;
 use std::alloc::{AllocError as NoMemory, Global};
 use std::marker::Model;
 
-/// The world of a run. Contracts see its script, its limit, its journal, what its last entry gained, and for whose
+/// The world of a run. Contracts see its script, its limit, its journal, what its last `apply` gained, and for whose
 /// next action there is room; all else of it is the state after the journal.
 #[derive(Drop)]
 pub struct World {
-    script: Option<Checked>,
-    limit: u32,
-    journal: Vec<Entry>,
-    gained: Vec<ObjId>,
-    store: Store,
-    frame: Frame,
-    room: Option<ThreadId>,
+    begun: Option<Begun>,
 }
 
 impl Model for World {
-    ghost use Rattle.cf_world.specs.Worlds.{WorldView};
+    ghost use Rattle.cf_world.specs.Worlds.{WorldView, world_of};
 
     ghost Value = { WorldView };
 
-    ghost use Rattle.cf_world.specs.Inside.{view_of, IsWorld};
-
-    ghost view = { view_of };
-
-    ghost invariant = { IsWorld };
+    ghost view = { λ w. world_of w.begun };
 }
 
 impl World {
     /// A world in which no script has begun. It takes no memory.
-    pub fn empty(alloc: Global) -> World
+    pub fn empty() -> World
         ensures { result ≡ nowhere }
     {
-        World {
-            script: None,
-            limit: 0,
-            journal: Vec::new(alloc),
-            gained: Vec::new(alloc),
-            store: Store::new(alloc),
-            frame: Frame {
-                table: [None; 256],
-                number: 0,
-                work: Vec::new(alloc),
-                is_done: false,
-            },
-            room: None,
-        }
+        World { begun: None }
     }
 
-    /// Begins a script, with the journal's room for `limit` entries taken at once. `NoMemory` comes for want of memory
-    /// alone, and leaves the world empty.
-    pub fn begin(&mut self, script: Checked, limit: u32) -> Result<(), NoMemory>
+    /// Begins a script, with the journal's room for `limit` entries, from 1 to 4,000,000, taken at once. `NoMemory`
+    /// comes for want of memory alone, and leaves the world empty.
+    pub fn begin(&mut self, alloc: Global, script: Checked, limit: u32) -> Result<(), NoMemory>
         requires empty { self.old ≡ nowhere }
         requires some { 1 ≤ limit }
         requires most { limit ≤ 4000000 }
+        requires stage { IsOfStage script }
         ensures begun { OnOk result (self.new
             ≡ record { script = Some script; limit = limit; journal = []; gained = []; room = None }) }
         ensures refused { OnErr result (self.new ≡ nowhere) }
     {
-        self.journal.reserve(limit as usize)?;
-        self.gained.reserve(2)?;
-        self.limit = limit;
-        self.script = Some(script);
+        self.begun = Some(Begun::new(alloc, script, limit)?);
         Ok(())
     }
 
@@ -88,23 +61,20 @@ impl World {
     pub fn script(&self) -> Option<&Checked>
         ensures { option_copied result ≡ self.now.script }
     {
-        self.script.as_ref()
+        match &self.begun {
+            Some(begun) => Some(begun.checked()),
+            None => None,
+        }
     }
 
     /// The script and the journal. It takes no memory. `None` if no script has begun.
     pub fn end(self) -> Option<(Checked, Vec<Entry>)>
         ensures { option_map given_back result ≡ option_map (λ s. record { script = s; journal = self.journal }) self.script }
     {
-        let World {
-            script,
-            limit: _,
-            journal,
-            gained: _,
-            store: _,
-            frame: _,
-            room: _,
-        } = self;
-        Some((script?, journal))
+        match self.begun {
+            Some(begun) => Some(begun.end()),
+            None => None,
+        }
     }
 
     /// The entries so far.
@@ -112,104 +82,135 @@ impl World {
         ensures entries { result.now ≡ self.now.journal }
         ensures legal { IsLegalWorld self.now }
     {
-        self.journal.as_slice()
+        match &self.begun {
+            Some(begun) => begun.journal(),
+            None => &[],
+        }
     }
 
-    /// The object of each reference that the last entry added, one for each.
+    /// The object of each reference that the last `apply` added, one for each.
     pub fn gained(&self) -> &[ObjId]
         ensures objects { result.now ≡ self.now.gained }
         ensures few { length self.now.gained ≤ 2 }
     {
-        self.gained.as_slice()
+        match &self.begun {
+            Some(begun) => begun.gained(),
+            None => &[],
+        }
     }
 
     /// How many entries may still be made: none before a script begins.
     pub fn room(&self) -> u32
         ensures { result ≡ self.now.limit - length self.now.journal }
     {
-        self.limit - self.journal.len() as u32
+        match &self.begun {
+            Some(begun) => begun.room(),
+            None => 0,
+        }
     }
 
     /// How many objects were made.
     pub fn made(&self) -> usize
-        ensures { result ≡ length (state_of self.now).objects }
+        ensures { result ≡ made_in self.now }
     {
-        self.store.count()
-    }
-
-    /// The type of an object, or `None` if it was not made.
-    pub fn class(&self, o: ObjId) -> Option<TypeId>
-        ensures { result ≡ option_map (λ (ob : Object). ob.class) (slice_get (state_of self.now).objects o) }
-    {
-        self.store.class(o)
+        match &self.begun {
+            Some(begun) => begun.made(),
+            None => 0,
+        }
     }
 
     /// Sorts the elements of each heap, after which `edges` finds each slot at once. It takes no memory.
     pub fn sort(&mut self)
         ensures { self.new ≡ self.old }
     {
-        self.store.sort();
+        if let Some(begun) = &mut self.begun {
+            begun.sort();
+        }
     }
 
-    /// The references, each as often as there are, in any order. After `sort` it takes time linear in the statements
-    /// so far, the references and the objects. `NoMemory` comes for want of memory alone.
+    /// The references, each as often as there are, in any order. After `sort` it takes time linear in the lines so
+    /// far, the references and the objects. `NoMemory` comes for want of memory alone.
     pub fn edges(&self, alloc: Global) -> Result<Vec<Edge>, NoMemory>
-        ensures { IfOk result (λ es. (p : Edge → Bool) → count_by p es.items ≡ count_by p (edges_of (state_of self.now).edges)) }
+        ensures { IfOk result (λ es. (p : Edge → Bool) → count_by p es.items ≡ count_by p (edges_of (edges_in self.now))) }
     {
-        match &self.script {
-            Some(checked) => edges_by(alloc, checked.script(), &self.store, &self.frame),
+        match &self.begun {
+            Some(begun) => begun.edges(alloc),
             None => Ok(Vec::new(alloc)),
         }
     }
 
     /// What a thread does next.
     pub fn next(&self, t: ThreadId) -> Next
+        requires { IsThread self.now t }
         ensures { result ≡ next_in self.now t }
     {
-        let Some(checked) = &self.script else {
-            return Next::Waiting;
-        };
-        if t != ThreadId::SETUP {
-            return Next::Waiting;
+        match &self.begun {
+            Some(begun) => begun.next(t),
+            None => Next::Waiting,
         }
-        let script = checked.script();
-        let going = self.journal.len() < self.limit as usize;
-        next_of(script, &self.store, &self.frame, going)
+    }
+
+    /// What a thread does next; if it acts, there is room for that after it, as by `reserve`. A refusal changes nothing.
+    pub fn prepare(&mut self, alloc: Global, t: ThreadId) -> Result<Next, NoMemory>
+        requires { IsThread self.old t }
+        ensures next { IfOk result (λ n. n ≡ next_in self.old t) }
+        ensures room { OnOk result (self.new ≡ prepared t self.old) }
+        ensures refused { OnErr result (self.new ≡ self.old) }
+    {
+        match &mut self.begun {
+            Some(begun) => begun.prepare(alloc, t),
+            None => Ok(Next::Waiting),
+        }
     }
 
     /// Makes room for the next action of a thread, after which `apply` and `release` take no memory. A refusal changes
     /// nothing.
     pub fn reserve(&mut self, alloc: Global, t: ThreadId) -> Result<(), NoMemory>
-        requires { IsSome (acting self.old t) }
+        requires thread { IsThread self.old t }
+        requires acts { IsSome (acting self.old t) }
         ensures room { OnOk result (self.new ≡ record self.old { room = Some t }) }
         ensures refused { OnErr result (self.new ≡ self.old) }
     {
-        self.frame.work.reserve(2)?;
-        if let Some(checked) = &self.script {
-            reserve_next(alloc, checked.script(), &mut self.store, &self.frame)?;
+        match self.prepare(alloc, t) {
+            Ok(_) => Ok(()),
+            Err(error) => Err(error),
         }
-        self.room = Some(t);
-        Ok(())
+    }
+
+    /// The object of the (k+1)-th next action of a thread, where the next k+1 actions are all retains of objects. It
+    /// takes no memory.
+    pub fn ahead(&self, t: ThreadId, k: usize) -> Option<ObjId>
+        requires { IsThread self.now t }
+        ensures { result ≡ slice_get (retains_in self.now t) k }
+    {
+        match &self.begun {
+            Some(begun) => begun.ahead(t, k),
+            None => None,
+        }
     }
 
     /// Does the next action of a thread, which takes no reference away.
     pub fn apply(&mut self, t: ThreadId)
         requires room { self.old.room ≡ Some t }
         requires acts { IsSomeAnd (acting self.old t) (λ a. cut_of a ≡ None) }
+        ensures entered { self.new ≡ applied t self.old }
+        ensures legal { IsLegalWorld self.new }
+    {
+        if let Some(begun) = &mut self.begun {
+            begun.apply(t);
+        }
+    }
+
+    /// Does the next action of a thread, which is a retain that was made before.
+    pub fn book(&mut self, t: ThreadId, o: ObjId)
+        requires thread { IsThread self.old t }
+        requires acts { IsSomeAnd (acting self.old t) (λ a. retained_by a ≡ Some o) }
         ensures entered { self.new ≡ entered t self.old }
         ensures legal { IsLegalWorld self.new }
     {
-        let Some(checked) = &self.script else {
-            return;
-        };
-        enter_next(
-            checked.script(),
-            &mut self.journal,
-            &mut self.store,
-            &mut self.frame,
-            &mut self.gained,
-        );
-        self.room = None;
+        if let Some(begun) = &mut self.begun {
+            begun.book(t, o);
+        }
     }
 
     /// Does the next action of a thread, which is a release of a reference to an object, or gives up a slot that holds
@@ -221,18 +222,42 @@ impl World {
         ensures entered { self.new ≡ entered t self.old }
         ensures legal { IsLegalWorld self.new }
     {
-        let Some(checked) = &self.script else {
-            return;
-        };
-        self.gained.clear();
-        release_next(
-            checked.script(),
-            &mut self.journal,
-            &mut self.store,
-            &mut self.frame,
-            o,
-            ended,
-        );
-        self.room = None;
+        if let Some(begun) = &mut self.begun {
+            begun.release(t, o, ended);
+        }
+    }
+
+    /// What the lead does next.
+    pub fn lead_next(&self) -> LeadNext
+        ensures { result ≡ lead_in self.now }
+    {
+        match &self.begun {
+            Some(begun) => begun.lead_next(),
+            None => LeadNext::Over,
+        }
+    }
+
+    /// Lets time move to this time, in ticks, which wakes exactly the sleepers whose date is at most that.
+    pub fn tick(&mut self, time: u64)
+        requires due { IsTick (lead_in self.old) time }
+        requires below { length self.old.journal < self.old.limit }
+        ensures entered { self.new ≡ led (actions.Tick time) self.old }
+        ensures legal { IsLegalWorld self.new }
+    {
+        if let Some(begun) = &mut self.begun {
+            begun.tick(time);
+        }
+    }
+
+    /// Writes that all threads sleep and none has a date.
+    pub fn stall(&mut self)
+        requires due { lead_in self.old ≡ leads.Stall }
+        requires below { length self.old.journal < self.old.limit }
+        ensures entered { self.new ≡ led actions.Stall self.old }
+        ensures legal { IsLegalWorld self.new }
+    {
+        if let Some(begun) = &mut self.begun {
+            begun.stall();
+        }
     }
 }

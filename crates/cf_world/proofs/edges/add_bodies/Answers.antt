@@ -1,11 +1,12 @@
 -- Answers to the goals of `edges::add_bodies`.
 use Rattle.std.proofs.Common.{sym, append-nil, refl}
+use Rattle.cf_next.proofs.HeldLaws.{below-none}
 use Rattle.cf_world.specs.Referring.{slot_references}
-use Rattle.cf_world.proofs.Referring.{below-none, edges-more}
+use Rattle.cf_world.proofs.EdgeLists.{edges-more}
 use Rattle.cf_world.proofs.edges.add_bodies.Goals as goal
 
 pub loop-body-init : goal.loop-body-init
-loop-body-init c = rw below-none (sym (append-nil c.args.edges.now.items))
+loop-body-init c = rw (below-none (slot_references c.args.store.now.bodies)) (sym (append-nil c.args.edges.now.items))
 
 pub loop-body-preserved : goal.loop-body-preserved
 loop-body-preserved c =

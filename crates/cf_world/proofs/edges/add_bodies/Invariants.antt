@@ -1,7 +1,8 @@
 -- The loop invariants of `edges::add_bodies`.
 use Rattle.std.proofs.Common.{◌≡◌, ◌++◌}
-use Rattle.cf_graph.specs.OneThread.Edges.{edges_of}
-use Rattle.cf_world.specs.Referring.{below, slot_references}
+use Rattle.cf_graph.specs.Edges.{edges_of}
+use Rattle.cf_next.specs.Held.{below}
+use Rattle.cf_world.specs.Referring.{slot_references}
 use Rattle.cf_world.proofs.edges.add_bodies.Given as goal
 
 abbrev pub invariant-loop-body : goal.invariant-loop-body

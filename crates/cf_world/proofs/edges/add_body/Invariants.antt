@@ -1,8 +1,8 @@
 -- The loop invariants of `edges::add_body`.
 use Rattle.std.proofs.Common.{◌≡◌, ◌++◌, ◌+◌, ◌-◌, ◌≤◌, take, map, length}
-use Rattle.cf_graph.specs.OneThread.Edges.{edges_of}
+use Rattle.cf_graph.specs.Holders.{slot}
+use Rattle.cf_graph.specs.Edges.{edges_of, held_by}
 use Rattle.cf_contents.specs.Stores.{given_up_in, left_in}
-use Rattle.cf_model.specs.OneThread.Steps.{slot_reference}
 use Rattle.cf_world.proofs.edges.add_body.Given as goal
 
 -- the slots before the place are added, of which there are no more than edges
@@ -10,7 +10,7 @@ abbrev pub invariant-loop-object : goal.invariant-loop-object
 invariant-loop-object l = record {
   from : given_up_in l.store.bodies l.body ≤ l.place;
   size : l.place ≤ l.initial.place + length l.edges.items;
-  items : l.edges.items ≡ l.initial.edges.items ++ edges_of (map (slot_reference l.body) (take (l.place - given_up_in l.store.bodies l.body) (left_in l.store.bodies l.body)));
+  items : l.edges.items ≡ l.initial.edges.items ++ edges_of (map (held_by (slot l.body)) (take (l.place - given_up_in l.store.bodies l.body) (left_in l.store.bodies l.body)));
 }
 
 abbrev pub decreases-loop-object : goal.decreases-loop-object

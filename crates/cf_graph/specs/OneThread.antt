@@ -1,4 +1,0 @@
--- The files of OneThread in cf_graph.
-pub mod Holders
-pub mod Edges
-pub mod Operations

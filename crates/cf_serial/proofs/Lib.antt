@@ -1,0 +1,11 @@
+-- Lemmas of cf_serial.
+mod Closing
+mod Cuts
+mod Finding
+mod Growing
+mod Leads
+mod Nexts
+mod Raising
+mod Starting
+mod Timing
+mod Turns

@@ -1,0 +1,122 @@
+-- What a ground tells is what the state after its journal says.
+use Rattle.std.proofs.Common.{◌≡◌, ℕ, zero, suc, ◌+◌, ◌-◌, ◌<◌, ◌≤◌, ◌∙◌, Bool, true, false, ◌&&◌, ◌||◌, not, cond, List, [], ◌∷◌, ◌++◌, length, map, drop, get_or, Result, Ok, Err, Option, Some, None, refl, sym, ap, subst, eqb, ltb, leb, ◌==◌, arith, inl, inr}
+use Rattle.std.specs.Prelude.{slice_get, slice_index_or, IfSome, OnOk}
+use Rattle.std.specs.Option.{option_map}
+use Rattle.std.specs.List.{list_any, range_with_len}
+use Rattle.std.proofs.lemmas.List.{length-map, map-append}
+use Rattle.std.proofs.lemmas.List.FromFn.{map-range_with_len_more}
+use Rattle.std.proofs.lemmas.Bool.Decides.{nat_tests, eqb_tells}
+use Rattle.cf_syntax.specs.declared.script.Script.{Script}
+use Rattle.cf_syntax.specs.declared.statement.Statement.{Statement}
+use Rattle.cf_graph.specs.Holders.{parcel}
+use Rattle.cf_contents.specs.Contents.{Object, times, slots_at}
+use Rattle.cf_contents.specs.Deeds.{deed_at, first_of}
+use Rattle.cf_contents.specs.Stores.{Held, MayGrow, Ready, is_live_in, given_up_in, left_in, ready_deed}
+use Rattle.cf_next.specs.Facts.{Callout}
+use Rattle.cf_model.specs.declared.entry.Entry.{Entry}
+use Rattle.cf_model.specs.State.{State, Parts, left_of, first_held, start, flags_at, flags_of as fresh_flags}
+use Rattle.cf_model.specs.Things.{Thing, thing_at, is_valid_thing, is_signalled_thing, date_of_thing, repeats_thing, callout_of_thing, opens_thing, items_in, is_empty_mode}
+use Rattle.cf_model.specs.Known.{receiver_in, slot_left, facts_of}
+use Rattle.cf_model.specs.Journals.{After, IsLegal}
+use Rattle.cf_model.specs.Stage.{IsPlainState}
+use Rattle.cf_model.proofs.Adding.{are_few}
+use Rattle.cf_model.proofs.PlainStates.{plain_after}
+use Rattle.cf_world.specs.declared.flags.Flags.{Flags}
+use Rattle.cf_world.specs.declared.ground.Ground.TheInside.{Inside}
+use Rattle.cf_world.specs.Grounds.{GroundView, Mirrors, parcel_at, HasPlaces, HoldsParcels, AreFirst, Follows, MayRun, IsGround, deed_of, flags_of, known, state_of}
+use Rattle.cf_world.specs.Entering.{IsLastAnswer}
+use Rattle.cf_world.proofs.Mirroring.{left-mirrors, mirrored}
+
+-- ---- facts
+
+none_opens : (p : Parts) (items : List ℕ) → ((i : ℕ) → thing_at p i ≡ None) → list_any (λ i. opens_thing (thing_at p i)) items ≡ false
+none_opens p [] h = refl
+none_opens p (i ∷ items) h = rw (h i) (none_opens p items h)
+
+-- ---- of a script of today's forms no loop and no notice has anything
+
+module _ (v : GroundView) (run : MayRun v.script) where
+  plain_view : IsPlainState v.script (state_of v)
+  plain_view = plain_after v.script v.journal run.stage
+
+  pub tells_holds : (t m i : ℕ) → false ≡ (known v).holds t m i
+  tells_holds t m i = sym (plain_view.no_mode_has t m i)
+
+  pub tells_empty : (t m : ℕ) → true ≡ (known v).is_empty t m
+  tells_empty t m = sym (ap not (none_opens (state_of v).parts (items_in (state_of v) t m) plain_view.parts.things))
+
+  pub tells_valid : (i : ℕ) → false ≡ (known v).is_valid i
+  tells_valid i = sym (ap is_valid_thing (plain_view.parts.things i))
+
+  pub tells_signalled : (i : ℕ) → false ≡ (known v).is_signalled i
+  tells_signalled i = sym (ap is_signalled_thing (plain_view.parts.things i))
+
+  pub tells_date : (i : ℕ) → None ≡ (known v).next_date i
+  tells_date i = sym (ap date_of_thing (plain_view.parts.things i))
+
+  pub tells_repeats : (i : ℕ) → false ≡ (known v).repeats i
+  tells_repeats i = sym (ap repeats_thing (plain_view.parts.things i))
+
+  pub tells_callout : (i : ℕ) → None ≡ (known v).callout i
+  tells_callout i = sym (ap callout_of_thing (plain_view.parts.things i))
+
+  pub tells_receiver : (r : ℕ) → None ≡ (known v).receiver r
+  tells_receiver r =
+      sym (ap (receiver_in (state_of v).parts) (ap (λ rs. slice_index_or rs r None) plain_view.parts.registrations ∙ no_row r))
+    where
+      no_row : {A : Type 0} (n : ℕ) → slice_index_or {A = Option A} [] n None ≡ None
+      no_row zero = refl
+      no_row (suc n) = refl
+
+-- ---- flags, and the deed that is ready
+
+flags_in : (fs : List Flags) (t : ℕ) (f : Flags) → t < length fs → f ≡ get_or fs t f → flags_of f ≡ flags_at t (map flags_of fs)
+flags_in [] t f within is = absurd (omega (arith, within))
+flags_in (x ∷ fs) zero f within is = ap flags_of is
+flags_in (x ∷ fs) (suc t) f within is = flags_in fs t f (omega (arith, within)) is
+
+module _ (g : Inside) (inv : IsGround g) where
+  abbrev st : State
+  st = After g.script g.journal.items
+
+  plain : IsPlainState g.script st
+  plain = plain_after g.script g.journal.items inv.script.stage
+
+  pub may_grow : MayGrow g.store.bodies
+  may_grow = (are_few g.script g.journal.items).grow g.store.bodies inv.follows.mirrors.objects_are inv.short
+
+  pub flags_count : length g.flags.items ≡ g.script.thread_count
+  flags_count = sym (length-map g.flags.items flags_of) ∙ ap length inv.follows.flags_are ∙ plain.parts.flag_count
+
+  pub flags_told : (t : ℕ) (f : Flags) → t < length g.flags.items → f ≡ get_or g.flags.items t f → flags_of f ≡ flags_at t st.parts.flags
+  flags_told t f within is = flags_in g.flags.items t f within is ∙ ap (flags_at t) inv.follows.flags_are
+
+  -- ---- the deed that is ready
+
+  pub ready_told : {T E : Type 0} (result : Result T E) (ready : Option Ready) (found : Option Statement) (x : Statement) (used : List (Option ℕ)) → found ≡ Some x
+      → OnOk result (ready ≡ Some (ready_deed g.script.classes g.store.bodies x used)) → OnOk result (IfSome found (λ (y : Statement). ready ≡ Some (deed_of g.script st y used)))
+  ready_told (Err e) ready found x used is h = tt
+  ready_told (Ok v) ready found x used is h =
+      subst (λ (q : Option Statement). IfSome q (λ (y : Statement). ready ≡ Some (deed_of g.script st y used))) (sym is)
+      (h ∙ ap (λ (obs : List Object). Some (record { object = first_of used; deed = deed_at g.script.classes obs x used })) inv.follows.mirrors.objects_are)
+
+-- ---- the flags at the start
+
+pub flags_push : (fs : List Flags) (t : ℕ) (f : Flags) → map flags_of fs ≡ map (λ u. fresh_flags (u == 0)) (range_with_len 0 t) → flags_of f ≡ fresh_flags (t == 0)
+    → map flags_of (fs ++ f ∷ []) ≡ map (λ u. fresh_flags (u == 0)) (range_with_len 0 (t + 1))
+flags_push fs t f h e =
+    map-append flags_of fs (f ∷ []) ∙ ap (λ xs. xs ++ flags_of f ∷ []) h ∙ ap (λ x. map (λ u. fresh_flags (u == 0)) (range_with_len 0 t) ++ x ∷ []) e
+    ∙ sym (map-range_with_len_more (λ u. fresh_flags (u == 0)) 0 t t (omega arith))
+
+-- ---- the last entry
+
+last_at : (es : List Entry) (n : ℕ) (e : Entry) → n + 1 ≡ length es → slice_get es n ≡ Some e → IsLastAnswer es (Some e.answer)
+last_at [] n e q h = absurd (omega (arith, q))
+last_at (x ∷ []) zero e q h = sym (ap (option_map (λ (y : Entry). y.answer)) h)
+last_at (x ∷ []) (suc n) e q h = absurd (omega (arith, q))
+last_at (x ∷ y ∷ es) zero e q h = absurd (omega (arith, q))
+last_at (x ∷ y ∷ es) (suc n) e q h = last_at (y ∷ es) n e (omega (arith, q)) h
+
+pub last_told : (es : List Entry) (e : Entry) → Some e ≡ slice_get es (length es - 1) → IsLastAnswer es (Some e.answer)
+last_told [] e h = absurd cc
+last_told (x ∷ es) e h = last_at (x ∷ es) (length (x ∷ es) - 1) e (omega arith) (sym h)

@@ -1,0 +1,182 @@
+-- What the fields of a world keep whose script has begun. This project's own.
+use Rattle.std.specs.Prelude.{◌≡◌, ℕ, ◌+◌, ◌<◌, ◌≤◌, Bool, true, false, List, [], ◌∷◌, length, map, Option, Some, None, Result, Ok, Err, slice_index_or, vec_capacity, cond}
+use Rattle.std.specs.Option.{option_map}
+use Rattle.cf_ids.specs.declared.answer.Answer.{Answer}
+use Rattle.cf_ids.specs.declared.answer.Ended.{Ended}
+use Rattle.cf_ids.specs.declared.answer.Ended.TheVariants.{More, Last}
+use Rattle.cf_syntax.specs.declared.script.Script.{Script}
+use Rattle.cf_syntax.specs.declared.statement.Statement.{Statement}
+use Rattle.cf_syntax.specs.declared.mention.Ownership.{Ownership}
+use Rattle.cf_syntax.specs.declared.mention.Ownership.TheVariants.{Keeps, Binds, Retains, Releases}
+use Rattle.cf_syntax.specs.Mentions.{ownership_of}
+use Rattle.cf_next.specs.Stands.{Stand}
+use Rattle.cf_next.specs.Standing.{Standing, HasRoomFor, finals_in, is_retain}
+use Rattle.cf_next.specs.Advance.{advanced}
+use Rattle.cf_next.specs.Steps.{demand_of, step_cut}
+use Rattle.cf_next.specs.declared.step.Step.{Step}
+use Rattle.cf_next.specs.declared.action.Action.{Action}
+use Rattle.cf_next.specs.Views.{objects_of}
+use Rattle.cf_model.specs.State.{State, blank, stand_at, with_stand}
+use Rattle.cf_model.specs.Known.{facts_of}
+use Rattle.cf_model.specs.Journals.{Next, makes}
+use Rattle.cf_world.specs.Worlds.{WorldView, act_in, next_of}
+use Rattle.cf_world.specs.Grounds.{GroundView, MayRun, state_of, deed_of, statement_at}
+use Rattle.cf_world.specs.Entering.{HasEntered, MayAct}
+use Rattle.cf_world.specs.Kept.{IsKept}
+use Rattle.cf_world.specs.declared.next.Next.{Next as NextCode}
+use Rattle.cf_world.specs.declared.next.Next.TheVariants as nexts
+use Rattle.cf_world.specs.declared.found.Found.{Found}
+use Rattle.cf_world.specs.declared.found.Found.TheVariants as kept
+use Rattle.cf_world.specs.declared.found.Reserved.{Reserved}
+use Rattle.cf_world.specs.declared.begun.Begun.TheInside.{Inside}
+
+-- the thread for which room was made
+abbrev pub thread_of : Reserved → ℕ
+thread_of r = r.thread
+
+-- what callers see of a world whose script has begun
+abbrev pub view_of : Inside → WorldView
+view_of w = record {
+  script = Some w.ground.script;
+  limit = w.limit;
+  journal = w.ground.journal;
+  gained = w.gained.items;
+  room = option_map thread_of w.reserved;
+}
+
+-- a statement's deed is ready where it has one: where it binds a variable, or keeps the counts as they are
+abbrev pub NeedsDeed : Ownership → Type 0 → Type 0
+NeedsDeed Keeps p = p
+NeedsDeed (Binds v) p = p
+NeedsDeed (Retains v) p = Unit {0}
+NeedsDeed (Releases v) p = Unit {0}
+
+-- a statement has such a deed, if there is a statement
+abbrev pub has_deed : Ownership → Bool
+has_deed Keeps = true
+has_deed (Binds v) = true
+has_deed (Retains v) = false
+has_deed (Releases v) = false
+
+abbrev pub IsNeeded : Option Statement → Bool → Type 0
+IsNeeded None needed = Unit {0}
+IsNeeded (Some x) needed = needed ≡ has_deed (ownership_of x)
+
+-- the deed of a statement is ready, and there is room for a body
+pub record IsReady (g : GroundView) (x : Statement) (used : List (Option ℕ)) : Type 0 where
+  pub deed : g.ready ≡ Some (deed_of g.script (state_of g) x used)
+  pub room : 0 < g.body_room
+
+abbrev pub ReadyIf : GroundView → Option Statement → List (Option ℕ) → Type 0
+ReadyIf g None used = Unit {0}
+ReadyIf g (Some x) used = NeedsDeed (ownership_of x) (IsReady g x used)
+
+abbrev pub IsReadyFor : GroundView → Found → Type 0
+IsReadyFor g (kept.Says b n used) = ReadyIf g (statement_at g.script b n) (objects_of used)
+IsReadyFor g _ = Unit {0}
+
+-- what was found is what its thread does next, and it may do it
+pub record IsFound (g : GroundView) (r : Reserved) : Type 0 where
+  pub runs : MayRun g.script
+  pub kept : IsKept g.script (facts_of (state_of g)) r.thread (stand_at r.thread (state_of g).stands) r.found
+  pub acts : MayAct g r.thread r.action
+
+-- how many numbers the entry of an action lists at most
+abbrev pub most_listed : Action → ℕ
+most_listed a = cond (is_retain a) 0 2
+
+-- where a thread stands among all; one that is not there stands nowhere
+abbrev pub nobody : Standing
+nobody = record {
+  thread = 0;
+  stand = blank;
+  frame_room = 0;
+  binding_room = 0;
+  callee_room = 0;
+  work_room = 0;
+}
+
+abbrev pub standing_at : List Standing → ℕ → Standing
+standing_at frames t = slice_index_or frames t nobody
+
+-- the same, with room for it
+pub record IsReserved (g : GroundView) (frames : List Standing) (r : Reserved) : Type 0 where
+  pub found : IsFound g r
+  pub room : HasRoomFor r.action (most_listed r.action) (standing_at frames r.thread)
+  pub ready : IsReadyFor g r.found
+
+abbrev pub ReservedIf : GroundView → List Standing → Option Reserved → Type 0
+ReservedIf g frames None = Unit {0}
+ReservedIf g frames (Some r) = IsReserved g frames r
+
+-- the threads of a script stand so
+pub record StandSo (s : Script) (stands : List Stand) (frames : List Standing) : Type 0 where
+  pub count : length frames ≡ s.thread_count
+  pub thread : (t : ℕ) → t < s.thread_count → (standing_at frames t).thread ≡ t
+  pub stand : map (λ (f : Standing). f.stand) frames ≡ stands
+
+-- where the threads stand
+abbrev pub AreFrames : Script → State → List Standing → Type 0
+AreFrames s st frames = StandSo s st.stands frames
+
+-- one of them has moved to another stand
+abbrev pub HasMoved : Script → List Stand → ℕ → Stand → List Standing → Type 0
+HasMoved s stands t stand frames = StandSo s (with_stand t stand stands) frames
+
+-- a thread has moved by a step that is no statement, with its answer
+abbrev pub MovesBy : GroundView → ℕ → Answer → List Standing → Step → Type 0
+MovesBy g t answer frames x =
+    let st = state_of g in
+    HasMoved g.script st.stands t
+    (advanced (facts_of st) t (demand_of x) answer (finals_in (step_cut x) answer) [] (stand_at t st.stands)) frames
+
+-- a world has gone on by an entry of a thread
+pub record HasGone (r : Reserved) (g g' : GroundView) (standings : List Standing) : Type 0 where
+  pub entered : HasEntered r.thread r.action g g'
+  pub frames : AreFrames g'.script (state_of g') standings
+
+-- what was found is a statement
+abbrev pub IsSays : Found → Type 0
+IsSays (kept.Says b n used) = Unit {0}
+IsSays _ = ⊥
+
+-- what was found is the claim of this place
+abbrev pub IsClaims : Found → ℕ → Type 0
+IsClaims (kept.Claims k v) place = k ≡ place
+IsClaims _ place = ⊥
+
+-- what was found is the release of this object, which the thread was given out
+abbrev pub IsOwes : Found → ℕ → Type 0
+IsOwes (kept.Owes o left) object = o ≡ object
+IsOwes _ object = ⊥
+
+-- what was found is an object to be packed
+abbrev pub IsPacks : Found → Type 0
+IsPacks (kept.Packs u k v) = Unit {0}
+IsPacks _ = ⊥
+
+-- what was found is a slot that a finalised body gives up
+abbrev pub IsDrops : Found → Type 0
+IsDrops (kept.Drops b k o left) = Unit {0}
+IsDrops _ = ⊥
+
+-- what was finalised, by what a cut leaves
+abbrev pub finals_of_cut : Ended → ℕ → List ℕ
+finals_of_cut More o = []
+finals_of_cut Last o = o ∷ []
+
+-- what the fields of a world keep whose script has begun
+pub record IsBegun (w : Inside) : Type 0 where
+  pub frames : AreFrames w.ground.script (state_of w.ground) w.frames.items
+  pub within : length w.ground.journal ≤ w.limit
+  pub most : w.limit ≤ 4000000
+  pub room : w.limit ≤ length w.ground.journal + w.ground.journal_room
+  pub gained_room : 2 ≤ vec_capacity w.gained
+  pub few : length w.gained.items ≤ 2
+  pub list_room : 2 ≤ vec_capacity w.list
+  pub reserved : ReservedIf w.ground w.frames.items w.reserved
+
+-- what a look at a thread finds: what it does next, if it may do it, or why it may do nothing
+abbrev pub IsLooked : GroundView → (limit t : ℕ) → Result Reserved NextCode → Type 0
+IsLooked g limit t (Ok r) = IsFound g r × (r.thread ≡ t) × (next_of g.script limit g.journal t ≡ nexts.Act r.action)
+IsLooked g limit t (Err n) = (n ≡ next_of g.script limit g.journal t) × (act_in n ≡ None)

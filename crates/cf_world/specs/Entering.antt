@@ -1,0 +1,157 @@
+-- What the entries of a thread ask of the ground of a world, and what they leave. This project's own.
+use Rattle.std.specs.Prelude.{◌≡◌, ℕ, ◌+◌, ◌<◌, ◌≤◌, ◌⊎◌, IsTrue, List, [], ◌∷◌, ◌++◌, length, map, Option, Some, None, slice_index_or, slice_set, ◌==◌, if◌then◌else◌}
+use Rattle.cf_ids.specs.declared.answer.Answer.{Answer}
+use Rattle.cf_ids.specs.declared.answer.Answer.TheVariants as answers
+use Rattle.cf_ids.specs.declared.answer.Ended.{Ended}
+use Rattle.cf_ids.specs.declared.answer.Ended.TheVariants.{More, Last}
+use Rattle.cf_syntax.specs.declared.script.Script.{Script}
+use Rattle.cf_syntax.specs.declared.statement.Statement.{Statement}
+use Rattle.cf_syntax.specs.declared.statement.Statement.TheVariants as forms
+use Rattle.cf_syntax.specs.declared.mention.Ownership.TheVariants.{Keeps, Binds, Retains, Releases}
+use Rattle.cf_syntax.specs.Mentions.{ownership_of, first_of}
+use Rattle.cf_syntax.specs.BlockLines.{BlockLine, claims, says, packs}
+use Rattle.cf_graph.specs.Flows.{gained_by}
+use Rattle.cf_contents.specs.Stores.{Held, with_body, body_finalised}
+use Rattle.cf_next.specs.declared.action.Action.{Action}
+use Rattle.cf_next.specs.Demands.{Demand, does, ends, owes, drops}
+use Rattle.cf_next.specs.Next.{used_objects, object_at}
+use Rattle.cf_model.specs.declared.entry.Entry.{Entry}
+use Rattle.cf_model.specs.State as states
+use Rattle.cf_model.specs.State.{State}
+use Rattle.cf_model.specs.Steps.{demanded, start_all, step_of, frames_at, bindings_of}
+use Rattle.cf_model.specs.Flowing.{flow_if}
+use Rattle.cf_model.specs.Journals.{Next, can_go, makes}
+use Rattle.cf_world.specs.Worlds.{entry_of}
+use Rattle.cf_world.specs.Grounds.{GroundView, state_of, deed_of}
+
+-- ---- every entry
+
+-- a thread may do this action now: it is its next one and makes no object too many, and there is room in the journal
+pub record MayAct (g : GroundView) (t : ℕ) (a : Action) : Type 0 where
+  pub thread : t < g.script.thread_count
+  pub next : Next g.script (state_of g) t ≡ Some a
+  pub few : IsTrue (makes g.script (state_of g) t) → length (state_of g).parts.objects < 65536
+  pub room : 0 < g.journal_room
+  pub short : length g.journal < 4000000
+
+-- a ground after the entry of a thread's next action
+pub record HasEntered (t : ℕ) (a : Action) (g g' : GroundView) : Type 0 where
+  pub script : g'.script ≡ g.script
+  pub journal : g'.journal ≡ g.journal ++ entry_of g.script t (state_of g) a ∷ []
+  pub room : g'.journal_room + 1 ≡ g.journal_room
+
+-- what a thread demands
+abbrev pub demand_in : GroundView → ℕ → Option Demand
+demand_in g t = demanded g.script (state_of g) t
+
+-- the objects to which its next entry adds references, one for each
+abbrev pub gained_in : GroundView → ℕ → List ℕ
+gained_in g t = gained_by (flow_if g.script t (state_of g) (demand_in g t))
+
+-- what its next entry collects or gives out
+abbrev pub listed_if : Script → ℕ → State → Option Demand → List ℕ
+listed_if s t st None = []
+listed_if s t st (Some d) = (step_of s t st (frames_at t st) d).list
+
+abbrev pub listed_in : GroundView → ℕ → List ℕ
+listed_in g t = listed_if g.script t (state_of g) (demand_in g t)
+
+-- ---- what an entry is of
+
+-- the objects that a statement of a thread uses
+abbrev pub used_in : GroundView → ℕ → Statement → List (Option ℕ)
+used_in g t x = used_objects (bindings_of (frames_at t (state_of g))) (says x)
+
+-- a statement that neither binds a variable nor counts its references; its deed is ready
+pub record IsDeed (g : GroundView) (t : ℕ) : Type 0 where
+  pub statement : Statement
+  pub demands : demand_in g t ≡ Some (does (says statement))
+  pub keeps : ownership_of statement ≡ Keeps
+  pub ready : g.ready ≡ Some (deed_of g.script (state_of g) statement (used_in g t statement))
+
+-- a statement that binds a variable; its deed is ready, and there is room for a body
+pub record IsBinding (g : GroundView) (t : ℕ) : Type 0 where
+  pub statement : Statement
+  pub var : ℕ
+  pub demands : demand_in g t ≡ Some (does (says statement))
+  pub binds : ownership_of statement ≡ Binds var
+  pub ready : g.ready ≡ Some (deed_of g.script (state_of g) statement (used_in g t statement))
+  pub room : 0 < g.body_room
+
+-- a statement that retains the object of a variable
+pub record IsRetain (g : GroundView) (t : ℕ) (object : Option ℕ) : Type 0 where
+  pub statement : Statement
+  pub var : ℕ
+  pub demands : demand_in g t ≡ Some (does (says statement))
+  pub retains : ownership_of statement ≡ Retains var
+  pub object_is : first_of (used_in g t statement) ≡ object
+
+-- a statement that releases the object of a variable, and that is empty
+pub record IsSkip (g : GroundView) (t : ℕ) : Type 0 where
+  pub statement : Statement
+  pub var : ℕ
+  pub demands : demand_in g t ≡ Some (does (says statement))
+  pub releases : ownership_of statement ≡ Releases var
+  pub empty : first_of (used_in g t statement) ≡ None
+
+-- the release of a variable's object, or of one that the thread was given out
+pub record IsRelease (g : GroundView) (t o : ℕ) : Type 0 where
+  pub statement : Statement
+  pub var : ℕ
+  pub demands : demand_in g t ≡ Some (does (says statement))
+  pub releases : ownership_of statement ≡ Releases var
+  pub object : first_of (used_in g t statement) ≡ Some o
+
+abbrev pub IsCut : GroundView → ℕ → ℕ → Type 0
+IsCut g t o = IsRelease g t o ⊎ (demand_in g t ≡ Some (owes o))
+
+-- a slot that a finalised body gives up
+pub record IsDrop (g : GroundView) (t body object : ℕ) : Type 0 where
+  pub place : ℕ
+  pub demands : demand_in g t ≡ Some (drops body place object)
+
+-- a place of the thread's parcel that it claims
+pub record IsClaim (g : GroundView) (t place : ℕ) : Type 0 where
+  pub var : ℕ
+  pub demands : demand_in g t ≡ Some (does (claims place var))
+
+-- an object that is packed for a place of a thread's parcel
+pub record IsPack (g : GroundView) (t to place : ℕ) (object : Option ℕ) : Type 0 where
+  pub var : Option ℕ
+  pub demands : demand_in g t ≡ Some (does (packs to place var))
+  pub object_is : object_at (bindings_of (frames_at t (state_of g))) var ≡ object
+
+abbrev pub IsEnd : GroundView → ℕ → Type 0
+IsEnd g t = demand_in g t ≡ Some ends
+
+-- ---- answers
+
+-- the answer of an entry that takes a reference away, by what that leaves
+abbrev pub answer_of_cut : Ended → ℕ → Answer
+answer_of_cut More class = answers.More
+answer_of_cut Last class = answers.Final class
+
+-- bodies after a reference to an object is taken away: the object is finalised if that was the last
+abbrev pub finalised_if : Ended → ℕ → List Held → List Held
+finalised_if More o bodies = bodies
+finalised_if Last o bodies = with_body body_finalised o bodies
+
+-- the flags of the threads after the end of a thread's block: that of setup starts all threads
+abbrev pub flags_at_end : ℕ → List states.Flags → List states.Flags
+flags_at_end t flags = if t == 0 then start_all flags else flags
+
+-- the rows of the parcels after an object is packed for a place, if there is one
+abbrev pub packed_rows : List (List (Option ℕ)) → (to place : ℕ) → Option ℕ → List (List (Option ℕ))
+packed_rows rows to place None = rows
+packed_rows rows to place (Some o) = slice_set rows to (slice_set (slice_index_or rows to []) place (Some o))
+
+-- the answer of an entry that needs an object: it is skipped if there is none
+abbrev pub answer_for : Option ℕ → Answer
+answer_for None = answers.Skip
+answer_for (Some o) = answers.Ok
+
+-- the answer of the last entry, if there is one
+abbrev pub IsLastAnswer : List Entry → Option Answer → Type 0
+IsLastAnswer [] answer = answer ≡ None
+IsLastAnswer (e ∷ []) answer = answer ≡ Some e.answer
+IsLastAnswer (e ∷ f ∷ es) answer = IsLastAnswer (f ∷ es) answer

@@ -1,0 +1,120 @@
+-- The ground of a world: what it keeps beside where its threads stand. This project's own.
+use Rattle.std.specs.Prelude.{◌≡◌, ℕ, ◌+◌, ◌-◌, ◌<◌, ◌≤◌, Bool, IsTrue, nat_lt, ◌&&◌, List, [], ◌∷◌, ◌++◌, length, map, Option, Some, None, slice_get, slice_index_or, vec_len, vec_capacity, ◌==◌}
+use Rattle.cf_ids.specs.declared.answer.Answer.{Answer}
+use Rattle.cf_ids.specs.declared.answer.Ended.{Ended}
+use Rattle.cf_syntax.specs.declared.script.Script.{Script}
+use Rattle.cf_syntax.specs.declared.statement.Statement.{Statement}
+use Rattle.cf_syntax.specs.BlockLines.{BlockLine, says, uses_in, thread_block, statements_in}
+use Rattle.cf_syntax.specs.Owned.{Owned}
+use Rattle.cf_syntax.specs.Stage.{IsOfStage}
+use Rattle.cf_graph.specs.Holders.{parcel}
+use Rattle.cf_graph.specs.Edges.{degree}
+use Rattle.cf_graph.specs.Flows.{gained_by}
+use Rattle.cf_contents.specs.Contents.{Object, times}
+use Rattle.cf_contents.specs.Deeds.{deed_at, first_of}
+use Rattle.cf_contents.specs.Stores.{Held, Ready, objects_of, is_live_in, given_up_in}
+use Rattle.cf_next.specs.Facts.{Facts}
+use Rattle.cf_syntax.specs.Numbered.{IsNumbered}
+use Rattle.cf_model.specs.declared.entry.Entry.{Entry}
+use Rattle.cf_model.specs.State as states
+use Rattle.cf_model.specs.State.{State, Parts, Sleeping, awake, until, first_held, start}
+use Rattle.cf_model.specs.Known.{facts_of}
+use Rattle.cf_model.specs.Journals.{After, IsLegal, can_go, makes_line}
+use Rattle.cf_world.specs.declared.flags.Sleep.{Sleep}
+use Rattle.cf_world.specs.declared.flags.Sleep.TheVariants as sleeps
+use Rattle.cf_world.specs.declared.flags.Flags.{Flags}
+use Rattle.cf_world.specs.declared.ground.Ground.TheInside.{Inside}
+use Rattle.cf_world.specs.Worlds.{ended_at}
+
+-- what a ground is to its callers: its script and its journal, how many more entries there is room for, the deed that is
+-- ready, and for how many more bodies there is room. What it knows is the state after the journal
+pub record GroundView : Type 0 where
+  pub script : Script
+  pub journal : List Entry
+  pub journal_room : ℕ
+  pub ready : Option Ready
+  pub body_room : ℕ
+
+-- the state after its journal
+abbrev pub state_of : GroundView → State
+state_of g = After g.script g.journal
+
+-- ---- how its parts follow the state
+
+-- the bodies have the objects, know which are finalised, and how many slots each has given up
+pub record Mirrors (p : Parts) (bodies : List Held) : Type 0 where
+  pub objects_are : objects_of bodies ≡ p.objects
+  pub live : (o : ℕ) → is_live_in bodies o ≡ (nat_lt o (length p.objects) && (times o p.finalised == 0))
+  pub given_up : (o : ℕ) → given_up_in bodies o ≡ times o p.dropped
+
+-- the place of a parcel, by the rows of all parcels
+abbrev pub parcel_at : List (List (Option ℕ)) → (t k : ℕ) → Option ℕ
+parcel_at rows t k = slice_index_or (slice_index_or rows t []) k None
+
+-- there is a row for each thread, with a place for each word after its `uses`
+pub record HasPlaces (s : Script) (rows : List (List (Option ℕ))) : Type 0 where
+  pub threads : length rows ≡ s.thread_count
+  pub places : (t : ℕ) → t < s.thread_count → length (slice_index_or rows t []) ≡ length (uses_in (thread_block s t))
+
+-- the parcels have what their places hold
+pub record HoldsParcels (s : Script) (st : State) (rows : List (List (Option ℕ))) : Type 0 where
+  pub has : HasPlaces s rows
+  pub at : (t k : ℕ) → parcel_at rows t k ≡ first_held (parcel t k) st.edges
+
+-- the flags of a thread as the definitions have them
+abbrev pub sleeping_of : Sleep → Sleeping
+sleeping_of sleeps.Awake = awake
+sleeping_of (sleeps.Until date) = until date
+
+abbrev pub flags_of : Flags → states.Flags
+flags_of f = record { is_started = f.is_started; sleep = sleeping_of f.sleep; is_woken = f.is_woken }
+
+-- the flags of the threads of a script at its start
+abbrev pub AreFirst : Script → List Flags → Type 0
+AreFirst s flags = map flags_of flags ≡ (start s).parts.flags
+
+-- the parts follow a state
+pub record Follows (s : Script) (st : State) (bodies : List Held) (parcels : List (List (Option ℕ))) (flags : List Flags) (time : ℕ) : Type 0 where
+  pub mirrors : Mirrors st.parts bodies
+  pub parcels_are : HoldsParcels s st parcels
+  pub flags_are : map flags_of flags ≡ st.parts.flags
+  pub time_is : time ≡ st.parts.time
+
+-- a script that may run: it is owned, its forms are those of today, and its numbers fit
+pub record MayRun (s : Script) : Type 0 where
+  pub owned : Owned s
+  pub stage : IsOfStage s
+  pub numbered : IsNumbered s
+
+-- the facts of a ground are those of the state after its journal
+abbrev pub known : GroundView → Facts
+known g = facts_of (state_of g)
+
+-- what the fields of a ground keep
+pub record IsGround (g : Inside) : Type 0 where
+  pub script : MayRun g.script
+  pub legal : IsLegal g.script g.journal.items
+  pub short : length g.journal.items ≤ 4000000
+  pub follows : Follows g.script (After g.script g.journal.items) g.store.bodies g.parcels g.flags.items g.time
+
+-- what callers see of a ground
+abbrev pub view_of : Inside → GroundView
+view_of g = record {
+  script = g.script;
+  journal = g.journal.items;
+  journal_room = vec_capacity g.journal - vec_len g.journal;
+  ready = g.store.ready;
+  body_room = g.store.room;
+}
+
+-- the deed of a statement in a state, on the first object that it uses
+abbrev pub deed_of : Script → State → Statement → List (Option ℕ) → Ready
+deed_of s st x used = record { object = first_of used; deed = deed_at s.classes st.parts.objects x used }
+
+-- what a release of a reference to an object leaves
+abbrev pub ends_in : GroundView → ℕ → Ended → Type 0
+ends_in g o ended = ended ≡ ended_at (degree o (state_of g).edges)
+
+-- the statement with a number in a block
+abbrev pub statement_at : Script → (block number : ℕ) → Option Statement
+statement_at s b n = slice_get (statements_in (slice_get s.blocks b)) n

@@ -1,0 +1,43 @@
+//! What a thread does next, kept from the room that is made for it to its entry.
+use cf_ids::{ObjId, ThreadId, VarId};
+use cf_model::Action;
+use cf_next::{Step, Used};
+
+/// What a thread does next, as it is kept: what a `Step` has, but that a statement is named by its block and its number
+/// there.
+#[derive(Clone, Copy)]
+pub(crate) enum Found {
+    Claims {
+        place: usize,
+        variable: VarId,
+    },
+    Says {
+        block: u16,
+        number: u32,
+        used: Used,
+    },
+    Packs {
+        thread: ThreadId,
+        place: usize,
+        variable: Option<VarId>,
+    },
+    Ends,
+    Owes {
+        object: ObjId,
+        left: usize,
+    },
+    Drops {
+        body: ObjId,
+        place: u32,
+        object: ObjId,
+        left: usize,
+    },
+}
+
+/// What was found of a thread's next entry when room was made for it.
+#[derive(Clone, Copy)]
+pub(crate) struct Reserved {
+    pub thread: ThreadId,
+    pub found: Found,
+    pub action: Action,
+}

@@ -1,0 +1,109 @@
+//! What a thread of a world does next is found.
+ghost use Rattle.std.specs.Prelude.{◌≡◌, ℕ, ◌+◌, ◌<◌, ◌≤◌, Some, length};
+ghost use Rattle.cf_next.specs.Facts.{Facts as Known};
+ghost use Rattle.cf_next.specs.Stands.{Stand};
+ghost use Rattle.cf_next.specs.Steps.{IsStep, demand_of};
+ghost use Rattle.cf_syntax.specs.declared.script.Script.{Script as ScriptValue};
+ghost use Rattle.cf_model.specs.Journals.{makes_line};
+ghost use Rattle.cf_world.specs.Grounds.{state_of};
+ghost use Rattle.cf_world.specs.Begun.{AreFrames, IsLooked};
+ghost use Rattle.cf_world.specs.Kept.{IsKept, IsPlainStep, IsPlaced};
+
+use crate::found::{Found, Reserved};
+use crate::ground::Ground;
+use crate::next::Next;
+use cf_ids::ThreadId;
+use cf_next::{Frames, Step};
+
+/// What a thread does next, as it is kept, or why it has no action that it may do. `limit` is that of the journal.
+pub(crate) fn look(
+    ground: &Ground,
+    frames: &[Frames],
+    limit: u32,
+    t: ThreadId,
+) -> Result<Reserved, Next>
+    requires thread { t < ground.now.script.thread_count }
+    requires frames { AreFrames ground.now.script (state_of ground.now) frames.now }
+    requires most { limit ≤ 4000000 }
+    requires room { limit ≤ length ground.now.journal + ground.now.journal_room }
+    ensures { IsLooked ground.now limit t result }
+{
+    let flags = ground.flags(t);
+    if !flags.is_started {
+        return Err(Next::Waiting);
+    }
+    let frames = &frames[t.0 as usize];
+    let script = ground.script();
+    let Some(step) = frames.step(script, ground) else {
+        return Err(Next::Done);
+    };
+    if flags.is_asleep() {
+        return Err(Next::Asleep);
+    }
+    if limit as usize <= ground.journal.len() {
+        return Err(Next::Limit);
+    }
+    if makes_object(&step) && ground.is_full() {
+        return Err(Next::Full);
+    }
+    Ok(Reserved {
+        thread: t,
+        found: found_of(&step, frames.block(script)),
+        action: frames.action(script, ground, &step),
+    })
+}
+
+/// Whether what a thread does next makes an object, or may make one.
+fn makes_object(step: &Step) -> bool
+    ensures { result ≡ makes_line (Some (demand_of step.now)) }
+{
+    match step {
+        Step::Says { statement, .. } => statement.makes_object(),
+        _ => false,
+    }
+}
+
+/// What a thread does next, as it is kept; `block` is the number of the block of its innermost frame.
+fn found_of(step: &Step, block: u16) -> Found
+    requires { IsPlainStep step.now }
+    ensures { (s : ScriptValue) (facts : Known) (t : ℕ) (stand : Stand) → IsStep s facts t stand step.now
+        → IsPlaced s block step.now → IsKept s facts t stand result }
+{
+    match step {
+        Step::Claims { place, variable } => Found::Claims {
+            place: *place,
+            variable: *variable,
+        },
+        Step::Says { used, number, .. } => Found::Says {
+            block,
+            number: *number,
+            used: *used,
+        },
+        Step::Packs {
+            thread,
+            place,
+            variable,
+        } => Found::Packs {
+            thread: *thread,
+            place: *place,
+            variable: *variable,
+        },
+        Step::Ends => Found::Ends,
+        Step::Owes { object, left } => Found::Owes {
+            object: *object,
+            left: *left,
+        },
+        Step::Drops {
+            body,
+            place,
+            object,
+            left,
+        } => Found::Drops {
+            body: *body,
+            place: *place,
+            object: *object,
+            left: *left,
+        },
+        _ => unreachable!(),
+    }
+}

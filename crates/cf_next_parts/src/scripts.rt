@@ -1,6 +1,6 @@
 //! The parts of a script with a line of each kind.
 use cf_ids::{HandlerId, ModeId, NameId, ObjId, Seq, VarId};
-use cf_syntax::{Block, Given, Handler, Parts, Statement};
+use cf_syntax::{Block, Given, Handler, Parts, Script, Statement};
 use std::alloc::{AllocError, Global};
 
 const X: VarId = VarId(0);
@@ -22,7 +22,7 @@ fn block(alloc: Global, uses: Vec<Given>, statements: Vec<Statement>) -> Block {
 
 /// Setup retains x 65 times, posts, and runs; its x is packed for thread 1, which claims it, takes from an array, runs
 /// and releases. Handler 0 retains and releases its info, and runs; handler 1 has no block.
-pub fn parts(alloc: Global) -> Result<Parts, AllocError> {
+fn parts(alloc: Global) -> Result<Parts, AllocError> {
     let mut setup = vec![in alloc;
         Statement::MakeArray {
             variable: X,
@@ -91,4 +91,13 @@ pub fn parts(alloc: Global) -> Result<Parts, AllocError> {
         modes: Seq::from_vec(Vec::new(alloc)),
         notices: Seq::from_vec(Vec::new(alloc)),
     })
+}
+
+/// The script of the parts. Their numbers are small, so that they fit.
+pub(crate) fn script(alloc: Global) -> Result<Script, AllocError> {
+    let parts = parts(alloc)?;
+    if !parts.are_numbered() {
+        return Err(AllocError);
+    }
+    Ok(Script::new(parts))
 }

@@ -18,18 +18,35 @@ const CASES: [(Shown, &str, &str); 3] = [
     (Shown::GivenBack, "[7, 8]", "its items, given back"),
 ];
 
+fn numbers(alloc: Global) -> Result<String, AllocError> {
+    format!(in alloc;
+        "{} {} {} {}",
+        ObjId(0),
+        ObjId(65_535),
+        ThreadId(63),
+        ThreadId::LEAD
+    )
+}
+
+fn list(alloc: Global) -> Result<Seq<u8>, AllocError> {
+    Ok(Seq::from_vec(Vec::from_slice(alloc, &[7, 8])?))
+}
+
+fn lent(alloc: Global) -> Result<String, AllocError> {
+    let list = list(alloc)?;
+    format!(in alloc; "{} {:?}", list.len(), list.as_slice())
+}
+
+fn given_back(alloc: Global) -> Result<String, AllocError> {
+    let items = list(alloc)?.into_vec();
+    format!(in alloc; "{:?}", items.as_slice())
+}
+
 fn outcome(alloc: Global, shown: Shown) -> Result<String, AllocError> {
-    let list = Seq::from_vec(vec![in alloc; 7, 8]?);
     match shown {
-        Shown::Numbers => format!(in alloc;
-            "{} {} {} {}",
-            ObjId(0),
-            ObjId(65_535),
-            ThreadId(63),
-            ThreadId::LEAD
-        ),
-        Shown::Lent => format!(in alloc; "{} {:?}", list.len(), list.as_slice()),
-        Shown::GivenBack => format!(in alloc; "{:?}", list.into_vec().as_slice()),
+        Shown::Numbers => numbers(alloc),
+        Shown::Lent => lent(alloc),
+        Shown::GivenBack => given_back(alloc),
     }
 }
 

@@ -110,11 +110,21 @@ const READ_CASES: [ReadCase; 10] = [
     },
 ];
 
-fn source_of(alloc: Global, case: &ReadCase) -> Result<MemSource, AllocError> {
+fn file_of(alloc: Global, bytes: &[u8]) -> Result<MemFile, AllocError> {
     let name = String::from_str(alloc, "f")?;
-    let bytes = Vec::from_slice(alloc, case.bytes)?;
-    let files = vec![in alloc; MemFile { name, bytes }]?;
+    let bytes = Vec::from_slice(alloc, bytes)?;
+    Ok(MemFile { name, bytes })
+}
+
+fn files_of(alloc: Global, bytes: &[u8]) -> Result<Vec<MemFile>, AllocError> {
+    let mut files = Vec::new(alloc);
+    files.push(file_of(alloc, bytes)?)?;
+    Ok(files)
+}
+
+fn source_of(alloc: Global, case: &ReadCase) -> Result<MemSource, AllocError> {
     let failing = Vec::from_slice(alloc, case.failing)?;
+    let files = files_of(alloc, case.bytes)?;
     Ok(MemSource::new(files, failing, case.most.max(1)))
 }
 

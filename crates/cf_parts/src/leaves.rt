@@ -212,19 +212,29 @@ fn description_of(alloc: Global, done: bool, bytes: &Bytes) -> Result<String, Al
     format!(in alloc; "{done} {} {:?}", bytes.length(), bytes.get())
 }
 
+fn copied(alloc: Global, bytes: &Bytes) -> Result<String, AllocError> {
+    let copy = bytes.copy(alloc)?;
+    description_of(alloc, takes_no_byte(alloc), &copy)
+}
+
+/// Whether a call that changes bytes is done.
+fn is_done(bytes: &mut Bytes, call: BytesCall) -> bool
+    requires { 2 ≤ bytes.old.room }
+{
+    match call {
+        BytesCall::Copy => true,
+        BytesCall::Delete(at, len) => bytes.delete(at, len).is_ok(),
+        BytesCall::Replace(at, len) => bytes.replace(at, len, &[8, 9]).is_ok(),
+    }
+}
+
 fn outcome_of_bytes(alloc: Global, items: &[u8], call: BytesCall) -> Result<String, AllocError> {
     let mut bytes = bytes_of(alloc, items)?;
-    match call {
-        BytesCall::Copy => description_of(alloc, takes_no_byte(alloc), &bytes.copy(alloc)?),
-        BytesCall::Delete(at, len) => {
-            let done = bytes.delete(at, len).is_ok();
-            description_of(alloc, done, &bytes)
-        }
-        BytesCall::Replace(at, len) => {
-            let done = bytes.replace(at, len, &[8, 9]).is_ok();
-            description_of(alloc, done, &bytes)
-        }
+    if let BytesCall::Copy = call {
+        return copied(alloc, &bytes);
     }
+    let done = is_done(&mut bytes, call);
+    description_of(alloc, done, &bytes)
 }
 
 #[test]

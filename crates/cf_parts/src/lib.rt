@@ -14,8 +14,6 @@ mod linked;
 #[cfg(test)]
 mod paths;
 #[cfg(test)]
-mod scripts;
-#[cfg(test)]
 mod strings;
 #[cfg(test)]
 mod types;

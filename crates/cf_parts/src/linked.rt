@@ -15,6 +15,13 @@ fn is_loose(links: &Links<u8>, n: Node) -> bool
     links.value(n).is_some() && links.list_of(n).is_none()
 }
 
+/// Whether a node is in a list.
+fn is_linked(links: &Links<u8>, n: Node) -> bool
+    ensures { IsTrue result → IsSome (list_of links.now.lists n) }
+{
+    links.list_of(n).is_some()
+}
+
 fn push_back(links: &mut Links<u8>, l: ListId, n: Node) -> bool
     requires { l < length links.old.lists }
     ensures { length links.new.lists ≡ length links.old.lists }
@@ -37,7 +44,7 @@ fn push_front(links: &mut Links<u8>, l: ListId, n: Node) -> bool
 }
 
 fn insert_after(links: &mut Links<u8>, at: Node, n: Node) -> bool {
-    if !is_loose(links, n) || links.list_of(at).is_none() {
+    if !is_loose(links, n) || !is_linked(links, at) {
         return false;
     }
     links.insert_after(at, n);
@@ -45,7 +52,7 @@ fn insert_after(links: &mut Links<u8>, at: Node, n: Node) -> bool {
 }
 
 fn insert_before(links: &mut Links<u8>, at: Node, n: Node) -> bool {
-    if !is_loose(links, n) || links.list_of(at).is_none() {
+    if !is_loose(links, n) || !is_linked(links, at) {
         return false;
     }
     links.insert_before(at, n);
@@ -53,7 +60,7 @@ fn insert_before(links: &mut Links<u8>, at: Node, n: Node) -> bool {
 }
 
 fn unlink(links: &mut Links<u8>, n: Node) -> bool {
-    if links.list_of(n).is_none() {
+    if !is_linked(links, n) {
         return false;
     }
     links.unlink(n);

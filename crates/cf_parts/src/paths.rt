@@ -5,42 +5,28 @@ use cf_ids::{ModeId, ObjId, ThreadId};
 use std::alloc::{AllocError, Global};
 use std::test::Fail;
 
-const COUNTED: [Edge; 6] = [
-    Edge {
-        owner: Owner::Thread(ThreadId(0)),
-        object: ObjId(0),
-    },
-    Edge {
-        owner: Owner::Slot(ObjId(1)),
-        object: ObjId(0),
-    },
-    Edge {
-        owner: Owner::Parcel(ThreadId(2)),
-        object: ObjId(0),
-    },
-    Edge {
-        owner: Owner::Mode(ThreadId(0), ModeId(0)),
-        object: ObjId(0),
-    },
-    Edge {
-        owner: Owner::Common(ThreadId(0)),
-        object: ObjId(0),
-    },
-    Edge {
-        owner: Owner::Slot(ObjId(0)),
-        object: ObjId(1),
-    },
-];
+fn edge(owner: Owner, object: ObjId) -> Edge {
+    Edge { owner, object }
+}
+
+/// Edges of owners of each kind.
+fn counted() -> [Edge; 6] {
+    [
+        edge(Owner::Thread(ThreadId(0)), ObjId(0)),
+        edge(Owner::Slot(ObjId(1)), ObjId(0)),
+        edge(Owner::Parcel(ThreadId(2)), ObjId(0)),
+        edge(Owner::Mode(ThreadId(0), ModeId(0)), ObjId(0)),
+        edge(Owner::Common(ThreadId(0)), ObjId(0)),
+        edge(Owner::Slot(ObjId(0)), ObjId(1)),
+    ]
+}
 
 // An object, how many edges lead to it, and how many owners it has.
 const COUNT_CASES: [(ObjId, &str); 3] = [(ObjId(0), "5 2"), (ObjId(1), "1 0"), (ObjId(2), "0 0")];
 
 fn counts_of(alloc: Global, object: ObjId) -> Result<String, AllocError> {
-    format!(in alloc;
-        "{} {}",
-        in_degree(&COUNTED, object),
-        owners(&COUNTED, object)
-    )
+    let edges = counted();
+    format!(in alloc; "{} {}", in_degree(&edges, object), owners(&edges, object))
 }
 
 #[test]
@@ -58,23 +44,16 @@ fn counts(rt: HostRuntime) -> Result<(), Fail> {
     Ok(())
 }
 
-// Two arrays that hold each other, and a thread that has one of them.
-const HELD: [Edge; 3] = [
-    Edge {
-        owner: Owner::Slot(ObjId(0)),
-        object: ObjId(1),
-    },
-    Edge {
-        owner: Owner::Slot(ObjId(1)),
-        object: ObjId(0),
-    },
-    Edge {
-        owner: Owner::Thread(ThreadId(0)),
-        object: ObjId(0),
-    },
-];
+/// Two arrays that hold each other, and a thread that has one of them.
+fn held() -> [Edge; 3] {
+    [
+        edge(Owner::Slot(ObjId(0)), ObjId(1)),
+        edge(Owner::Slot(ObjId(1)), ObjId(0)),
+        edge(Owner::Thread(ThreadId(0)), ObjId(0)),
+    ]
+}
 
-// How many of these edges there are, and the objects that are reached.
+// How many of those edges there are, and the objects that are reached.
 const PATH_CASES: [(usize, &str, &str); 2] = [
     (2, "[]", "two arrays that hold each other are not reached"),
     (
@@ -85,7 +64,8 @@ const PATH_CASES: [(usize, &str, &str); 2] = [
 ];
 
 fn objects_reached(alloc: Global, count: usize) -> Result<String, AllocError> {
-    let found = reached(alloc, &HELD[..count.min(HELD.len())])?;
+    let edges = held();
+    let found = reached(alloc, &edges[..count.min(3)])?;
     format!(in alloc; "{:?}", found.as_slice())
 }
 

@@ -1,8 +1,7 @@
 //! Texts as lists of UTF-16 units: what is read of them, what is refused, and the edits.
-use crate::check::assert_gives;
+use crate::check::assert_some;
 use cf_string::{Str, StrFault};
-use std::alloc::Global;
-use std::test::Fail;
+use std::alloc::{AllocError, Global};
 
 /// The text `a`, then the character U+1F600, whose units are D83D and DE00, 55357 and 56832.
 const FACE: [u8; 5] = [0x61, 0xF0, 0x9F, 0x98, 0x80];
@@ -41,37 +40,51 @@ const PARTS: [(Part, &str, &str); 4] = [
     ),
 ];
 
-fn description_of(alloc: Global, part: &Str, face: &Str) -> Result<String, StrFault> {
+fn description_of(alloc: Global, part: &Str, face: &Str) -> Result<String, AllocError> {
     let bytes = part.utf8(alloc)?;
-    Ok(format!(in alloc;
+    format!(in alloc;
         "{} {:?} {:?} {:?} {:?}",
         part.length(),
         part.unit_at(1),
         part.unit_at(3),
         part.compare(face),
         bytes.as_slice()
-    )?)
+    )
 }
 
-fn reading_of(alloc: Global, part: Part) -> Result<String, StrFault> {
-    let face = Str::from_utf8(alloc, &FACE)?;
+fn face(alloc: Global) -> Option<Str> {
+    Str::from_utf8(alloc, &FACE).ok()
+}
+
+fn copied(alloc: Global) -> Option<Str> {
+    face(alloc)?.copy(alloc).ok()
+}
+
+fn substring(alloc: Global, at: usize, len: usize) -> Option<Str> {
+    face(alloc)?.substring(alloc, at, len).ok()
+}
+
+fn part_of(alloc: Global, part: Part) -> Option<Str> {
     match part {
-        Part::Itself => description_of(alloc, &face, &face),
-        Part::Copy => description_of(alloc, &face.copy(alloc)?, &face),
-        Part::Substring(at, len) => {
-            description_of(alloc, &face.substring(alloc, at, len)?, &face)
-        }
-        Part::Edited => description_of(alloc, &nanan(alloc)?, &face),
+        Part::Itself => face(alloc),
+        Part::Copy => copied(alloc),
+        Part::Substring(at, len) => substring(alloc, at, len),
+        Part::Edited => nanan(alloc),
     }
+}
+
+fn reading_of(alloc: Global, part: Part) -> Option<String> {
+    let face = face(alloc)?;
+    let part = part_of(alloc, part)?;
+    description_of(alloc, &part, &face).ok()
 }
 
 #[test]
-fn texts_are_read(rt: HostRuntime) -> Result<(), Fail> {
+fn texts_are_read(rt: HostRuntime) {
     for (i, &(part, gives, about)) in PARTS.iter().enumerate() {
-        let outcome = reading_of(rt.alloc(), part)?;
-        assert_gives(&rt, i, outcome.as_str(), gives, about);
+        let outcome = reading_of(rt.alloc(), part);
+        assert_some(&rt, i, &outcome, gives, about);
     }
-    Ok(())
 }
 
 /// A call that may be refused.
@@ -125,19 +138,18 @@ fn fault_of(alloc: Global, text: &mut Str, call: Call) -> Option<StrFault> {
     }
 }
 
-fn refusal_of(alloc: Global, call: Call) -> Result<String, StrFault> {
-    let mut face = Str::from_utf8(alloc, &FACE)?;
+fn refusal_of(alloc: Global, call: Call) -> Option<String> {
+    let mut face = face(alloc)?;
     let fault = fault_of(alloc, &mut face, call);
-    Ok(format!(in alloc; "{fault:?} {}", face.length())?)
+    format!(in alloc; "{fault:?} {}", face.length()).ok()
 }
 
 #[test]
-fn texts_are_refused(rt: HostRuntime) -> Result<(), Fail> {
+fn texts_are_refused(rt: HostRuntime) {
     for (i, &(call, gives, about)) in CALLS.iter().enumerate() {
-        let outcome = refusal_of(rt.alloc(), call)?;
-        assert_gives(&rt, i, outcome.as_str(), gives, about);
+        let outcome = refusal_of(rt.alloc(), call);
+        assert_some(&rt, i, &outcome, gives, about);
     }
-    Ok(())
 }
 
 // A text beside the text `nanan`: its place there from a place on, whether it is a prefix and a suffix of it, whether
@@ -168,29 +180,32 @@ fn edited(mut text: Str, other: &Str) -> Result<Str, StrFault> {
     Ok(text)
 }
 
-fn nanan(alloc: Global) -> Result<Str, StrFault> {
-    let other = Str::from_utf8(alloc, b"an")?;
-    edited(Str::from_utf8(alloc, b"b")?, &other)
+fn nanan(alloc: Global) -> Option<Str> {
+    let other = Str::from_utf8(alloc, b"an").ok()?;
+    edited(Str::from_utf8(alloc, b"b").ok()?, &other).ok()
 }
 
-fn standing_of(alloc: Global, other: &[u8], from: usize) -> Result<String, StrFault> {
-    let text = nanan(alloc)?;
-    let other = Str::from_utf8(alloc, other)?;
-    Ok(format!(in alloc;
+fn beside(alloc: Global, text: &Str, other: &Str, from: usize) -> Result<String, AllocError> {
+    format!(in alloc;
         "{:?} {} {} {} {:?}",
-        text.find(&other, from),
-        text.has_prefix(&other),
-        text.has_suffix(&other),
-        other.has_suffix(&text),
-        other.compare(&text)
-    )?)
+        text.find(other, from),
+        text.has_prefix(other),
+        text.has_suffix(other),
+        other.has_suffix(text),
+        other.compare(text)
+    )
+}
+
+fn standing_of(alloc: Global, other: &[u8], from: usize) -> Option<String> {
+    let text = nanan(alloc)?;
+    let other = Str::from_utf8(alloc, other).ok()?;
+    beside(alloc, &text, &other, from).ok()
 }
 
 #[test]
-fn texts_are_edited(rt: HostRuntime) -> Result<(), Fail> {
+fn texts_are_edited(rt: HostRuntime) {
     for (i, &(other, from, gives, about)) in BESIDE.iter().enumerate() {
-        let outcome = standing_of(rt.alloc(), other, from)?;
-        assert_gives(&rt, i, outcome.as_str(), gives, about);
+        let outcome = standing_of(rt.alloc(), other, from);
+        assert_some(&rt, i, &outcome, gives, about);
     }
-    Ok(())
 }

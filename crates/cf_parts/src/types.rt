@@ -5,26 +5,28 @@ use crate::check::assert_gives;
 use cf_callbacks::{Callbacks, Steps};
 use cf_data::Bytes;
 use cf_ids::{ObjId, TypeId};
-use cf_string::{Str, StrFault};
+use cf_string::Str;
 use cf_types::{Cell, CellCallbacks, Class, Equality, Form, Leaf, RegisterFault, Registry};
 use std::alloc::{AllocError, Global};
 use std::cmp::Ordering;
 use std::marker::Brand;
+use std::process::Abort;
 use std::sync::ledger::{Blank, Ledger};
 use std::test::Fail;
 
 // The text `é€😀` in UTF-8, of two, three and four bytes.
 const LETTERS: [u8; 9] = [0xC3, 0xA9, 0xE2, 0x82, 0xAC, 0xF0, 0x9F, 0x98, 0x80];
 
-fn text(alloc: Global, bytes: &[u8]) -> Result<Form, StrFault> {
-    Ok(Form::Text(Str::from_utf8(alloc, bytes)?))
+fn text(alloc: Global, bytes: &[u8]) -> Option<Form> {
+    let text = Str::from_utf8(alloc, bytes).ok()?;
+    Some(Form::Text(text))
 }
 
-fn data(alloc: Global, bytes: &[u8]) -> Result<Form, AllocError> {
+fn data(alloc: Global, bytes: &[u8]) -> Option<Form> {
     let mut made = Bytes::new(alloc);
-    made.reserve(bytes.len())?;
+    made.reserve(bytes.len()).ok()?;
     made.append(bytes);
-    Ok(Form::Data(made))
+    Some(Form::Data(made))
 }
 
 fn cell(id: u32, class: u16, form: Form) -> Cell
@@ -42,8 +44,8 @@ fn cell(id: u32, class: u16, form: Form) -> Cell
 }
 
 // Six elements in their order under `Typed`, the first two with one text.
-fn cells(alloc: Global) -> Result<[Cell; 6], StrFault> {
-    Ok([
+fn cells(alloc: Global) -> Option<[Cell; 6]> {
+    Some([
         cell(9, 3, text(alloc, b"hi")?),
         cell(8, 3, text(alloc, b"hi")?),
         cell(7, 4, data(alloc, b"hi")?),
@@ -96,55 +98,104 @@ fn all_stand_right(cells: &[Cell; 6]) -> bool {
     true
 }
 
-// Whether the copies are the same objects, equal to them and with their hash.
-fn copies_right(alloc: Global, cells: &[Cell; 6]) -> Result<bool, AllocError> {
+fn are_ordered(alloc: Global) -> bool {
+    match &cells(alloc) {
+        Some(cells) => all_stand_right(cells),
+        None => false,
+    }
+}
+
+// Whether the copy is the same object, equal to it and with its hash.
+fn is_copied(alloc: Global, cell: &Cell) -> bool {
+    let Ok(copied) = &cell.copy(alloc) else {
+        return false;
+    };
+    let (equal, hashes, order) = compared(CellCallbacks::Typed, cell, copied);
+    equal && hashes && order == Ordering::Equal && copied.id == cell.id
+}
+
+fn all_are_copied(alloc: Global, cells: &[Cell; 6]) -> bool {
     for cell in cells {
-        let copied = cell.copy(alloc)?;
-        let (equal, hashes, order) = compared(CellCallbacks::Typed, cell, &copied);
-        if !equal || !hashes || order != Ordering::Equal || copied.id != cell.id {
-            return Ok(false);
+        if !is_copied(alloc, cell) {
+            return false;
         }
     }
-    Ok(true)
+    true
 }
 
-fn text_hash(alloc: Global, bytes: &[u8]) -> Result<u64, StrFault> {
-    Ok(CellCallbacks::Typed.hash(&cell(0, 3, text(alloc, bytes)?)))
+fn are_copied(alloc: Global) -> bool {
+    match &cells(alloc) {
+        Some(cells) => all_are_copied(alloc, cells),
+        None => false,
+    }
 }
 
-fn data_hash(alloc: Global, bytes: &[u8]) -> Result<u64, AllocError> {
-    Ok(CellCallbacks::Typed.hash(&cell(0, 3, data(alloc, bytes)?)))
+fn hash_of(form: Form) -> u64 {
+    CellCallbacks::Typed.hash(&cell(0, 3, form))
 }
 
-const LEAF_CASES: [&str; 7] = [
-    "the worked hash of a text",
-    "that of the empty text",
-    "six elements compared",
-    "their copies",
-    "a text is hashed by the bytes of its UTF-8",
-    "retained under typed callbacks",
-    "not under plain ones",
+fn text_hash(alloc: Global, bytes: &[u8]) -> Option<u64> {
+    Some(hash_of(text(alloc, bytes)?))
+}
+
+fn data_hash(alloc: Global, bytes: &[u8]) -> Option<u64> {
+    Some(hash_of(data(alloc, bytes)?))
+}
+
+/// What is tried of leaves.
+#[derive(Clone, Copy)]
+enum LeafCase {
+    /// A text has a hash.
+    Hash(&'static [u8], u64),
+    /// A text has the hash of the bytes of its UTF-8.
+    HashOfBytes(&'static [u8]),
+    Order,
+    Copies,
+    Retains(CellCallbacks, bool),
+}
+
+const LEAF_CASES: [(LeafCase, &str); 7] = [
+    (
+        LeafCase::Hash(b"hi", 6381447705),
+        "the worked hash of a text",
+    ),
+    (LeafCase::Hash(b"", 5859912), "that of the empty text"),
+    (LeafCase::Order, "six elements compared"),
+    (LeafCase::Copies, "their copies"),
+    (
+        LeafCase::HashOfBytes(&LETTERS),
+        "a text is hashed by the bytes of its UTF-8",
+    ),
+    (
+        LeafCase::Retains(CellCallbacks::Typed, true),
+        "retained under typed callbacks",
+    ),
+    (
+        LeafCase::Retains(CellCallbacks::Plain, false),
+        "not under plain ones",
+    ),
 ];
 
-fn leaf_outcomes(alloc: Global) -> Result<[bool; 7], StrFault> {
-    let cells = cells(alloc)?;
-    Ok([
-        text_hash(alloc, b"hi")? == 6381447705,
-        text_hash(alloc, b"")? == 5859912,
-        all_stand_right(&cells),
-        copies_right(alloc, &cells)?,
-        text_hash(alloc, &LETTERS)? == data_hash(alloc, &LETTERS)?,
-        CellCallbacks::Typed.retains(),
-        !CellCallbacks::Plain.retains(),
-    ])
+fn is_hashed_as_bytes(alloc: Global, bytes: &[u8]) -> bool {
+    let hash = text_hash(alloc, bytes);
+    hash.is_some() && hash == data_hash(alloc, bytes)
+}
+
+fn holds(alloc: Global, case: LeafCase) -> bool {
+    match case {
+        LeafCase::Hash(bytes, hash) => text_hash(alloc, bytes) == Some(hash),
+        LeafCase::HashOfBytes(bytes) => is_hashed_as_bytes(alloc, bytes),
+        LeafCase::Order => are_ordered(alloc),
+        LeafCase::Copies => are_copied(alloc),
+        LeafCase::Retains(callbacks, retains) => callbacks.retains() == retains,
+    }
 }
 
 #[test]
-fn leaves(rt: HostRuntime) -> Result<(), Fail> {
-    for (holds, about) in leaf_outcomes(rt.alloc())?.iter().zip(&LEAF_CASES) {
-        assert!(rt; *holds, "{about}");
+fn leaves(rt: HostRuntime) {
+    for (case, about) in LEAF_CASES.iter() {
+        assert!(rt; holds(rt.alloc(), *case), "{about}");
     }
-    Ok(())
 }
 
 /// A step of a registry's life.
@@ -226,12 +277,17 @@ fn outcome_of(
     }
 }
 
+fn assert_steps(rt: &impl Abort, alloc: Global, registry: &mut Registry) -> Result<(), AllocError> {
+    for (i, &(step, name, gives)) in STEPS.iter().enumerate() {
+        let outcome = outcome_of(alloc, registry, step, name)?;
+        assert_gives(rt, i, outcome.as_str(), gives, name);
+    }
+    Ok(())
+}
+
 #[test]
 fn registry(rt: HostRuntime) -> Result<(), Fail> {
     let mut registry = Registry::new(rt.alloc())?;
-    for (i, &(step, name, gives)) in STEPS.iter().enumerate() {
-        let outcome = outcome_of(rt.alloc(), &mut registry, step, name)?;
-        assert_gives(&rt, i, outcome.as_str(), gives, name);
-    }
+    assert_steps(&rt, rt.alloc(), &mut registry)?;
     Ok(())
 }

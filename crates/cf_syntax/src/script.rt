@@ -1,5 +1,5 @@
 //! A script, its classes, its blocks and its names.
-ghost use Rattle.std.specs.Prelude.{◌≡◌, ◌≤◌, ◌<◌, ◌↔◌, IfSome, true, slice_get};
+ghost use Rattle.std.specs.Prelude.{◌≡◌, ◌≤◌, ◌<◌, ◌↔◌, IfSome, true, length, slice_get};
 ghost use Rattle.std.specs.Option.{option_copied, option_map};
 ghost use Rattle.cf_ids.specs.declared.limits.TheConstants.{THREADS};
 ghost use Rattle.cf_syntax.specs.BlockLines.{handler_block};
@@ -209,6 +209,13 @@ impl Script {
     {
         let name = self.parts.modes.as_slice().get(usize::from(m.0))?;
         Some(name.as_slice())
+    }
+
+    /// How many modes are named, `default` among them.
+    pub fn modes(&self) -> usize
+        ensures { result ≡ length self.now.modes }
+    {
+        self.parts.modes.as_slice().len()
     }
 
     /// The name of a notice, and none if no notice has this number.

@@ -41,21 +41,25 @@ use Rattle.cf_history.proofs.DemandLaws.{SpendsMade, demand_tells}
 -- ---- what a legal entry says
 
 -- the finalised objects are no matter of it
-with_finals : (s : Script) (i : ℕ) (e : Entry) (p q : Parts) (fs : List ℕ) → Tells s i e p q → Tells s i e p (record q { finalised = fs })
+with_finals : (s : Script) (i : ℕ) (e : Entry) (p q : Parts) (fs : List ℕ) → Tells s i e p q
+    → Tells s i e p (record q { finalised = fs })
 with_finals s i e p q fs h = record { time = h.time; made = h.made; some = h.some; source = h.source; signalled = h.signalled; valid = h.valid; new = h.new; gone = h.gone; called = h.called; timing = h.timing; date = h.date }
 
 spend_answers : (s : Script) (st : State) (j : ℕ) (x : Option Thing) → (spend_if s st j x).answer ≡ answers.Skip → ⊥
 spend_answers s st j None e = cc
 spend_answers s st j (Some x) e = by x.valid x.valid e
   where
-    by : (a b : Bool) → (cond a (cond b (leaving (with_item st.parts j false x.item) (present_of (every_place s j st.edges) st.edges)) (answering st.parts answers.Invalid)) (okay st.parts)).answer ≡ answers.Skip → ⊥
+    by : (a b : Bool)
+        → (cond a (cond b (leaving (with_item st.parts j false x.item) (present_of (every_place s j st.edges) st.edges)) (answering st.parts answers.Invalid)) (okay st.parts)).answer ≡ answers.Skip
+        → ⊥
     by true true e = cc
     by true false e = cc
     by false b e = cc
 
 module _ (s : Script) (i : ℕ) (st : State) where
   -- what is spent is live, since the entry is legal
-  spent_made : (t : ℕ) (d : Demand) → MayUseAll st t (owners_of (action_in s (facts_of st) t (frames_at t st) d)) (uses_of (action_in s (facts_of st) t (frames_at t st) d) (step_answer (step_of s t st (frames_at t st) d) st))
+  spent_made : (t : ℕ) (d : Demand)
+      → MayUseAll st t (owners_of (action_in s (facts_of st) t (frames_at t st) d)) (uses_of (action_in s (facts_of st) t (frames_at t st) d) (step_answer (step_of s t st (frames_at t st) d) st))
       → SpendsMade s i t st d
   spent_made t (spends j) uses =
       let answer = step_answer (step_of s t st (frames_at t st) (spends j)) st in
@@ -63,7 +67,8 @@ module _ (s : Script) (i : ℕ) (st : State) where
       (and_parts (is_made st.parts j) (eqb (times j st.parts.finalised) 0) used.0.live).0
   spent_made t d uses = tt
 
-  step_tells : (t : ℕ) (a : Action) (x : Answer) → IsStep a → IsLegalStep s st (event t a x) → Tells s i (event t a x) st.parts (after_action s t st a).parts
+  step_tells : (t : ℕ) (a : Action) (x : Answer) → IsStep a → IsLegalStep s st (event t a x)
+      → Tells s i (event t a x) st.parts (after_action s t st a).parts
   step_tells t a x step legal =
       let acts = next_is s st t a legal.next in
       let d = acts.demand in
@@ -79,12 +84,14 @@ module _ (s : Script) (i : ℕ) (st : State) where
       subst (λ (q : State). Tells s i (event t a x) st.parts q.parts) (sym (step.after s t st ∙ ap (acted s t st) acts.demands))
       (subst (λ (e : Entry). Tells s i e st.parts (done_by s t st d).parts) same whole)
 
-  lead_tells : (t : ℕ) (a : Action) (x : Answer) (q : Parts) → Quiet s i (event t a x) → x ≡ answers.Ok → q.time ≡ time_in st.parts.time a → q.objects ≡ st.parts.objects → Tells s i (event t a x) st.parts q
+  lead_tells : (t : ℕ) (a : Action) (x : Answer) (q : Parts) → Quiet s i (event t a x) → x ≡ answers.Ok
+      → q.time ≡ time_in st.parts.time a → q.objects ≡ st.parts.objects → Tells s i (event t a x) st.parts q
   lead_tells t a x q quiet ok time same =
       quiet_tells s i (event t a x) st.parts q quiet time
       (made_same st.parts q i (binds i (event t a x)) (ap length same) (ap (λ (y : Answer). binds i (event t a y)) ok)) (ap (λ (obs : List Object). thing_of (slice_get obs i)) same)
 
-  tells_by : (t : ℕ) (a : Action) (x : Answer) → ActionView a → IsLegalAs s st (event t a x) a → Tells s i (event t a x) st.parts (after_action s t st a).parts
+  tells_by : (t : ℕ) (a : Action) (x : Answer) → ActionView a → IsLegalAs s st (event t a x) a
+      → Tells s i (event t a x) st.parts (after_action s t st a).parts
   tells_by t _ x (is_tick n) legal = lead_tells t (actions.Tick n) x (ticked n st).parts (record { signal = refl; call = refl; make = refl; source = refl; invalidation = refl; timing = refl }) legal.1 refl refl
   tells_by t _ x is_stall legal = lead_tells t actions.Stall x st.parts (record { signal = refl; call = refl; make = refl; source = refl; invalidation = refl; timing = refl }) legal.1 refl refl
   tells_by t a x (is_step _ step) legal = step_tells t a x step (step.legal s st (event t a x) legal)
@@ -100,13 +107,15 @@ any_more p es e = list_any-append p es (e ∷ []) ∙ tidy (list_any p es) (p e)
     tidy : (b c : Bool) → (b || (c || false)) ≡ (b || c)
     tidy b c = grind arith
 
-since_more : (begins ends : Entry → Bool) (es : List Entry) (e : Entry) → holds_since begins ends (es ++ e ∷ []) ≡ (begins e || (holds_since begins ends es && not (ends e)))
+since_more : (begins ends : Entry → Bool) (es : List Entry) (e : Entry)
+    → holds_since begins ends (es ++ e ∷ []) ≡ (begins e || (holds_since begins ends es && not (ends e)))
 since_more begins ends es e = holds_since-append begins ends es (e ∷ []) ∙ tidy (begins e) (holds_since begins ends es) (ends e)
   where
     tidy : (b h c : Bool) → (((b && not false) || false) || (h && not (c || false))) ≡ (b || (h && not c))
     tidy b h c = grind arith
 
-pub time_more : (now : ℕ) (es : List Entry) (e : Entry) → time_from now (es ++ e ∷ []) ≡ time_in (time_from now es) e.action
+pub time_more : (now : ℕ) (es : List Entry) (e : Entry)
+    → time_from now (es ++ e ∷ []) ≡ time_in (time_from now es) e.action
 time_more now [] e = refl
 time_more now (x ∷ es) e = time_more (time_in now x.action) es e
 
@@ -118,11 +127,13 @@ or_three : (t u v : Option Timing) → or_timing t (or_timing u v) ≡ or_timing
 or_three None u v = refl
 or_three (Some x) u v = refl
 
-timing_more : (s : Script) (i : ℕ) (es : List Entry) (e : Entry) → timing_of s (es ++ e ∷ []) i ≡ or_timing (timing_of s es i) (timing_by s i e)
+timing_more : (s : Script) (i : ℕ) (es : List Entry) (e : Entry)
+    → timing_of s (es ++ e ∷ []) i ≡ or_timing (timing_of s es i) (timing_by s i e)
 timing_more s i [] e = or_nothing (timing_by s i e)
 timing_more s i (x ∷ es) e = ap (or_timing (timing_by s i x)) (timing_more s i es e) ∙ or_three (timing_by s i x) (timing_of s es i) (timing_by s i e)
 
-call_more : (i now : ℕ) (last : Option ℕ) (es : List Entry) (e : Entry) → call_from i now last (es ++ e ∷ []) ≡ cond (calls i e) (Some (time_from now es)) (call_from i now last es)
+call_more : (i now : ℕ) (last : Option ℕ) (es : List Entry) (e : Entry)
+    → call_from i now last (es ++ e ∷ []) ≡ cond (calls i e) (Some (time_from now es)) (call_from i now last es)
 call_more i now last [] e = refl
 call_more i now last (x ∷ es) e = call_more i (time_in now x.action) (cond (calls i x) (Some now) last) es e
 
@@ -138,19 +149,22 @@ pub record Agrees (s : Script) (es : List Entry) (st : State) : Type 0 where
   pub early : (i : ℕ) → list_any (invalidates i) es ≡ true → is_made st.parts i ≡ true
   pub timing : (i : ℕ) → timing_of_thing (thing_at st.parts i) ≡ timing_of s es i
   pub last : (i : ℕ) → thing_at st.parts i ≡ None → last_call es i ≡ None
-  pub date : (i : ℕ) → date_of_thing (thing_at st.parts i) ≡ date_by (timing_of_thing (thing_at st.parts i)) (last_call es i)
+  pub date : (i : ℕ)
+      → date_of_thing (thing_at st.parts i) ≡ date_by (timing_of_thing (thing_at st.parts i)) (last_call es i)
 
 true_false : (b : Bool) → b ≡ true → b ≡ false → ⊥
 true_false true e f = cc
 true_false false e f = cc
 
-valid_more : (v w m x made : Bool) → (m ≡ true → made ≡ false) → (w ≡ true → made ≡ true) → (((v && not w) || m) && not x) ≡ ((v || m) && not (w || x))
+valid_more : (v w m x made : Bool) → (m ≡ true → made ≡ false) → (w ≡ true → made ≡ true)
+    → (((v && not w) || m) && not x) ≡ ((v || m) && not (w || x))
 valid_more v true true x made new old = absurd (true_false made (old refl) (new refl))
 valid_more v false true x made new old = grind arith
 valid_more v true false x made new old = grind arith
 valid_more v false false x made new old = grind arith
 
-early_more : (w x made bound : Bool) → (w ≡ true → made ≡ true) → (x ≡ true → made ≡ true) → (w || x) ≡ true → (made || bound) ≡ true
+early_more : (w x made bound : Bool) → (w ≡ true → made ≡ true) → (x ≡ true → made ≡ true) → (w || x) ≡ true
+    → (made || bound) ≡ true
 early_more true x made bound old now e = by made (old refl)
   where
     by : (b : Bool) → b ≡ true → (b || bound) ≡ true
@@ -168,7 +182,8 @@ last_more : (called : Bool) (now last : Option ℕ) → (called ≡ true → ⊥
 last_more true now last h e = absurd (h refl)
 last_more false now last h e = e
 
-pub agrees_more : (s : Script) (es : List Entry) (st : State) (e : Entry) → Agrees s es st → IsLegalEntry s st e → Agrees s (es ++ e ∷ []) (after_action s e.thread st e.action)
+pub agrees_more : (s : Script) (es : List Entry) (st : State) (e : Entry) → Agrees s es st → IsLegalEntry s st e
+    → Agrees s (es ++ e ∷ []) (after_action s e.thread st e.action)
 agrees_more s es st e h legal =
     let next = after_action s e.thread st e.action in
     let tells : (i : ℕ) → Tells s i e st.parts next.parts = λ i. entry_tells s i st e legal in
@@ -191,7 +206,8 @@ agrees_more s es st e h legal =
       date = λ i. (tells i).date (last_call es i) (h.last i) (h.date i) ∙ ap (date_by (timing_of_thing (thing_at next.parts i))) (sym (calls_now i));
     }
 
-pub agrees_from : (s : Script) (es : List Entry) (st : State) (more : List Entry) → Agrees s es st → IsLegalPart s st more → Agrees s (es ++ more) (state_from s st more)
+pub agrees_from : (s : Script) (es : List Entry) (st : State) (more : List Entry) → Agrees s es st
+    → IsLegalPart s st more → Agrees s (es ++ more) (state_from s st more)
 agrees_from s es st [] h legal = rw (append-nil es) h
 agrees_from s es st (e ∷ more) h legal = rw (← append_assoc es (e ∷ []) more) (agrees_from s (es ++ e ∷ []) (after_action s e.thread st e.action) more (agrees_more s es st e h legal.0) legal.1)
 
@@ -226,7 +242,8 @@ signals_agree s es legal = (agrees_along s es legal).signalled
 pub validity_agrees : (s : Script) (es : List Entry) → IsLegal s es → ValidityAgrees s es
 validity_agrees s es legal = (agrees_along s es legal).valid
 
-pub live_part : (s : Script) (es : List Entry) → IsLegalPart s (start s) es → (o : ℕ) → is_live (After s es).parts o ≡ is_live_after es o
+pub live_part : (s : Script) (es : List Entry) → IsLegalPart s (start s) es → (o : ℕ)
+    → is_live (After s es).parts o ≡ is_live_after es o
 live_part s es legal o =
     let k = (kept_part s (start s) es (start_steady s) legal).finals o in
     let same : times o (After s es).parts.finalised ≡ finals o es = omega (arith, k) in

@@ -35,7 +35,8 @@ use Rattle.cf_history.proofs.RunLaws.{run_in, runs_in, run_fits, timer_dated}
 use Rattle.cf_history.proofs.RunsAlong.{Holds, asks_in_role, holds_along}
 
 -- a legal journal in two parts: the first is legal, and so is the entry after it
-pub legal_front : (s : Script) (st : State) (es : List Entry) (e : Entry) (fs : List Entry) → IsLegalFrom s st (es ++ e ∷ fs) → IsLegalPart s st es × IsLegalEntry s (state_from s st es) e
+pub legal_front : (s : Script) (st : State) (es : List Entry) (e : Entry) (fs : List Entry)
+    → IsLegalFrom s st (es ++ e ∷ fs) → IsLegalPart s st es × IsLegalEntry s (state_from s st es) e
 legal_front s st [] e fs h = (tt, h.0)
 legal_front s st (f ∷ es) e fs h = let r = legal_front s (after_action s f.thread st f.action) es e fs h.2 in ((h.0, r.0), r.1)
 
@@ -60,7 +61,8 @@ module _ (s : Script) (es : List Entry) (t i : ℕ) (h : Holds s es (After s es)
   is_source : is_source_thing (thing_at st.parts i) ≡ true
   is_source = h.agrees.source i ∙ source
 
-  fits_run : (f : Frame) (fs : List Frame) (r : Turn) → frames_at t st ≡ f ∷ fs → f.kind ≡ of_run r → item_fits facts t r as_source i ≡ true → CalloutFits s es t i
+  fits_run : (f : Frame) (fs : List Frame) (r : Turn) → frames_at t st ≡ f ∷ fs → f.kind ≡ of_run r
+      → item_fits facts t r as_source i ≡ true → CalloutFits s es t i
   fits_run f fs r same kind fits =
       let outer = and_parts (facts.holds t r.mode i) (facts.is_valid i && role_fits facts r as_source i) fits in
       let inner = and_parts (facts.is_valid i) (role_fits facts r as_source i) outer.1 in
@@ -74,7 +76,8 @@ module _ (s : Script) (es : List Entry) (t i : ℕ) (h : Holds s es (After s es)
         signalled = sym (h.agrees.signalled i) ∙ lit.0;
       }
 
-  by_role : (f : Frame) (fs : List Frame) (k : Kind) (role : Role) (n : ℕ) (c : Callout) → frames_at t st ≡ f ∷ fs → f.kind ≡ k → callout_of facts t k role n ≡ Some c
+  by_role : (f : Frame) (fs : List Frame) (k : Kind) (role : Role) (n : ℕ) (c : Callout) → frames_at t st ≡ f ∷ fs
+      → f.kind ≡ k → callout_of facts t k role n ≡ Some c
       → IsInRole st.parts (record { role = role; number = n }) → item_in role n ≡ Some i → CalloutFits s es t i
   by_role f fs k as_receiver n c same kind e inside is = absurd (no_item i is)
   by_role f fs (of_run r) as_source n c same kind e inside is =
@@ -103,13 +106,16 @@ module _ (s : Script) (es : List Entry) (t i : ℕ) (h : Holds s es (After s es)
   phase_calls phases.Test = refl
   phase_calls phases.Ran = refl
 
-  by_line : (f : Frame) (fs : List Frame) (x : BlockLine) → called_in (action_in s facts t (f ∷ fs) (does x)) ≡ Some i → CalloutFits s es t i
+  by_line : (f : Frame) (fs : List Frame) (x : BlockLine) → called_in (action_in s facts t (f ∷ fs) (does x)) ≡ Some i
+      → CalloutFits s es t i
   by_line f fs (begins v) is = absurd (no_item i is)
   by_line f fs (claims k v) is = absurd (no_item i is)
   by_line f fs (packs u k v) is = absurd (no_item i is)
   by_line f fs (says x) is = absurd (no_item i (sym (none_called x (site_in s f (says x))) ∙ is))
 
-  by_frame : (f : Frame) (fs : List Frame) (d : Demand) → frames_at t st ≡ f ∷ fs → Asks (IsInRole st.parts) s facts t f d → called_in (action_in s facts t (f ∷ fs) d) ≡ Some i → CalloutFits s es t i
+  by_frame : (f : Frame) (fs : List Frame) (d : Demand) → frames_at t st ≡ f ∷ fs
+      → Asks (IsInRole st.parts) s facts t f d → called_in (action_in s facts t (f ∷ fs) d) ≡ Some i
+      → CalloutFits s es t i
   by_frame f fs _ same (asks_call k c e inside) is = by_role f fs f.kind k.role k.number c same refl e inside is
   by_frame f fs _ same (asks_line x e) is = by_line f fs x is
   by_frame f fs _ same (asks_end e) is = absurd (no_item i is)
@@ -117,16 +123,19 @@ module _ (s : Script) (es : List Entry) (t i : ℕ) (h : Holds s es (After s es)
   by_frame f fs _ same (asks_phase r p e due q) is = absurd (no_item i (sym (phase_calls p) ∙ is))
   by_frame f fs _ same (asks_close r e q) is = absurd (no_item i is)
 
-  by_work : (fs : List Frame) (work : List Work) (d : Demand) → WorkView facts work d → called_in (action_in s facts t fs d) ≡ Some i → ⊥
+  by_work : (fs : List Frame) (work : List Work) (d : Demand) → WorkView facts work d
+      → called_in (action_in s facts t fs d) ≡ Some i → ⊥
   by_work fs work _ (first_owes o q) is = no_item i is
   by_work fs work _ (first_spends j q) is = no_item i is
   by_work fs work _ (first_drops b k o e q) is = no_item i is
 
-  by_stand : (d : Demand) → StandAsks (IsInRole st.parts) s facts t (stand_at t st.stands) d → called_in (action_in s facts t (frames_at t st) d) ≡ Some i → CalloutFits s es t i
+  by_stand : (d : Demand) → StandAsks (IsInRole st.parts) s facts t (stand_at t st.stands) d
+      → called_in (action_in s facts t (frames_at t st) d) ≡ Some i → CalloutFits s es t i
   by_stand d (asks_work _ view) is = absurd (by_work (frames_at t st) (stand_at t st.stands).work d view is)
   by_stand d (asks_frame _ f fs same view) is = by_frame f fs d same view (subst (λ (gs : List Frame). called_in (action_in s facts t gs d) ≡ Some i) same is)
 
-  pub by_action : (a : Action) (x : Answer) → ActionView a → IsLegalAs s st (event t a x) a → called_in a ≡ Some i → CalloutFits s es t i
+  pub by_action : (a : Action) (x : Answer) → ActionView a → IsLegalAs s st (event t a x) a → called_in a ≡ Some i
+      → CalloutFits s es t i
   by_action _ x (is_tick n) legal is = absurd (no_item i is)
   by_action _ x is_stall legal is = absurd (no_item i is)
   by_action a x (is_step _ step) legal is =

@@ -31,11 +31,13 @@ IsPlain d = IsPlainChange d.change × IsPlainOrigin d.origin
 abbrev nothing : IsPlainChange unchanged × IsPlainOrigin nowhere
 nothing = (tt, tt)
 
-by_object : (a : Option Numbered) (deed : Numbered → Deed) → ((u : Numbered) → IsPlain (deed u)) → IsPlain (with_object a deed)
+by_object : (a : Option Numbered) (deed : Numbered → Deed) → ((u : Numbered) → IsPlain (deed u))
+    → IsPlain (with_object a deed)
 by_object None deed h = nothing
 by_object (Some u) deed h = h u
 
-by_key : (classes : List ClassLine) (a : Option Numbered) (deed : Cell → Deed) → ((c : Cell) → IsPlain (deed c)) → IsPlain (with_key classes a deed)
+by_key : (classes : List ClassLine) (a : Option Numbered) (deed : Cell → Deed) → ((c : Cell) → IsPlain (deed c))
+    → IsPlain (with_key classes a deed)
 by_key classes None deed h = nothing
 by_key classes (Some u) deed h = h (cell_of classes u)
 
@@ -43,12 +45,14 @@ by_text : (c : Content) (deed : List ℕ → Deed) → ((xs : List ℕ) → IsPl
 by_text (text_content mutable units) deed h = h units
 by_text _ deed h = nothing
 
-by_mutable_text : (c : Content) (deed : List ℕ → Deed) → ((xs : List ℕ) → IsPlain (deed xs)) → IsPlain (mutable_text_in c deed)
+by_mutable_text : (c : Content) (deed : List ℕ → Deed) → ((xs : List ℕ) → IsPlain (deed xs))
+    → IsPlain (mutable_text_in c deed)
 by_mutable_text (text_content true units) deed h = h units
 by_mutable_text (text_content false units) deed h = nothing
 by_mutable_text _ deed h = nothing
 
-by_mutable_data : (c : Content) (deed : List ℕ → Deed) → ((xs : List ℕ) → IsPlain (deed xs)) → IsPlain (mutable_data_in c deed)
+by_mutable_data : (c : Content) (deed : List ℕ → Deed) → ((xs : List ℕ) → IsPlain (deed xs))
+    → IsPlain (mutable_data_in c deed)
 by_mutable_data (data_content true bytes) deed h = h bytes
 by_mutable_data (data_content false bytes) deed h = nothing
 by_mutable_data _ deed h = nothing
@@ -57,7 +61,8 @@ by_number : (c : Content) (deed : Number → Deed) → ((n : Number) → IsPlain
 by_number (number_content n) deed h = h n
 by_number _ deed h = nothing
 
-by_fields : (c : Content) (deed : List (Option ℕ) → Deed) → ((xs : List (Option ℕ)) → IsPlain (deed xs)) → IsPlain (fields_in c deed)
+by_fields : (c : Content) (deed : List (Option ℕ) → Deed) → ((xs : List (Option ℕ)) → IsPlain (deed xs))
+    → IsPlain (fields_in c deed)
 by_fields (instance_content key fields) deed h = h fields
 by_fields _ deed h = nothing
 
@@ -65,15 +70,18 @@ by_elements : (c : Content) (deed : List ℕ → Deed) → ((xs : List ℕ) → 
 by_elements (array_content plain elements) deed h = h elements
 by_elements _ deed h = nothing
 
-by_pairs : (c : Content) (deed : Bool → List (Cell × ℕ) → Deed) → ((plain : Bool) (xs : List (Cell × ℕ)) → IsPlain (deed plain xs)) → IsPlain (pairs_in c deed)
+by_pairs : (c : Content) (deed : Bool → List (Cell × ℕ) → Deed)
+    → ((plain : Bool) (xs : List (Cell × ℕ)) → IsPlain (deed plain xs)) → IsPlain (pairs_in c deed)
 by_pairs (dictionary_content plain pairs) deed h = h plain pairs
 by_pairs _ deed h = nothing
 
-by_heap : (c : Content) (deed : Bool → List (Cell × ℕ) → Deed) → ((plain : Bool) (xs : List (Cell × ℕ)) → IsPlain (deed plain xs)) → IsPlain (heap_in c deed)
+by_heap : (c : Content) (deed : Bool → List (Cell × ℕ) → Deed)
+    → ((plain : Bool) (xs : List (Cell × ℕ)) → IsPlain (deed plain xs)) → IsPlain (heap_in c deed)
 by_heap (heap_content plain adds rows) deed h = h plain rows
 by_heap _ deed h = nothing
 
-by_members : (c : Content) (deed : Bool → (Cell → Option (ℕ × ℕ)) → Deed) → ((counts : Bool) (row_of : Cell → Option (ℕ × ℕ)) → IsPlain (deed counts row_of)) → IsPlain (members_in c deed)
+by_members : (c : Content) (deed : Bool → (Cell → Option (ℕ × ℕ)) → Deed)
+    → ((counts : Bool) (row_of : Cell → Option (ℕ × ℕ)) → IsPlain (deed counts row_of)) → IsPlain (members_in c deed)
 by_members (set_content plain members) deed h = h false _
 by_members (bag_content plain rows) deed h = h true _
 by_members _ deed h = nothing
@@ -150,7 +158,8 @@ removes_least : (o : Option ℕ) → IsPlain (removing_least o)
 removes_least None = nothing
 removes_least (Some o) = (tt, tt)
 
-pub plain_deed : (classes : List ClassLine) (x : Statement) (a b c : Option Numbered) → IsPlain (deed_of classes x a b c)
+pub plain_deed : (classes : List ClassLine) (x : Statement) (a b c : Option Numbered)
+    → IsPlain (deed_of classes x a b c)
 plain_deed classes (forms.MakeString v text) a b c = (tt, refl)
 plain_deed classes (forms.MakeMstring v text) a b c = (tt, refl)
 plain_deed classes (forms.MakeData v bytes) a b c = (tt, refl)
@@ -216,7 +225,8 @@ text_keeps change (bag_content plain rows) h = refl
 text_keeps change (heap_content plain adds rows) h = refl
 text_keeps change (item_content handler info valid item) h = refl
 
-pub keeps_things : (b : ℕ) (change : Change) (objects : List Object) (i : ℕ) → IsPlainChange change → thing_of (slice_get (with_change b change objects) i) ≡ thing_of (slice_get objects i)
+pub keeps_things : (b : ℕ) (change : Change) (objects : List Object) (i : ℕ) → IsPlainChange change
+    → thing_of (slice_get (with_change b change objects) i) ≡ thing_of (slice_get objects i)
 keeps_things b change [] i h = refl
 keeps_things zero change (ob ∷ obs) zero h = text_keeps change ob.content h
 keeps_things zero change (ob ∷ obs) (suc i) h = refl

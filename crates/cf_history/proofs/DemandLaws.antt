@@ -42,7 +42,8 @@ module _ (s : Script) (i t : ℕ) (st : State) where
   end_quiet : Quiets (end_step t st)
   end_quiet = by (eqb t 0)
     where
-      by : (b : Bool) → Quiets (record (idle st answers.Ok) { parts = cond b (record st.parts { flags = start_all st.parts.flags }) st.parts })
+      by : (b : Bool)
+          → Quiets (record (idle st answers.Ok) { parts = cond b (record st.parts { flags = start_all st.parts.flags }) st.parts })
       by true = still_step s i t st _ refl refl refl
       by false = still_step s i t st _ refl refl refl
 
@@ -87,12 +88,14 @@ module _ (s : Script) (i t : ℕ) (st : State) where
   callout_thing None c e = absurd cc
   callout_thing (Some y) c e = (y, refl)
 
-  run_callout : (b : Bool) (x : Option Thing) (c : Callout) → cond b (callout_of_thing x) None ≡ Some c → (y : Thing) × (x ≡ Some y)
+  run_callout : (b : Bool) (x : Option Thing) (c : Callout) → cond b (callout_of_thing x) None ≡ Some c
+      → (y : Thing) × (x ≡ Some y)
   run_callout true x c e = callout_thing x c e
   run_callout false x c e = absurd cc
 
   -- what is called as an item is one
-  pub called_thing : (k : Kind) (role : Role) (n : ℕ) (c : Callout) → (role ≡ as_receiver → ⊥) → callout_of (facts_of st) t k role n ≡ Some c → (y : Thing) × (thing_at st.parts n ≡ Some y)
+  pub called_thing : (k : Kind) (role : Role) (n : ℕ) (c : Callout) → (role ≡ as_receiver → ⊥)
+      → callout_of (facts_of st) t k role n ≡ Some c → (y : Thing) × (thing_at st.parts n ≡ Some y)
   called_thing (of_run r) as_observer n c h e = run_callout (item_fits (facts_of st) t r as_observer n) (thing_at st.parts n) c e
   called_thing (of_run r) as_source n c h e = run_callout (item_fits (facts_of st) t r as_source n) (thing_at st.parts n) c e
   called_thing (of_run r) as_timer n c h e = run_callout (item_fits (facts_of st) t r as_timer n) (thing_at st.parts n) c e
@@ -104,14 +107,16 @@ module _ (s : Script) (i t : ℕ) (st : State) where
   called_thing (of_handler k) as_source n c h e = absurd cc
   called_thing (of_handler k) as_timer n c h e = absurd cc
 
-  fire_tells : (h n a : ℕ) (info : Option ℕ) (answer : Answer) → bound_in answer ≡ None → (y : Thing) × (thing_at st.parts n ≡ Some y)
+  fire_tells : (h n a : ℕ) (info : Option ℕ) (answer : Answer) → bound_in answer ≡ None
+      → (y : Thing) × (thing_at st.parts n ≡ Some y)
       → Tells s i (event t (actions.Call h (Some n) info) answer) st.parts (fire st.parts n (thing_at st.parts n))
   fire_tells h n a info answer none q =
       let y = q.0 in
       let tells = fires_tell s i t n st.parts (actions.Call h (Some n) info) answer y (refl, refl, refl, refl, refl, (λ m. refl), refl) none q.1 in
       subst (λ (x : Option Thing). Tells s i (event t (actions.Call h (Some n) info) answer) st.parts (fire st.parts n x)) (sym q.1) tells
 
-  call_tells : (d : ℕ) (kind : Kind) (role : Role) (n : ℕ) (c : Callout) → callout_of (facts_of st) t kind role n ≡ Some c
+  call_tells : (d : ℕ) (kind : Kind) (role : Role) (n : ℕ) (c : Callout)
+      → callout_of (facts_of st) t kind role n ≡ Some c
       → StepTells s i t st (actions.Call c.handler (item_of (record { role = role; number = n })) c.info) (call_step t d st kind (record { role = role; number = n }) c)
   call_tells d kind as_receiver n c e = quiet_step s i t st _ _ (record { unsignalled = refl; uncalled = refl; item = refl; source = refl; unended = refl; timing = refl; time = λ m. refl }) (still_step s i t st (call_step t d st kind (record { role = as_receiver; number = n }) c) refl refl refl)
   call_tells d kind as_observer n c e = fire_tells c.handler n 0 c.info _ refl (called_thing kind as_observer n c (λ z. absurd cc) e)
@@ -120,11 +125,13 @@ module _ (s : Script) (i t : ℕ) (st : State) where
 
   -- ---- an item that is spent
 
-  spend_by : (j : ℕ) (x : Option Thing) → is_made st.parts j ≡ true → thing_at st.parts j ≡ x → Tells s i (event t (actions.Spend j) (spend_if s st j x).answer) st.parts (spend_if s st j x).parts
+  spend_by : (j : ℕ) (x : Option Thing) → is_made st.parts j ≡ true → thing_at st.parts j ≡ x
+      → Tells s i (event t (actions.Spend j) (spend_if s st j x).answer) st.parts (spend_if s st j x).parts
   spend_by j None made was = no_item_ends s i t j st.parts (actions.Spend j) (refl, refl, refl, refl, refl, (λ m. refl), refl) was made
   spend_by j (Some x) made was = by x.valid refl
     where
-      by : (b : Bool) → x.valid ≡ b → Tells s i (event t (actions.Spend j) (cond b (invalidate_deal s st j x) (okay st.parts)).answer) st.parts (cond b (invalidate_deal s st j x) (okay st.parts)).parts
+      by : (b : Bool) → x.valid ≡ b
+          → Tells s i (event t (actions.Spend j) (cond b (invalidate_deal s st j x) (okay st.parts)).answer) st.parts (cond b (invalidate_deal s st j x) (okay st.parts)).parts
       by false e = stays_ended s i t j st.parts (actions.Spend j) x (refl, refl, refl, refl, refl, (λ m. refl), refl) was e
       by true e = rw e (ends_tell s i t j st.parts (actions.Spend j) x (refl, refl, refl, refl, refl, (λ m. refl), refl) was)
 
@@ -133,7 +140,8 @@ module _ (s : Script) (i t : ℕ) (st : State) where
   abbrev Acted : List Frame → Demand → Type 0
   Acted fs d = StepTells s i t st (action_in s (facts_of st) t fs d) (step_of s t st fs d)
 
-  line_tells : (f : Frame) (fs : List Frame) (x : BlockLine) → slice_get (frame_lines s f.kind f.block) f.number ≡ Some x → Acted (f ∷ fs) (does x)
+  line_tells : (f : Frame) (fs : List Frame) (x : BlockLine)
+      → slice_get (frame_lines s f.kind f.block) f.number ≡ Some x → Acted (f ∷ fs) (does x)
   line_tells f fs (begins v) e = quiet_step s i t st _ _ (record { unsignalled = refl; uncalled = refl; item = refl; source = refl; unended = refl; timing = refl; time = λ m. refl }) (still_step s i t st (step_of s t st (f ∷ fs) (does (begins v))) refl refl refl)
   line_tells f fs (claims k v) e = quiet_step s i t st _ _ (record { unsignalled = refl; uncalled = refl; item = refl; source = refl; unended = refl; timing = refl; time = λ m. refl }) (claim_quiet (parcel t k) (variable t (length fs) v) (first_held (parcel t k) st.edges))
   line_tells f fs (packs u k v) e = quiet_step s i t st _ _ (record { unsignalled = refl; uncalled = refl; item = refl; source = refl; unended = refl; timing = refl; time = λ m. refl }) (pack_quiet (packed_holder t (length fs) v) (parcel u k) (object_at f.bindings v))
@@ -152,11 +160,13 @@ module _ (s : Script) (i t : ℕ) (st : State) where
   SpendsMade (spends j) = is_made st.parts j ≡ true
   SpendsMade _ = Unit {0}
 
-  work_tells : (fs : List Frame) (work : List Work) (d : Demand) → SpendsMade d → WorkView (facts_of st) work d → Acted fs d
+  work_tells : (fs : List Frame) (work : List Work) (d : Demand) → SpendsMade d → WorkView (facts_of st) work d
+      → Acted fs d
   work_tells fs work _ made (first_owes o h) = quiet_step s i t st _ _ (record { unsignalled = refl; uncalled = refl; item = refl; source = refl; unended = refl; timing = refl; time = λ m. refl }) (cut_quiet s i t st (owed t) o (own_reference t (owed t) o st.edges))
   work_tells fs work _ made (first_spends j h) = spend_by j (thing_at st.parts j) made refl
   work_tells fs work _ made (first_drops b k o e h) = quiet_step s i t st _ _ (record { unsignalled = refl; uncalled = refl; item = refl; source = refl; unended = refl; timing = refl; time = λ m. refl }) (still_step s i t st (step_of s t st fs (drops b k o)) refl refl (cut_unbound s i t st (Some o) st.parts.objects _ answers.Ok refl))
 
-  pub demand_tells : (stand : Stand) (d : Demand) → SpendsMade d → StandView s (facts_of st) t stand d → Acted stand.frames d
+  pub demand_tells : (stand : Stand) (d : Demand) → SpendsMade d → StandView s (facts_of st) t stand d
+      → Acted stand.frames d
   demand_tells stand d made (of_work e view) = work_tells stand.frames stand.work d made view
   demand_tells stand d made (of_frame f fs e same view) = subst (λ (gs : List Frame). Acted gs d) (sym same) (frame_tells f fs d view)

@@ -40,7 +40,8 @@ pub record Tells (s : Script) (i : ℕ) (e : Entry) (p q : Parts) : Type 0 where
   pub gone : invalidates i e ≡ true → is_made p i ≡ true
   pub called : calls i e ≡ true → thing_at p i ≡ None → ⊥
   pub timing : timing_of_thing (thing_at q i) ≡ or_timing (timing_of_thing (thing_at p i)) (timing_by s i e)
-  pub date : (last : Option ℕ) → (thing_at p i ≡ None → last ≡ None) → date_of_thing (thing_at p i) ≡ date_by (timing_of_thing (thing_at p i)) last
+  pub date : (last : Option ℕ) → (thing_at p i ≡ None → last ≡ None)
+      → date_of_thing (thing_at p i) ≡ date_by (timing_of_thing (thing_at p i)) last
       → date_of_thing (thing_at q i) ≡ date_by (timing_of_thing (thing_at q i)) (cond (calls i e) (Some p.time) last)
 
 -- an entry that says nothing of an item
@@ -69,7 +70,8 @@ timing_none : (t u : Option Timing) → u ≡ None → t ≡ or_timing t u
 timing_none None u e = sym e
 timing_none (Some x) u e = refl
 
-pub quiet_tells : (s : Script) (i : ℕ) (e : Entry) (p q : Parts) → Quiet s i e → q.time ≡ time_in p.time e.action → is_made q i ≡ (is_made p i || binds i e)
+pub quiet_tells : (s : Script) (i : ℕ) (e : Entry) (p q : Parts) → Quiet s i e → q.time ≡ time_in p.time e.action
+    → is_made q i ≡ (is_made p i || binds i e)
     → thing_at q i ≡ thing_at p i → Tells s i e p q
 quiet_tells s i e p q h time made same = record {
   time = time;
@@ -89,13 +91,15 @@ quiet_tells s i e p q h time made same = record {
 
 -- ---- objects and things
 
-pub made_same : (p q : Parts) (i : ℕ) (b : Bool) → length q.objects ≡ length p.objects → b ≡ false → is_made q i ≡ (is_made p i || b)
+pub made_same : (p q : Parts) (i : ℕ) (b : Bool) → length q.objects ≡ length p.objects → b ≡ false
+    → is_made q i ≡ (is_made p i || b)
 made_same p q i b size e = ap (ltb i) size ∙ or_none (ltb i (length p.objects)) b e
 
 pub names_none : (i : ℕ) (o : Option ℕ) → o ≡ None → names i o ≡ false
 names_none i o e = ap (names i) e
 
-pub thing_made : (objects : List Object) (i : ℕ) (x : Thing) → thing_of (slice_get objects i) ≡ Some x → ltb i (length objects) ≡ true
+pub thing_made : (objects : List Object) (i : ℕ) (x : Thing) → thing_of (slice_get objects i) ≡ Some x
+    → ltb i (length objects) ≡ true
 thing_made [] i x e = absurd cc
 thing_made (ob ∷ obs) zero x e = less_suc (length obs)
   where
@@ -106,12 +110,14 @@ thing_made (ob ∷ obs) (suc i) x e = next i (length obs) (thing_made obs i x e)
     next : (m n : ℕ) → ltb m n ≡ true → ltb (suc m) (suc n) ≡ true
     next m n h = grind (arith, nat_tests)
 
-pub own_thing : (objects : List Object) (j : ℕ) (valid : Bool) (item : Item) (x : Thing) → thing_of (slice_get objects j) ≡ Some x
+pub own_thing : (objects : List Object) (j : ℕ) (valid : Bool) (item : Item) (x : Thing)
+    → thing_of (slice_get objects j) ≡ Some x
     → thing_of (slice_get (with_change j (in_item valid item) objects) j) ≡ Some (record { handler = x.handler; info = x.info; valid = valid; item = item })
 own_thing [] j valid item x e = absurd cc
 own_thing (ob ∷ obs) zero valid item x e = by ob.content e
   where
-    by : (c : Content) → thing_in c ≡ Some x → thing_in (item_after valid item c) ≡ Some (record { handler = x.handler; info = x.info; valid = valid; item = item })
+    by : (c : Content) → thing_in c ≡ Some x
+        → thing_in (item_after valid item c) ≡ Some (record { handler = x.handler; info = x.info; valid = valid; item = item })
     by (item_content h info v it) e = let same : record { handler = h; info = info; valid = v; item = it } ≡ x = cc in ap (λ (z : Thing). Some (record { handler = z.handler; info = z.info; valid = valid; item = item })) same
     by (text_content m u) e = absurd cc
     by (data_content m u) e = absurd cc
@@ -124,7 +130,8 @@ own_thing (ob ∷ obs) zero valid item x e = by ob.content e
     by (heap_content p a o) e = absurd cc
 own_thing (ob ∷ obs) (suc j) valid item x e = own_thing obs j valid item x e
 
-pub other_thing : (objects : List Object) (j i : ℕ) (change : Change) → (j ≡ i → ⊥) → thing_of (slice_get (with_change j change objects) i) ≡ thing_of (slice_get objects i)
+pub other_thing : (objects : List Object) (j i : ℕ) (change : Change) → (j ≡ i → ⊥)
+    → thing_of (slice_get (with_change j change objects) i) ≡ thing_of (slice_get objects i)
 other_thing [] j i change h = refl
 other_thing (ob ∷ obs) zero zero change h = absurd (h refl)
 other_thing (ob ∷ obs) zero (suc i) change h = refl
@@ -132,13 +139,15 @@ other_thing (ob ∷ obs) (suc j) zero change h = refl
 other_thing (ob ∷ obs) (suc j) (suc i) change h = other_thing obs j i change (λ e. h (ap suc e))
 
 -- one object more
-pub thing_more : (objects : List Object) (ob : Object) (i : ℕ) → (length objects ≡ i → ⊥) → thing_of (slice_get (objects ++ ob ∷ []) i) ≡ thing_of (slice_get objects i)
+pub thing_more : (objects : List Object) (ob : Object) (i : ℕ) → (length objects ≡ i → ⊥)
+    → thing_of (slice_get (objects ++ ob ∷ []) i) ≡ thing_of (slice_get objects i)
 thing_more [] ob zero h = absurd (h refl)
 thing_more [] ob (suc i) h = refl
 thing_more (o ∷ os) ob zero h = refl
 thing_more (o ∷ os) ob (suc i) h = thing_more os ob i (λ e. h (ap suc e))
 
-pub thing_new : (objects : List Object) (ob : Object) → thing_of (slice_get (objects ++ ob ∷ []) (length objects)) ≡ thing_in ob.content
+pub thing_new : (objects : List Object) (ob : Object)
+    → thing_of (slice_get (objects ++ ob ∷ []) (length objects)) ≡ thing_in ob.content
 thing_new [] ob = refl
 thing_new (o ∷ os) ob = thing_new os ob
 
@@ -146,13 +155,15 @@ pub thing_past : (objects : List Object) → thing_of (slice_get objects (length
 thing_past [] = refl
 thing_past (o ∷ os) = thing_past os
 
-pub thing_plain : (objects : List Object) (ob : Object) (i : ℕ) → thing_in ob.content ≡ None → thing_of (slice_get (objects ++ ob ∷ []) i) ≡ thing_of (slice_get objects i)
+pub thing_plain : (objects : List Object) (ob : Object) (i : ℕ) → thing_in ob.content ≡ None
+    → thing_of (slice_get (objects ++ ob ∷ []) i) ≡ thing_of (slice_get objects i)
 thing_plain objects ob i none = elim (eqb_tells (length objects) i) [
   | inl e ↦ subst (λ (j : ℕ). thing_of (slice_get (objects ++ ob ∷ []) j) ≡ thing_of (slice_get objects j)) e.1 (thing_new objects ob ∙ none ∙ sym (thing_past objects))
   | inr e ↦ thing_more objects ob i e.1
 ]
 
-pub made_more : (objects : List Object) (ob : Object) (i : ℕ) → ltb i (length (objects ++ ob ∷ [])) ≡ (ltb i (length objects) || eqb (length objects) i)
+pub made_more : (objects : List Object) (ob : Object) (i : ℕ)
+    → ltb i (length (objects ++ ob ∷ [])) ≡ (ltb i (length objects) || eqb (length objects) i)
 made_more objects ob i = by (length objects) (length (objects ++ ob ∷ [])) (omega (arith, length-append objects (ob ∷ [])))
   where
     by : (m n : ℕ) → n ≡ m + 1 → ltb i n ≡ (ltb i m || eqb m i)

@@ -52,7 +52,8 @@ no_and_yes false e f = cc
 none_is_some : (x : Thing) → ◌≡◌ {A = Option Thing} (Some x) None → ⊥
 none_is_some x e = cc
 
-pub turns_tell : (s : Script) (j : ℕ) (e : Entry) (p q : Parts) (x y : Thing) → Turns s j e p.time x y → q.time ≡ time_in p.time e.action → length q.objects ≡ length p.objects → binds j e ≡ false
+pub turns_tell : (s : Script) (j : ℕ) (e : Entry) (p q : Parts) (x y : Thing) → Turns s j e p.time x y
+    → q.time ≡ time_in p.time e.action → length q.objects ≡ length p.objects → binds j e ≡ false
     → thing_at p j ≡ Some x → thing_at q j ≡ Some y → Tells s j e p q
 turns_tell s j e p q x y h time size unbound was is = record {
   time = time;
@@ -92,7 +93,8 @@ and_other : (b c : Bool) → b ≡ false → (b && c) ≡ false
 and_other b c e = grind arith
 
 -- the item of a number is changed by an entry that says so of it alone
-pub one_tells : (s : Script) (i j : ℕ) (e : Entry) (p q : Parts) → ((j ≡ i → ⊥) → Quiet s i e) → q.time ≡ time_in p.time e.action → length q.objects ≡ length p.objects → binds i e ≡ false
+pub one_tells : (s : Script) (i j : ℕ) (e : Entry) (p q : Parts) → ((j ≡ i → ⊥) → Quiet s i e)
+    → q.time ≡ time_in p.time e.action → length q.objects ≡ length p.objects → binds i e ≡ false
     → ((j ≡ i → ⊥) → thing_at q i ≡ thing_at p i) → (j ≡ i → Tells s i e p q) → Tells s i e p q
 one_tells s i j e p q quiet time size unbound other own = elim (eqb_tells j i) [
   | inl is ↦ own is.1
@@ -140,7 +142,8 @@ module _ (s : Script) (i t j : ℕ) (p : Parts) where
   changed_other valid item h = other_thing p.objects j i (in_item valid item) h
 
   -- a signal that is accepted
-  pub signal_tells : (b n : ℕ) (used : List (Option ℕ)) → first_of used ≡ Some j → timing_in (statement_of s (actions.Signal b n used)) ≡ None
+  pub signal_tells : (b n : ℕ) (used : List (Option ℕ)) → first_of used ≡ Some j
+      → timing_in (statement_of s (actions.Signal b n used)) ≡ None
       → (h : ℕ) (info : Option ℕ) (order : ℤ) (on : Bool) → thing_at p j ≡ Some (thing h info true (source_item order on))
       → Tells s i (event t (actions.Signal b n used) answers.Ok) p (with_item p j true (source_item order true))
   signal_tells b n used first plain h info order on was =
@@ -176,7 +179,8 @@ module _ (s : Script) (i t j : ℕ) (p : Parts) where
     timing = untimed false _ h.6;
   }
 
-  ends_turns : (a : Action) (x y : Thing) → Ends a → y.valid ≡ false → y.item ≡ x.item → Turns s j (event t a answers.Ok) p.time x y
+  ends_turns : (a : Action) (x y : Thing) → Ends a → y.valid ≡ false → y.item ≡ x.item
+      → Turns s j (event t a answers.Ok) p.time x y
   ends_turns a x y h gone same = record {
     make = ap (λ (b : Bool). b && false) h.3;
     source = ap (λ (b : Bool). b && false) h.4;
@@ -188,7 +192,8 @@ module _ (s : Script) (i t j : ℕ) (p : Parts) where
     date = ap date_in same ∙ ap (λ (b : Bool). cond b (date_by (timing_of_item x.item) (Some p.time)) (date_in x.item)) (sym (ap (names j) h.2));
   }
 
-  pub ends_tell : (a : Action) (x : Thing) → Ends a → thing_at p j ≡ Some x → Tells s i (event t a answers.Ok) p (with_item p j false x.item)
+  pub ends_tell : (a : Action) (x : Thing) → Ends a → thing_at p j ≡ Some x
+      → Tells s i (event t a answers.Ok) p (with_item p j false x.item)
   ends_tell a x h was =
       let e = event t a answers.Ok in
       let q = with_item p j false x.item in
@@ -198,14 +203,16 @@ module _ (s : Script) (i t j : ℕ) (p : Parts) where
       (turns_tell s j e p q x after (ends_turns a x after h refl refl) (sym (h.5 p.time)) (changed_size false x.item) refl was (own_thing p.objects j false x.item x was)))
 
   -- an item that is not valid stays so
-  pub stays_ended : (a : Action) (x : Thing) → Ends a → thing_at p j ≡ Some x → x.valid ≡ false → Tells s i (event t a answers.Ok) p p
+  pub stays_ended : (a : Action) (x : Thing) → Ends a → thing_at p j ≡ Some x → x.valid ≡ false
+      → Tells s i (event t a answers.Ok) p p
   stays_ended a x h was invalid =
       let e = event t a answers.Ok in
       one_tells s i j e p p (ends_quiet a h) (sym (h.5 p.time)) refl refl (λ apart. refl)
       (λ same. subst (λ (k : ℕ). Tells s k e p p) same (turns_tell s j e p p x x (ends_turns a x x h invalid refl) (sym (h.5 p.time)) refl refl was was))
 
   -- what is no item stays so
-  pub no_item_ends : (a : Action) → Ends a → thing_at p j ≡ None → is_made p j ≡ true → Tells s i (event t a answers.Ok) p p
+  pub no_item_ends : (a : Action) → Ends a → thing_at p j ≡ None → is_made p j ≡ true
+      → Tells s i (event t a answers.Ok) p p
   no_item_ends a h none made =
       let e = event t a answers.Ok in
       one_tells s i j e p p (ends_quiet a h) (sym (h.5 p.time)) refl refl (λ apart. refl)
@@ -248,7 +255,8 @@ module _ (s : Script) (i t j : ℕ) (p : Parts) where
   fired_date (timer_item first interval date) = refl
   fired_date (observer_item mask repeats order) = refl
 
-  pub fires_tell : (a : Action) (answer : Answer) (x : Thing) → Fires a → bound_in answer ≡ None → thing_at p j ≡ Some x → Tells s i (event t a answer) p (with_item p j x.valid (fired p.time x.item))
+  pub fires_tell : (a : Action) (answer : Answer) (x : Thing) → Fires a → bound_in answer ≡ None → thing_at p j ≡ Some x
+      → Tells s i (event t a answer) p (with_item p j x.valid (fired p.time x.item))
   fires_tell a answer x h unbound was =
       let e = event t a answer in
       let item = fired p.time x.item in
@@ -334,7 +342,8 @@ module _ (s : Script) (t : ℕ) (p : Parts) (a : Action) (h : ℕ) (info : Optio
   abbrev made_parts : Parts
   made_parts = record p { objects = p.objects ++ made_object ∷ [] }
 
-  begins_other : (i : ℕ) → eqb (length p.objects) i ≡ false → (length p.objects ≡ i → ⊥) → Tells s i made_event p made_parts
+  begins_other : (i : ℕ) → eqb (length p.objects) i ≡ false → (length p.objects ≡ i → ⊥)
+      → Tells s i made_event p made_parts
   begins_other i unlike apart = quiet_tells s i made_event p made_parts
       (record {
         signal = and_other (names i (signalled_in a)) false (ap (names i) k.unsignalled);

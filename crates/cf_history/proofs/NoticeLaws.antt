@@ -57,7 +57,8 @@ left_by gone r = cond (is_there_and gone r) None r
 abbrev Tells : Script → Entry → Registered → Registered → Type 0
 Tells s e rs after = after ≡ map (left_by (λ r. is_forgotten_in s r e)) rs ++ map Some (registered_in s e)
 
-none_left : (gone : Registration → Bool) → ((r : Registration) → gone r ≡ false) → (rs : Registered) → map (left_by gone) rs ≡ rs
+none_left : (gone : Registration → Bool) → ((r : Registration) → gone r ≡ false) → (rs : Registered)
+    → map (left_by gone) rs ≡ rs
 none_left gone h [] = refl
 none_left gone h (None ∷ rs) = ap (λ (ss : Registered). None ∷ ss) (none_left gone h rs)
 none_left gone h (Some r ∷ rs) = ap (λ (b : Bool). cond b None (Some r) ∷ map (left_by gone) rs) (h r) ∙ ap (λ (ss : Registered). Some r ∷ ss) (none_left gone h rs)
@@ -73,7 +74,8 @@ either_none true xs e = e
 either_none false xs e = refl
 
 -- an entry of an action that neither registers nor forgets
-quiet_entry : (s : Script) (t : ℕ) (a : Action) (x : Answer) (rs after : Registered) → registered_by (statement_of s a) (used_in a) ≡ []
+quiet_entry : (s : Script) (t : ℕ) (a : Action) (x : Answer) (rs after : Registered)
+    → registered_by (statement_of s a) (used_in a) ≡ []
     → ((r : Registration) → is_forgotten_by (statement_of s a) (used_in a) r ≡ false) → after ≡ rs → Tells s (event t a x) rs after
 quiet_entry s t a x rs after none never same =
     let kept = none_left (λ r. is_forgotten_in s r (event t a x)) (λ r. and_not (is_number x) (is_forgotten_by (statement_of s a) (used_in a) r) (never r)) rs in
@@ -94,11 +96,13 @@ module _ (s : Script) (t : ℕ) (st : State) where
   either_same true x y h k = h
   either_same false x y h k = k
 
-  used_same : (used : Option ℕ) (deal : ℕ → Deal) → ((o : ℕ) → Same (deal o).parts) → Same (with_used st.parts used deal).parts
+  used_same : (used : Option ℕ) (deal : ℕ → Deal) → ((o : ℕ) → Same (deal o).parts)
+      → Same (with_used st.parts used deal).parts
   used_same None deal h = refl
   used_same (Some o) deal h = h o
 
-  thing_same : (used : Option ℕ) (deal : ℕ → Thing → Deal) → ((j : ℕ) (x : Thing) → Same (deal j x).parts) → Same (with_thing st.parts used deal).parts
+  thing_same : (used : Option ℕ) (deal : ℕ → Thing → Deal) → ((j : ℕ) (x : Thing) → Same (deal j x).parts)
+      → Same (with_thing st.parts used deal).parts
   thing_same None deal h = refl
   thing_same (Some j) deal h = by (thing_at st.parts j)
     where
@@ -151,7 +155,8 @@ module _ (s : Script) (t : ℕ) (st : State) where
   release_same k None = refl
   release_same k (Some o) = refl
 
-  statement_same : (d : ℕ) (x : Statement) (used : List (Option ℕ)) (ownership : Ownership) → IsOther x → Same (statement_step s t d st x used ownership).parts
+  statement_same : (d : ℕ) (x : Statement) (used : List (Option ℕ)) (ownership : Ownership) → IsOther x
+      → Same (statement_step s t d st x used ownership).parts
   statement_same d x used Keeps other = deal_same x used other
   statement_same d x used (Binds v) other = refl
   statement_same d x used (Retains v) other = retain_same (variable t d v) (first_of used)
@@ -162,11 +167,13 @@ module _ (s : Script) (t : ℕ) (st : State) where
   abbrev After_ : Action → Deal → Type 0
   After_ a deal = Tells s (event t a deal.answer) before deal.parts.registrations
 
-  observes : (a : Action) (h : ℕ) (name x : Option ℕ) (v : ℕ) (used : List (Option ℕ)) → statement_of s a ≡ Some (forms.Observe v h name x) → used_in a ≡ used
+  observes : (a : Action) (h : ℕ) (name x : Option ℕ) (v : ℕ) (used : List (Option ℕ))
+      → statement_of s a ≡ Some (forms.Observe v h name x) → used_in a ≡ used
       → After_ a (with_used st.parts (first_of used) (λ o. with_filter st.parts x (used_at used 1) (observe_deal st.parts h name o)))
   observes a h name x v used writes same = by (first_of used) x refl writes
     where
-      registered : (o : ℕ) (f x : Option ℕ) → first_of used ≡ Some o → filter_in x used ≡ f → statement_of s a ≡ Some (forms.Observe v h name x)
+      registered : (o : ℕ) (f x : Option ℕ) → first_of used ≡ Some o → filter_in x used ≡ f
+          → statement_of s a ≡ Some (forms.Observe v h name x)
           → After_ a (observe_deal st.parts h name o f)
       registered o f x first is w =
           let r : Registration = record { observer = o; handler = h; name = name; filter = f } in
@@ -174,33 +181,39 @@ module _ (s : Script) (t : ℕ) (st : State) where
           ap (λ (y : Option Statement). registered_by y (used_in a)) w ∙ ap (registered_by (Some (forms.Observe v h name x))) same ∙ ap (λ (q : Option ℕ). registers h name (filter_in x used) q) first ∙ ap (λ (q : Option ℕ). registers h name q (Some o)) is in
           sym (ap (λ (ys : List Registration). map (left_by (λ q. false)) before ++ map Some ys) by_it ∙ ap (λ (ys : Registered). ys ++ Some r ∷ []) (none_left (λ q. false) (λ q. refl) before))
 
-      by_filter : (o v' : ℕ) (object : Option ℕ) → used_at used 1 ≡ object → first_of used ≡ Some o → statement_of s a ≡ Some (forms.Observe v h name (Some v'))
+      by_filter : (o v' : ℕ) (object : Option ℕ) → used_at used 1 ≡ object → first_of used ≡ Some o
+          → statement_of s a ≡ Some (forms.Observe v h name (Some v'))
           → After_ a (with_used st.parts object (λ q. observe_deal st.parts h name o (Some q)))
       by_filter o v' None e first w = skipped_entry s t a before
       by_filter o v' (Some q) e first w = registered o (Some q) (Some v') first e w
 
-      by : (object x : Option ℕ) → first_of used ≡ object → statement_of s a ≡ Some (forms.Observe v h name x) → After_ a (with_used st.parts object (λ o. with_filter st.parts x (used_at used 1) (observe_deal st.parts h name o)))
+      by : (object x : Option ℕ) → first_of used ≡ object → statement_of s a ≡ Some (forms.Observe v h name x)
+          → After_ a (with_used st.parts object (λ o. with_filter st.parts x (used_at used 1) (observe_deal st.parts h name o)))
       by None x first w = skipped_entry s t a before
       by (Some o) None first w = registered o None None first refl w
       by (Some o) (Some v') first w = by_filter o v' (used_at used 1) refl first w
 
-  forgets_some : (a : Action) (name x : Option ℕ) (v : ℕ) (used : List (Option ℕ)) → statement_of s a ≡ Some (forms.Forget v name x) → used_in a ≡ used
+  forgets_some : (a : Action) (name x : Option ℕ) (v : ℕ) (used : List (Option ℕ))
+      → statement_of s a ≡ Some (forms.Forget v name x) → used_in a ≡ used
       → After_ a (with_used st.parts (first_of used) (λ o. with_filter st.parts x (used_at used 1) (forget_deal st.parts name o)))
   forgets_some a name x v used writes same = by (first_of used) x refl writes
     where
-      forgotten : (o : ℕ) (f x : Option ℕ) → first_of used ≡ Some o → filter_in x used ≡ f → statement_of s a ≡ Some (forms.Forget v name x)
+      forgotten : (o : ℕ) (f x : Option ℕ) → first_of used ≡ Some o → filter_in x used ≡ f
+          → statement_of s a ≡ Some (forms.Forget v name x)
           → After_ a (forget_deal st.parts name o f)
       forgotten o f x first is w =
           let gone : (r : Registration) → is_forgotten_by (statement_of s a) (used_in a) r ≡ forgets o name f r = λ r.
           ap (λ (y : Option Statement). is_forgotten_by y (used_in a) r) w ∙ ap (λ (us : List (Option ℕ)). is_forgotten_by (Some (forms.Forget v name x)) us r) same ∙ ap (λ (q : Option ℕ). is_of q name (filter_in x used) r) first ∙ ap (λ (q : Option ℕ). is_of (Some o) name q r) is in
           sym (append-nil (map (left_by (λ r. is_forgotten_by (statement_of s a) (used_in a) r)) before) ∙ ap (λ (g : Registration → Bool). map (left_by g) before) (λ j. λ r. gone r j))
 
-      by_filter : (o v' : ℕ) (object : Option ℕ) → used_at used 1 ≡ object → first_of used ≡ Some o → statement_of s a ≡ Some (forms.Forget v name (Some v'))
+      by_filter : (o v' : ℕ) (object : Option ℕ) → used_at used 1 ≡ object → first_of used ≡ Some o
+          → statement_of s a ≡ Some (forms.Forget v name (Some v'))
           → After_ a (with_used st.parts object (λ q. forget_deal st.parts name o (Some q)))
       by_filter o v' None e first w = skipped_entry s t a before
       by_filter o v' (Some q) e first w = forgotten o (Some q) (Some v') first e w
 
-      by : (object x : Option ℕ) → first_of used ≡ object → statement_of s a ≡ Some (forms.Forget v name x) → After_ a (with_used st.parts object (λ o. with_filter st.parts x (used_at used 1) (forget_deal st.parts name o)))
+      by : (object x : Option ℕ) → first_of used ≡ object → statement_of s a ≡ Some (forms.Forget v name x)
+          → After_ a (with_used st.parts object (λ o. with_filter st.parts x (used_at used 1) (forget_deal st.parts name o)))
       by None x first w = skipped_entry s t a before
       by (Some o) None first w = forgotten o None None first refl w
       by (Some o) (Some v') first w = by_filter o v' (used_at used 1) refl first w
@@ -208,7 +221,9 @@ module _ (s : Script) (t : ℕ) (st : State) where
   abbrev Says : Action → Step → Type 0
   Says a step = Tells s (event t a (step_answer step st)) before step.parts.registrations
 
-  statement_says : (d : ℕ) (x : Statement) (site : Site) → statement_of s (action_of x site) ≡ Some x → used_in (action_of x site) ≡ site.used → Says (action_of x site) (statement_step s t d st x site.used (ownership_of x))
+  statement_says : (d : ℕ) (x : Statement) (site : Site) → statement_of s (action_of x site) ≡ Some x
+      → used_in (action_of x site) ≡ site.used
+      → Says (action_of x site) (statement_step s t d st x site.used (ownership_of x))
   statement_says d (forms.Observe v h name x) site writes same = observes (action_of (forms.Observe v h name x) site) h name x v site.used writes same
   statement_says d (forms.Forget v name x) site writes same = forgets_some (action_of (forms.Forget v name x) site) name x v site.used writes same
   statement_says d x site writes same =
@@ -283,7 +298,8 @@ module _ (s : Script) (t : ℕ) (st : State) where
   abbrev Acted : List Frame → Demand → Type 0
   Acted fs d = Says (action_in s (facts_of st) t fs d) (step_of s t st fs d)
 
-  line_says : (f : Frame) (fs : List Frame) (x : BlockLine) → slice_get (frame_lines s f.kind f.block) f.number ≡ Some x → Acted (f ∷ fs) (does x)
+  line_says : (f : Frame) (fs : List Frame) (x : BlockLine) → slice_get (frame_lines s f.kind f.block) f.number ≡ Some x
+      → Acted (f ∷ fs) (does x)
   line_says f fs (begins v) e = quiet_says (action_in s (facts_of st) t (f ∷ fs) (does (begins v))) (step_of s t st (f ∷ fs) (does (begins v))) refl refl
   line_says f fs (claims k v) e = quiet_says (action_in s (facts_of st) t (f ∷ fs) (does (claims k v))) (step_of s t st (f ∷ fs) (does (claims k v))) refl (claim_same (parcel t k) (variable t (length fs) v) (first_held (parcel t k) st.edges))
   line_says f fs (packs u k v) e = quiet_says (action_in s (facts_of st) t (f ∷ fs) (does (packs u k v))) (step_of s t st (f ∷ fs) (does (packs u k v))) refl (pack_same (packed_holder t (length fs) v) (parcel u k) (object_at f.bindings v))
@@ -306,7 +322,8 @@ module _ (s : Script) (t : ℕ) (st : State) where
   demand_says stand d (of_work e view) = work_says stand.frames stand.work d view
   demand_says stand d (of_frame f fs e same view) = subst (λ (gs : List Frame). Acted gs d) (sym same) (frame_says f fs d view)
 
-  step_says : (a : Action) (x : Answer) → IsStep a → IsLegalStep s st (event t a x) → Tells s (event t a x) before (after_action s t st a).parts.registrations
+  step_says : (a : Action) (x : Answer) → IsStep a → IsLegalStep s st (event t a x)
+      → Tells s (event t a x) before (after_action s t st a).parts.registrations
   step_says a x step legal =
       let acts = next_is s st t a legal.next in
       let d = acts.demand in
@@ -319,27 +336,32 @@ module _ (s : Script) (t : ℕ) (st : State) where
       subst (λ (q : State). Tells s (event t a x) before q.parts.registrations) (sym (step.after s t st ∙ ap (acted s t st) acts.demands))
       (subst (λ (e : Entry). Tells s e before (done_by s t st d).parts.registrations) same says_it)
 
-  says_by : (a : Action) (x : Answer) → ActionView a → IsLegalAs s st (event t a x) a → Tells s (event t a x) before (after_action s t st a).parts.registrations
+  says_by : (a : Action) (x : Answer) → ActionView a → IsLegalAs s st (event t a x) a
+      → Tells s (event t a x) before (after_action s t st a).parts.registrations
   says_by _ x (is_tick n) legal = quiet_entry s t (actions.Tick n) x before before refl (λ r. refl) refl
   says_by _ x is_stall legal = quiet_entry s t actions.Stall x before before refl (λ r. refl) refl
   says_by a x (is_step _ step) legal = step_says a x step (step.legal s st (event t a x) legal)
 
 -- ---- one entry more
 
-any_more : (s : Script) (r : Registration) (es : List Entry) (e : Entry) → list_any (is_forgotten_in s r) (es ++ e ∷ []) ≡ (list_any (is_forgotten_in s r) es || is_forgotten_in s r e)
+any_more : (s : Script) (r : Registration) (es : List Entry) (e : Entry)
+    → list_any (is_forgotten_in s r) (es ++ e ∷ []) ≡ (list_any (is_forgotten_in s r) es || is_forgotten_in s r e)
 any_more s r es e = list_any-append (is_forgotten_in s r) es (e ∷ []) ∙ tidy (list_any (is_forgotten_in s r) es) (is_forgotten_in s r e)
   where
     tidy : (b c : Bool) → (b || (c || false)) ≡ (b || c)
     tidy b c = grind arith
 
-one_more : (s : Script) (es : List Entry) (e : Entry) (r : Registration) → unless_forgotten s (es ++ e ∷ []) r ≡ left_by (λ q. is_forgotten_in s q e) (unless_forgotten s es r)
+one_more : (s : Script) (es : List Entry) (e : Entry) (r : Registration)
+    → unless_forgotten s (es ++ e ∷ []) r ≡ left_by (λ q. is_forgotten_in s q e) (unless_forgotten s es r)
 one_more s es e r = ap (λ (b : Bool). cond b None (Some r)) (any_more s r es e) ∙ by (list_any (is_forgotten_in s r) es)
   where
-    by : (b : Bool) → cond {A = Option Registration} (b || is_forgotten_in s r e) None (Some r) ≡ left_by (λ q. is_forgotten_in s q e) (cond b None (Some r))
+    by : (b : Bool)
+        → cond {A = Option Registration} (b || is_forgotten_in s r e) None (Some r) ≡ left_by (λ q. is_forgotten_in s q e) (cond b None (Some r))
     by true = refl
     by false = refl
 
-each_more : (s : Script) (es : List Entry) (e : Entry) (rs : List Registration) → map (unless_forgotten s (es ++ e ∷ [])) rs ≡ map (left_by (λ q. is_forgotten_in s q e)) (map (unless_forgotten s es) rs)
+each_more : (s : Script) (es : List Entry) (e : Entry) (rs : List Registration)
+    → map (unless_forgotten s (es ++ e ∷ [])) rs ≡ map (left_by (λ q. is_forgotten_in s q e)) (map (unless_forgotten s es) rs)
 each_more s es e [] = refl
 each_more s es e (r ∷ rs) = ap (λ (o : Option Registration). o ∷ map (unless_forgotten s (es ++ e ∷ [])) rs) (one_more s es e r) ∙ ap (λ (os : Registered). left_by (λ q. is_forgotten_in s q e) (unless_forgotten s es r) ∷ os) (each_more s es e rs)
 
@@ -347,11 +369,13 @@ each_new : (s : Script) (rs : List Registration) → map (unless_forgotten s [])
 each_new s [] = refl
 each_new s (r ∷ rs) = ap (λ (os : Registered). Some r ∷ os) (each_new s rs)
 
-left_append : (gone : Registration → Bool) (xs ys : Registered) → map (left_by gone) (xs ++ ys) ≡ map (left_by gone) xs ++ map (left_by gone) ys
+left_append : (gone : Registration → Bool) (xs ys : Registered)
+    → map (left_by gone) (xs ++ ys) ≡ map (left_by gone) xs ++ map (left_by gone) ys
 left_append gone [] ys = refl
 left_append gone (x ∷ xs) ys = ap (λ (os : Registered). left_by gone x ∷ os) (left_append gone xs ys)
 
-registrations_more : (s : Script) (es : List Entry) (e : Entry) → registrations_after s (es ++ e ∷ []) ≡ map (left_by (λ r. is_forgotten_in s r e)) (registrations_after s es) ++ map Some (registered_in s e)
+registrations_more : (s : Script) (es : List Entry) (e : Entry)
+    → registrations_after s (es ++ e ∷ []) ≡ map (left_by (λ r. is_forgotten_in s r e)) (registrations_after s es) ++ map Some (registered_in s e)
 registrations_more s [] e = append-nil (map (unless_forgotten s []) (registered_in s e)) ∙ each_new s (registered_in s e)
 registrations_more s (x ∷ es) e =
     let gone : Registration → Bool = λ r. is_forgotten_in s r e in
@@ -361,13 +385,16 @@ registrations_more s (x ∷ es) e =
     ∙ sym (append_assoc (map (left_by gone) (map (unless_forgotten s es) first)) (map (left_by gone) (registrations_after s es)) (map Some (registered_in s e)))
     ∙ ap (λ (os : Registered). os ++ map Some (registered_in s e)) (sym (left_append gone (map (unless_forgotten s es) first) (registrations_after s es)))
 
-registered_from : (s : Script) (es : List Entry) (st : State) (more : List Entry) → st.parts.registrations ≡ registrations_after s es → IsLegalPart s st more → (state_from s st more).parts.registrations ≡ registrations_after s (es ++ more)
+registered_from : (s : Script) (es : List Entry) (st : State) (more : List Entry)
+    → st.parts.registrations ≡ registrations_after s es → IsLegalPart s st more
+    → (state_from s st more).parts.registrations ≡ registrations_after s (es ++ more)
 registered_from s es st [] h legal = h ∙ ap (registrations_after s) (sym (append-nil es))
 registered_from s es st (e ∷ more) h legal =
     let now = says_by s e.thread st e.action e.answer (action_view e.action) legal.0 ∙ ap (λ (os : Registered). map (left_by (λ r. is_forgotten_in s r e)) os ++ map Some (registered_in s e)) h ∙ sym (registrations_more s es e) in
     registered_from s (es ++ e ∷ []) (after_action s e.thread st e.action) more now legal.1 ∙ ap (registrations_after s) (append_assoc es (e ∷ []) more)
 
-pub registrations_agree : (s : Script) (es : List Entry) → IsLegal s es → (After s es).parts.registrations ≡ registrations_after s es
+pub registrations_agree : (s : Script) (es : List Entry) → IsLegal s es
+    → (After s es).parts.registrations ≡ registrations_after s es
 registrations_agree s es legal = registered_from s [] (start s) es refl (part_of_legal s (start s) es legal)
 
 -- ---- receivers
@@ -381,6 +408,7 @@ receivers_agree s es legal name object =
     ap (λ (rs : Registered). filter (λ k. is_there_and (may_receive p) (slice_index_or rs k None)) (receivers name object rs)) (registrations_agree s es legal)
     ∙ ap (λ (test : Registration → Bool). filter (λ k. is_there_and test (slice_index_or (registrations_after s es) k None)) (receivers name object (registrations_after s es))) (λ j. λ r. heard r j)
   where
-    by_filter : (p : Parts) → ((o : ℕ) → is_live p o ≡ is_live_after es o) → (f : Option ℕ) → is_live_filter p f ≡ is_live_if es f
+    by_filter : (p : Parts) → ((o : ℕ) → is_live p o ≡ is_live_after es o) → (f : Option ℕ)
+        → is_live_filter p f ≡ is_live_if es f
     by_filter p live None = refl
     by_filter p live (Some o) = live o

@@ -53,11 +53,13 @@ abbrev AllAre : (ℕ → Type 0) → List ℕ → Type 0
 AllAre P [] = Unit {0}
 AllAre P (n ∷ ns) = P n × AllAre P ns
 
-filter_are : (P : ℕ → Type 0) (test : ℕ → Bool) → ((n : ℕ) → test n ≡ true → P n) → (ns : List ℕ) → AllAre P (filter test ns)
+filter_are : (P : ℕ → Type 0) (test : ℕ → Bool) → ((n : ℕ) → test n ≡ true → P n) → (ns : List ℕ)
+    → AllAre P (filter test ns)
 filter_are P test h [] = tt
 filter_are P test h (n ∷ ns) = by (test n) (h n) (filter_are P test h ns)
   where
-    by : (b : Bool) → (b ≡ true → P n) → AllAre P (filter test ns) → AllAre P (cond b (n ∷ filter test ns) (filter test ns))
+    by : (b : Bool) → (b ≡ true → P n) → AllAre P (filter test ns)
+        → AllAre P (cond b (n ∷ filter test ns) (filter test ns))
     by true k rest = (k refl, rest)
     by false k rest = rest
 
@@ -77,11 +79,13 @@ abbrev with_number : ℕ → ObserverState → Bool
 with_number n x = eqb x.number n
 
 -- an object that is no observer is found under no number
-found_after : (n i : ℕ) (x : Option Thing) (rest : List ObserverState) → (i ≡ n → observer_of i x ≡ []) → find (with_number n) (observer_of i x ++ rest) ≡ find (with_number n) rest
+found_after : (n i : ℕ) (x : Option Thing) (rest : List ObserverState) → (i ≡ n → observer_of i x ≡ [])
+    → find (with_number n) (observer_of i x ++ rest) ≡ find (with_number n) rest
 found_after n i None rest h = refl
 found_after n i (Some x) rest h = by x.item h
   where
-    by : (item : Item) → (i ≡ n → observer_in i x.valid item ≡ []) → find (with_number n) (observer_in i x.valid item ++ rest) ≡ find (with_number n) rest
+    by : (item : Item) → (i ≡ n → observer_in i x.valid item ≡ [])
+        → find (with_number n) (observer_in i x.valid item ++ rest) ≡ find (with_number n) rest
     by (source_item order on) h = refl
     by (timer_item first interval date) h = refl
     by (observer_item mask repeats order) h = elim (eqb_tells i n) [
@@ -89,10 +93,13 @@ found_after n i (Some x) rest h = by x.item h
       | inr apart ↦ ap (λ (b : Bool). cond b (Some (record { number = i; mask = mask; repeats = repeats; order = order; valid = x.valid })) (find (with_number n) rest)) apart.0
     ]
       where
-        none_is : ◌≡◌ {A = List ObserverState} (record { number = i; mask = mask; repeats = repeats; order = order; valid = x.valid } ∷ []) [] → ⊥
+        none_is : ◌≡◌ {A = List ObserverState}
+            (record { number = i; mask = mask; repeats = repeats; order = order; valid = x.valid } ∷ []) []
+            → ⊥
         none_is e = cc
 
-none_found : (p : Parts) (n : ℕ) → observer_of n (thing_at p n) ≡ [] → (a k : ℕ) → find (with_number n) (flat_map (λ i. observer_of i (thing_at p i)) (range_with_len a k)) ≡ None
+none_found : (p : Parts) (n : ℕ) → observer_of n (thing_at p n) ≡ [] → (a k : ℕ)
+    → find (with_number n) (flat_map (λ i. observer_of i (thing_at p i)) (range_with_len a k)) ≡ None
 none_found p n h a zero = refl
 none_found p n h a (suc k) =
     found_after n a (thing_at p a) (flat_map (λ i. observer_of i (thing_at p i)) (range_with_len (a + 1) k)) (λ e. subst (λ (m : ℕ). observer_of m (thing_at p m) ≡ []) (sym e) h)
@@ -130,11 +137,13 @@ module _ (q : Parts) where
   callees_in role [] h = tt
   callees_in role (n ∷ ns) h = ((λ e. absurd (h e)), callees_in role ns h)
 
-  left_in : (facts : Facts) (t : ℕ) (kind : Kind) (ks : List Callee) → AllOf (IsInRole q) ks → AllOf (IsInRole q) (callees_left facts t kind ks)
+  left_in : (facts : Facts) (t : ℕ) (kind : Kind) (ks : List Callee) → AllOf (IsInRole q) ks
+      → AllOf (IsInRole q) (callees_left facts t kind ks)
   left_in facts t kind [] h = tt
   left_in facts t kind (k ∷ ks) h = by (is_some (callout_of facts t kind k.role k.number)) (left_in facts t kind ks h.1)
     where
-      by : (b : Bool) → AllOf (IsInRole q) (callees_left facts t kind ks) → AllOf (IsInRole q) (cond b ks (callees_left facts t kind ks))
+      by : (b : Bool) → AllOf (IsInRole q) (callees_left facts t kind ks)
+          → AllOf (IsInRole q) (cond b ks (callees_left facts t kind ks))
       by true rest = h.1
       by false rest = rest
 
@@ -145,11 +154,14 @@ module _ (q : Parts) where
       by true = callees_in as_receiver list (λ e. cc)
       by false = tt
 
-  run_frames_in : (time : ℕ) (x : BlockLine) (b : Bool) (fs : List Frame) → InRoles q fs → InRoles q (run_frames time x b ++ fs)
+  run_frames_in : (time : ℕ) (x : BlockLine) (b : Bool) (fs : List Frame) → InRoles q fs
+      → InRoles q (run_frames time x b ++ fs)
   run_frames_in time (says (forms.Run m limit once)) true fs h = (tt, h)
   run_frames_in time x b fs h = h
 
-  top_in : (g : Frame → Frame) (fs : List Frame) → ((x : Frame) → AllOf (IsInRole q) x.collected → AllOf (IsInRole q) (g x).collected) → InRoles q fs → InRoles q (on_top g fs)
+  top_in : (g : Frame → Frame) (fs : List Frame)
+      → ((x : Frame) → AllOf (IsInRole q) x.collected → AllOf (IsInRole q) (g x).collected) → InRoles q fs
+      → InRoles q (on_top g fs)
   top_in g [] h k = tt
   top_in g (f ∷ fs) h k = (h f k.0, k.1)
 
@@ -162,7 +174,8 @@ module _ (q : Parts) where
   CollectsIn (enters p) list = AllOf (IsInRole q) (map (callee (role_at p)) list)
   CollectsIn _ list = Unit {0}
 
-  after_in : (facts : Facts) (t : ℕ) (d : Demand) (answer : Answer) (list : List ℕ) (fs : List Frame) → CollectsIn d list → InRoles q fs → InRoles q (frames_after facts t d answer list fs)
+  after_in : (facts : Facts) (t : ℕ) (d : Demand) (answer : Answer) (list : List ℕ) (fs : List Frame)
+      → CollectsIn d list → InRoles q fs → InRoles q (frames_after facts t d answer list fs)
   after_in facts t (does x) answer list fs c h = run_frames_in facts.time x (is_entered answer) (on_top (line_done facts t x answer list) fs) (top_in (line_done facts t x answer list) fs (λ f k. receivers_are_in x list) h)
   after_in facts t ends answer list fs c h = h
   after_in facts t returns answer list fs c h = drop_in fs h
@@ -173,7 +186,9 @@ module _ (q : Parts) where
   after_in facts t (enters p) answer list fs c h = top_in _ fs (λ f j. c) h
   after_in facts t closes answer list fs c h = drop_in fs h
 
-  stop_in_by : (k : Kind) (b m : ℕ) (bs : List Binding) (cs : List Callee) (fs : List Frame) → InRoles q (frame k b m bs cs ∷ fs) → InRoles q (stop_frames fs) → InRoles q (stop_frames (frame k b m bs cs ∷ fs))
+  stop_in_by : (k : Kind) (b m : ℕ) (bs : List Binding) (cs : List Callee) (fs : List Frame)
+      → InRoles q (frame k b m bs cs ∷ fs) → InRoles q (stop_frames fs)
+      → InRoles q (stop_frames (frame k b m bs cs ∷ fs))
   stop_in_by of_block b m bs cs fs h rest = (h.0, rest)
   stop_in_by (of_handler k) b m bs cs fs h rest = (h.0, rest)
   stop_in_by (of_run r) b m bs cs fs h rest = (h.0, h.1)
@@ -182,19 +197,22 @@ module _ (q : Parts) where
   stop_in [] h = tt
   stop_in (f ∷ fs) h = stop_in_by f.kind f.block f.number f.bindings f.collected fs h (stop_in fs h.1)
 
-  put_in : (u : ℕ) (new : Stand) (ss : List Stand) → InRoles q new.frames → ((w : ℕ) → InRoles q (stand_at w ss).frames) → (w : ℕ) → InRoles q (stand_at w (with_stand u new ss)).frames
+  put_in : (u : ℕ) (new : Stand) (ss : List Stand) → InRoles q new.frames → ((w : ℕ) → InRoles q (stand_at w ss).frames)
+      → (w : ℕ) → InRoles q (stand_at w (with_stand u new ss)).frames
   put_in u new ss mine h w = elim (eqb_tells w u) [
     | inl e ↦ subst (λ (v : ℕ). InRoles q (stand_at v (with_stand u new ss)).frames) (sym e.1) (subst (λ (x : Stand). InRoles q x.frames) (sym (at_own blank u new ss)) mine)
     | inr e ↦ subst (λ (x : Stand). InRoles q x.frames) (sym (at_other blank w u new ss e.1)) (h w)
   ]
 
-  stopped_in : (stops : Option ℕ) (ss : List Stand) → ((w : ℕ) → InRoles q (stand_at w ss).frames) → (w : ℕ) → InRoles q (stand_at w (stopped_at stops ss)).frames
+  stopped_in : (stops : Option ℕ) (ss : List Stand) → ((w : ℕ) → InRoles q (stand_at w ss).frames) → (w : ℕ)
+      → InRoles q (stand_at w (stopped_at stops ss)).frames
   stopped_in None ss h w = h w
   stopped_in (Some u) ss h w = put_in u (stop_stand (stand_at u ss)) ss (stop_in (stand_at u ss).frames (h u)) h w
 
 -- ---- a step
 
-note_collects : (st : State) (t : ℕ) (p : Phase) (kind : Kind) → CollectsIn st.parts (enters p) (phase_step st t p kind).list
+note_collects : (st : State) (t : ℕ) (p : Phase) (kind : Kind)
+    → CollectsIn st.parts (enters p) (phase_step st t p kind).list
 note_collects st t p of_block = tt
 note_collects st t p (of_handler k) = tt
 note_collects st t (phases.Note a) (of_run r) =
@@ -209,7 +227,9 @@ note_collects st t phases.Sleep (of_run r) =
     either (flags_at t st.parts.flags).is_woken (sleeping st t answers.Woken awake) (unwoken_step st t r) tt
     (either (has_come r.deadline st.parts.time || has_come date st.parts.time) (idle st answers.Due) (sleeping st t (answers.Asleep least) (until least)) tt tt)
   where
-    either : (b : Bool) (x y : Step) → AllOf (IsInRole st.parts) (map (callee as_observer) x.list) → AllOf (IsInRole st.parts) (map (callee as_observer) y.list) → AllOf (IsInRole st.parts) (map (callee as_observer) (cond b x y).list)
+    either : (b : Bool) (x y : Step) → AllOf (IsInRole st.parts) (map (callee as_observer) x.list)
+        → AllOf (IsInRole st.parts) (map (callee as_observer) y.list)
+        → AllOf (IsInRole st.parts) (map (callee as_observer) (cond b x y).list)
     either true x y h k = h
     either false x y h k = k
 note_collects st t phases.Test (of_run r) = tt
@@ -244,18 +264,21 @@ still_observer s n e p q tells h =
         let makes : makes_item n e ≡ true = ap (λ (b : Bool). b && binds n e) (source_is_item e.action parts.0) ∙ parts.1 in
         absurd (true_false (is_made p n) (was_made (thing_at p n) refl h.0) (tells.new makes))
 
-callees_stay : (p q : Parts) → ((n : ℕ) → IsObserver p n → IsObserver q n) → (ks : List Callee) → AllOf (IsInRole p) ks → AllOf (IsInRole q) ks
+callees_stay : (p q : Parts) → ((n : ℕ) → IsObserver p n → IsObserver q n) → (ks : List Callee) → AllOf (IsInRole p) ks
+    → AllOf (IsInRole q) ks
 callees_stay p q h [] k = tt
 callees_stay p q h (x ∷ ks) k = ((λ e. h x.number (k.0 e)), callees_stay p q h ks k.1)
 
-frames_stay : (p q : Parts) → ((n : ℕ) → IsObserver p n → IsObserver q n) → (fs : List Frame) → InRoles p fs → InRoles q fs
+frames_stay : (p q : Parts) → ((n : ℕ) → IsObserver p n → IsObserver q n) → (fs : List Frame) → InRoles p fs
+    → InRoles q fs
 frames_stay p q h [] k = tt
 frames_stay p q h (f ∷ fs) k = (callees_stay p q h f.collected k.0, frames_stay p q h fs k.1)
 
 abbrev pub AllInRoles : State → Type 0
 AllInRoles st = (u : ℕ) → InRoles st.parts (frames_at u st)
 
-collects_in : (s : Script) (t : ℕ) (st : State) (fs : List Frame) (d : Demand) → CollectsIn st.parts d (step_of s t st fs d).list
+collects_in : (s : Script) (t : ℕ) (st : State) (fs : List Frame) (d : Demand)
+    → CollectsIn st.parts d (step_of s t st fs d).list
 collects_in s t st fs (does x) = tt
 collects_in s t st fs ends = tt
 collects_in s t st fs returns = tt
@@ -266,7 +289,8 @@ collects_in s t st fs (calls k c) = tt
 collects_in s t st fs (enters p) = note_collects st t p (top_kind fs)
 collects_in s t st fs closes = tt
 
-acted_in : (s : Script) (t : ℕ) (st : State) (d : Option Demand) → AllInRoles st → ((n : ℕ) → IsObserver st.parts n → IsObserver (acted s t st d).parts n) → AllInRoles (acted s t st d)
+acted_in : (s : Script) (t : ℕ) (st : State) (d : Option Demand) → AllInRoles st
+    → ((n : ℕ) → IsObserver st.parts n → IsObserver (acted s t st d).parts n) → AllInRoles (acted s t st d)
 acted_in s t st None h stays = h
 acted_in s t st (Some d) h stays =
     let step = step_of s t st (frames_at t st) d in
@@ -275,10 +299,12 @@ acted_in s t st (Some d) h stays =
     stopped_in q step.stops (with_stand t (stand_after t d step st) st.stands)
     (put_in q t (stand_after t d step st) st.stands (frames_stay st.parts q stays (stand_after t d step st).frames new) (λ u. frames_stay st.parts q stays (frames_at u st) (h u)))
 
-pub entry_in : (s : Script) (st : State) (e : Entry) → AllInRoles st → IsLegalEntry s st e → AllInRoles (after_action s e.thread st e.action)
+pub entry_in : (s : Script) (st : State) (e : Entry) → AllInRoles st → IsLegalEntry s st e
+    → AllInRoles (after_action s e.thread st e.action)
 entry_in s st e h legal = by e.action (λ n. still_observer s n e st.parts (after_action s e.thread st e.action).parts (entry_tells s n st e legal))
   where
-    by : (a : Action) → ((n : ℕ) → IsObserver st.parts n → IsObserver (after_action s e.thread st a).parts n) → AllInRoles (after_action s e.thread st a)
+    by : (a : Action) → ((n : ℕ) → IsObserver st.parts n → IsObserver (after_action s e.thread st a).parts n)
+        → AllInRoles (after_action s e.thread st a)
     by (actions.Tick n) stays = λ u. frames_stay st.parts (after_action s e.thread st (actions.Tick n)).parts stays (frames_at u st) (h u)
     by actions.Stall stays = h
     by a stays = acted_in s e.thread st (demanded s st e.thread) h stays

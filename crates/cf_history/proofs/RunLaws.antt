@@ -74,19 +74,22 @@ module _ (s : Script) (es : List Entry) (t : ℕ) (st : State) (agrees : Agrees 
   abbrev Own : List Frame → Demand → Answer → List ℕ → Type 0
   Own fs d answer list = runs_in (frames_after facts t d answer list fs) ≡ runs_own s es (event t (action_in s facts t fs d) answer) (runs_in fs)
 
-  run_statement : (m : ℕ) (limit : Option ℕ) (once : Bool) (fs : List Turn) (b : Bool) (gs : List Frame) → runs_in gs ≡ fs
+  run_statement : (m : ℕ) (limit : Option ℕ) (once : Bool) (fs : List Turn) (b : Bool) (gs : List Frame)
+      → runs_in gs ≡ fs
       → runs_in (run_frames st.parts.time (says (forms.Run m limit once)) b ++ gs) ≡ cond b (record { mode = m; once = once; deadline = deadline_of (time_after es) limit; last = None; handled = false; stopped = false; result = None } ∷ []) [] ++ fs
   run_statement m limit once fs true gs e = ap (λ (n : ℕ). record { mode = m; once = once; deadline = deadline_of n limit; last = None; handled = false; stopped = false; result = None } ∷ runs_in gs) agrees.time ∙ ap (λ (rs : List Turn). record { mode = m; once = once; deadline = deadline_of (time_after es) limit; last = None; handled = false; stopped = false; result = None } ∷ rs) e
   run_statement m limit once fs false gs e = e
 
-  statement_own : (f : Frame) (fs : List Frame) (answer : Answer) (list : List ℕ) (x : Statement) (site : Site) → statement_of s (action_of x site) ≡ Some x
+  statement_own : (f : Frame) (fs : List Frame) (answer : Answer) (list : List ℕ) (x : Statement) (site : Site)
+      → statement_of s (action_of x site) ≡ Some x
       → runs_in (run_frames st.parts.time (says x) (is_entered answer) ++ line_done facts t (says x) answer list f ∷ fs) ≡ runs_own s es (event t (action_of x site) answer) (runs_in (f ∷ fs))
   statement_own f fs answer list (forms.Run m limit once) site e =
       run_statement m limit once (runs_in (f ∷ fs)) (is_entered answer) (line_done facts t (says (forms.Run m limit once)) answer list f ∷ fs) refl
       ∙ ap (λ (w : Option Statement). begun (time_after es) w answer ++ runs_in (f ∷ fs)) (sym e)
   statement_own f fs answer list x site e = ap (λ (w : Option Statement). begun (time_after es) w answer ++ runs_in (f ∷ fs)) (sym e)
 
-  line_own : (f : Frame) (fs : List Frame) (answer : Answer) (list : List ℕ) (x : BlockLine) → slice_get (frame_lines s f.kind f.block) f.number ≡ Some x → Own (f ∷ fs) (does x) answer list
+  line_own : (f : Frame) (fs : List Frame) (answer : Answer) (list : List ℕ) (x : BlockLine)
+      → slice_get (frame_lines s f.kind f.block) f.number ≡ Some x → Own (f ∷ fs) (does x) answer list
   line_own f fs answer list (begins v) e = refl
   line_own f fs answer list (claims k v) e = refl
   line_own f fs answer list (packs u k v) e = refl
@@ -106,7 +109,8 @@ module _ (s : Script) (es : List Entry) (t : ℕ) (st : State) (agrees : Agrees 
   kept_kind as_timer (of_handler k) h = refl
   kept_kind as_receiver (of_handler k) h = refl
 
-  not_source : (n : ℕ) (rs : List Turn) → is_source_thing (thing_at st.parts n) ≡ false → cond (is_source_after es n) (innermost with_source rs) rs ≡ rs
+  not_source : (n : ℕ) (rs : List Turn) → is_source_thing (thing_at st.parts n) ≡ false
+      → cond (is_source_after es n) (innermost with_source rs) rs ≡ rs
   not_source n rs e = ap (λ (b : Bool). cond b (innermost with_source rs) rs) (sym (agrees.source n) ∙ e)
 
   some_if : (b : Bool) (o : Option Callout) (c : Callout) → cond b o None ≡ Some c → b ≡ true
@@ -114,16 +118,19 @@ module _ (s : Script) (es : List Entry) (t : ℕ) (st : State) (agrees : Agrees 
   some_if false o c e = absurd cc
 
   -- what is called as an item by a run fits
-  pub run_fits : (r : Turn) (role : Role) (n : ℕ) (c : Callout) → (role ≡ as_receiver → ⊥) → callout_of facts t (of_run r) role n ≡ Some c → item_fits facts t r role n ≡ true
+  pub run_fits : (r : Turn) (role : Role) (n : ℕ) (c : Callout) → (role ≡ as_receiver → ⊥)
+      → callout_of facts t (of_run r) role n ≡ Some c → item_fits facts t r role n ≡ true
   run_fits r as_observer n c h e = some_if (item_fits facts t r as_observer n) (facts.callout n) c e
   run_fits r as_source n c h e = some_if (item_fits facts t r as_source n) (facts.callout n) c e
   run_fits r as_timer n c h e = some_if (item_fits facts t r as_timer n) (facts.callout n) c e
   run_fits r as_receiver n c h e = absurd (h refl)
 
-  pub role_holds : (r : Turn) (role : Role) (n : ℕ) → item_fits facts t r role n ≡ true → role_fits facts r role n ≡ true
+  pub role_holds : (r : Turn) (role : Role) (n : ℕ) → item_fits facts t r role n ≡ true
+      → role_fits facts r role n ≡ true
   role_holds r role n e = (and_parts (facts.is_valid n) (role_fits facts r role n) (and_parts (facts.holds t r.mode n) (facts.is_valid n && role_fits facts r role n) e).1).1
 
-  source_own : (f : Frame) (fs : List Frame) (n : ℕ) (c : Callout) (k : Kind) → f.kind ≡ k → callout_of facts t k as_source n ≡ Some c
+  source_own : (f : Frame) (fs : List Frame) (n : ℕ) (c : Callout) (k : Kind) → f.kind ≡ k
+      → callout_of facts t k as_source n ≡ Some c
       → run_in (kind_called as_source k) ++ runs_in fs ≡ cond (is_source_after es n) (innermost with_source (run_in k ++ runs_in fs)) (run_in k ++ runs_in fs)
   source_own f fs n c (of_run r) e q =
       let fits = role_holds r as_source n (run_fits r as_source n c (λ z. absurd cc) q) in
@@ -132,12 +139,14 @@ module _ (s : Script) (es : List Entry) (t : ℕ) (st : State) (agrees : Agrees 
   source_own f fs n c of_block e q = absurd cc
   source_own f fs n c (of_handler k) e q = absurd cc
 
-  pub timer_dated : (k : Kind) (n : ℕ) (c : Callout) → callout_of facts t k as_timer n ≡ Some c → is_source_thing (thing_at st.parts n) ≡ false
+  pub timer_dated : (k : Kind) (n : ℕ) (c : Callout) → callout_of facts t k as_timer n ≡ Some c
+      → is_source_thing (thing_at st.parts n) ≡ false
   timer_dated (of_run r) n c e = dated_timer (thing_at st.parts n) st.parts.time (role_holds r as_timer n (run_fits r as_timer n c (λ z. absurd cc) e))
   timer_dated of_block n c e = absurd cc
   timer_dated (of_handler k) n c e = absurd cc
 
-  call_own : (f : Frame) (fs : List Frame) (answer : Answer) (list : List ℕ) (role : Role) (n : ℕ) (c : Callout) → callout_of facts t f.kind role n ≡ Some c → IsInRole st.parts (record { role = role; number = n })
+  call_own : (f : Frame) (fs : List Frame) (answer : Answer) (list : List ℕ) (role : Role) (n : ℕ) (c : Callout)
+      → callout_of facts t f.kind role n ≡ Some c → IsInRole st.parts (record { role = role; number = n })
       → Own (f ∷ fs) (calls (record { role = role; number = n }) c) answer list
   call_own f fs answer list as_receiver n c e inside = ap (λ (rs : List Turn). rs ++ runs_in fs) (kept_kind as_receiver f.kind (λ z. absurd cc))
   call_own f fs answer list as_observer n c e inside = ap (λ (rs : List Turn). rs ++ runs_in fs) (kept_kind as_observer f.kind (λ z. absurd cc)) ∙ sym (not_source n (runs_in (f ∷ fs)) (inside refl).1)
@@ -146,13 +155,15 @@ module _ (s : Script) (es : List Entry) (t : ℕ) (st : State) (agrees : Agrees 
 
   -- ---- phases
 
-  test_own : (r : Turn) (fs : List Turn) → turn_after facts t phases.Test r ∷ fs ≡ in_phase phases.Test (result_answer (test_result facts t r)) r ∷ fs
+  test_own : (r : Turn) (fs : List Turn)
+      → turn_after facts t phases.Test r ∷ fs ≡ in_phase phases.Test (result_answer (test_result facts t r)) r ∷ fs
   test_own r fs = ap (λ (o : Option ℕ). record r { last = Some phases.Test; result = o; handled = cond (is_some o) r.handled false } ∷ fs) (sym (result_told (test_result facts t r)))
 
   abbrev OwnPhase : Frame → List Frame → Kind → Phase → Answer → List ℕ → Type 0
   OwnPhase f fs k p answer list = run_in (kind_after facts t p k) ++ runs_in fs ≡ runs_own s es (event t (phase_action p) answer) (run_in k ++ runs_in fs)
 
-  phase_own : (f : Frame) (fs : List Frame) (list : List ℕ) (r : Turn) (p : Phase) → (p ≡ phases.Ran → ⊥) → OwnPhase f fs (of_run r) p (step_answer (phase_step st t p (of_run r)) st) list
+  phase_own : (f : Frame) (fs : List Frame) (list : List ℕ) (r : Turn) (p : Phase) → (p ≡ phases.Ran → ⊥)
+      → OwnPhase f fs (of_run r) p (step_answer (phase_step st t p (of_run r)) st) list
   phase_own f fs list r phases.Ran h = absurd (h refl)
   phase_own f fs list r phases.Test h = test_own r (runs_in fs)
   phase_own f fs list r (phases.Note a) h = refl
@@ -162,7 +173,8 @@ module _ (s : Script) (es : List Entry) (t : ℕ) (st : State) (agrees : Agrees 
 
   -- ---- what each demand does
 
-  frame_own : (f : Frame) (fs : List Frame) (d : Demand) (list : List ℕ) → Asks (IsInRole st.parts) s facts t f d → Own (f ∷ fs) d (step_answer (step_of s t st (f ∷ fs) d) st) list
+  frame_own : (f : Frame) (fs : List Frame) (d : Demand) (list : List ℕ) → Asks (IsInRole st.parts) s facts t f d
+      → Own (f ∷ fs) d (step_answer (step_of s t st (f ∷ fs) d) st) list
   frame_own f fs _ list (asks_call k c e inside) = call_own f fs _ list k.role k.number c e inside
   frame_own f fs _ list (asks_line x e) = line_own f fs _ list x e
   frame_own f fs _ list (asks_end e) = refl
@@ -170,11 +182,13 @@ module _ (s : Script) (es : List Entry) (t : ℕ) (st : State) (agrees : Agrees 
   frame_own f fs _ list (asks_phase r p e due h) = subst (λ (q : Kind). OwnPhase f fs q p (step_answer (phase_step st t p q) st) list) (sym e) (phase_own f fs list r p h)
   frame_own f fs _ list (asks_close r e h) = ap (λ (q : Kind). drop 1 (run_in q ++ runs_in fs)) (sym e)
 
-  work_own : (fs : List Frame) (work : List Work) (d : Demand) (answer : Answer) (list : List ℕ) → WorkView facts work d → Own fs d answer list
+  work_own : (fs : List Frame) (work : List Work) (d : Demand) (answer : Answer) (list : List ℕ) → WorkView facts work d
+      → Own fs d answer list
   work_own fs work _ answer list (first_owes o h) = refl
   work_own fs work _ answer list (first_spends j h) = refl
   work_own fs work _ answer list (first_drops b k o e h) = refl
 
-  pub demand_own : (stand : Stand) (d : Demand) (list : List ℕ) → StandAsks (IsInRole st.parts) s facts t stand d → Own stand.frames d (step_answer (step_of s t st stand.frames d) st) list
+  pub demand_own : (stand : Stand) (d : Demand) (list : List ℕ) → StandAsks (IsInRole st.parts) s facts t stand d
+      → Own stand.frames d (step_answer (step_of s t st stand.frames d) st) list
   demand_own stand d list (asks_work _ view) = work_own stand.frames stand.work d _ list view
   demand_own stand d list (asks_frame _ f fs same view) = subst (λ (gs : List Frame). Own gs d (step_answer (step_of s t st gs d) st) list) (sym same) (frame_own f fs d list view)

@@ -29,7 +29,8 @@ use Rattle.cf_history.proofs.Stops.{stop_tells}
 
 -- ---- runs of frames
 
-stop_runs_by : (k : Kind) (b m : ℕ) (bs : List Binding) (cs : List Callee) (fs : List Frame) → runs_in (stop_frames fs) ≡ innermost with_stop (runs_in fs)
+stop_runs_by : (k : Kind) (b m : ℕ) (bs : List Binding) (cs : List Callee) (fs : List Frame)
+    → runs_in (stop_frames fs) ≡ innermost with_stop (runs_in fs)
     → runs_in (stop_frames (frame k b m bs cs ∷ fs)) ≡ innermost with_stop (runs_in (frame k b m bs cs ∷ fs))
 stop_runs_by of_block b m bs cs fs rest = rest
 stop_runs_by (of_handler k) b m bs cs fs rest = rest
@@ -39,13 +40,15 @@ stop_runs : (fs : List Frame) → runs_in (stop_frames fs) ≡ innermost with_st
 stop_runs [] = refl
 stop_runs (f ∷ fs) = stop_runs_by f.kind f.block f.number f.bindings f.collected fs (stop_runs fs)
 
-put_runs : (t u : ℕ) (new : Stand) (ss : List Stand) → runs_in (stand_at u (with_stand t new ss)).frames ≡ cond (eqb t u) (runs_in new.frames) (runs_in (stand_at u ss).frames)
+put_runs : (t u : ℕ) (new : Stand) (ss : List Stand)
+    → runs_in (stand_at u (with_stand t new ss)).frames ≡ cond (eqb t u) (runs_in new.frames) (runs_in (stand_at u ss).frames)
 put_runs t u new ss = elim (eqb_tells t u) [
   | inl e ↦ subst (λ (v : ℕ). runs_in (stand_at v (with_stand t new ss)).frames ≡ runs_in new.frames) e.1 (ap (λ (x : Stand). runs_in x.frames) (at_own blank t new ss)) ∙ ap (λ (b : Bool). cond b (runs_in new.frames) (runs_in (stand_at u ss).frames)) (sym e.0)
   | inr e ↦ ap (λ (x : Stand). runs_in x.frames) (at_other blank u t new ss (λ q. e.1 (sym q))) ∙ ap (λ (b : Bool). cond b (runs_in new.frames) (runs_in (stand_at u ss).frames)) (sym e.0)
 ]
 
-stopped_runs : (stops : Option ℕ) (u : ℕ) (ss : List Stand) → runs_in (stand_at u (stopped_at stops ss)).frames ≡ cond (names u stops) (innermost with_stop (runs_in (stand_at u ss).frames)) (runs_in (stand_at u ss).frames)
+stopped_runs : (stops : Option ℕ) (u : ℕ) (ss : List Stand)
+    → runs_in (stand_at u (stopped_at stops ss)).frames ≡ cond (names u stops) (innermost with_stop (runs_in (stand_at u ss).frames)) (runs_in (stand_at u ss).frames)
 stopped_runs None u ss = refl
 stopped_runs (Some v) u ss = put_runs v u (stop_stand (stand_at v ss)) ss ∙ elim (eqb_tells v u) [
   | inl e ↦ ap (λ (b : Bool). cond b (runs_in (stop_frames (stand_at v ss).frames)) (runs_in (stand_at u ss).frames)) e.0 ∙ stop_runs (stand_at v ss).frames ∙ ap (λ (w : ℕ). innermost with_stop (runs_in (stand_at w ss).frames)) e.1 ∙ ap (λ (b : Bool). cond b (innermost with_stop (runs_in (stand_at u ss).frames)) (runs_in (stand_at u ss).frames)) (sym e.0)
@@ -63,10 +66,12 @@ module _ (s : Script) (es : List Entry) (st : State) (agrees : Agrees s es st) (
   Now u = runs_in (frames_at u st)
 
   -- what a thread asks for, with what it has collected in its roles
-  pub asks_in_role : (t : ℕ) (d : Demand) → demanded s st t ≡ Some d → StandAsks (IsInRole st.parts) s (facts_of st) t (stand_at t st.stands) d
+  pub asks_in_role : (t : ℕ) (d : Demand) → demanded s st t ≡ Some d
+      → StandAsks (IsInRole st.parts) s (facts_of st) t (stand_at t st.stands) d
   asks_in_role t d e = stand_asks (IsInRole st.parts) s (facts_of st) t (stand_at t st.stands) d (λ f fs same. (subst (InRoles st.parts) same (roles t)).0) e
 
-  step_runs : (t : ℕ) (a : Action) (x : Answer) (u : ℕ) → IsStep a → IsLegalStep s st (event t a x) → runs_in (frames_at u (after_action s t st a)) ≡ runs_after s u es (event t a x) (Now u)
+  step_runs : (t : ℕ) (a : Action) (x : Answer) (u : ℕ) → IsStep a → IsLegalStep s st (event t a x)
+      → runs_in (frames_at u (after_action s t st a)) ≡ runs_after s u es (event t a x) (Now u)
   step_runs t a x u step legal =
       let acts = next_is s st t a legal.next in
       let d = acts.demand in
@@ -90,17 +95,20 @@ module _ (s : Script) (es : List Entry) (st : State) (agrees : Agrees s es st) (
       subst (λ (q : State). runs_in (frames_at u q) ≡ runs_after s u es (event t a x) (Now u)) (sym (step.after s t st ∙ ap (acted s t st) acts.demands))
       (subst (λ (e : Entry). runs_in (frames_at u (done_by s t st d)) ≡ runs_after s u es e (Now u)) same all)
 
-  runs_by : (t : ℕ) (a : Action) (x : Answer) (u : ℕ) → ActionView a → IsLegalAs s st (event t a x) a → runs_in (frames_at u (after_action s t st a)) ≡ runs_after s u es (event t a x) (Now u)
+  runs_by : (t : ℕ) (a : Action) (x : Answer) (u : ℕ) → ActionView a → IsLegalAs s st (event t a x) a
+      → runs_in (frames_at u (after_action s t st a)) ≡ runs_after s u es (event t a x) (Now u)
   runs_by t _ x u (is_tick n) legal = same_either (eqb t u) (Now u)
   runs_by t _ x u is_stall legal = same_either (eqb t u) (Now u)
   runs_by t a x u (is_step _ step) legal = step_runs t a x u step (step.legal s st (event t a x) legal)
 
-  pub entry_runs : (e : Entry) (u : ℕ) → IsLegalEntry s st e → runs_in (frames_at u (after_action s e.thread st e.action)) ≡ runs_after s u es e (Now u)
+  pub entry_runs : (e : Entry) (u : ℕ) → IsLegalEntry s st e
+      → runs_in (frames_at u (after_action s e.thread st e.action)) ≡ runs_after s u es e (Now u)
   entry_runs e u legal = runs_by e.thread e.action e.answer u (action_view e.action) legal
 
 -- ---- along a journal
 
-pub runs_more : (s : Script) (u : ℕ) (earlier : List Entry) (rs : List Turn) (es : List Entry) (e : Entry) → runs_from s u earlier rs (es ++ e ∷ []) ≡ runs_after s u (earlier ++ es) e (runs_from s u earlier rs es)
+pub runs_more : (s : Script) (u : ℕ) (earlier : List Entry) (rs : List Turn) (es : List Entry) (e : Entry)
+    → runs_from s u earlier rs (es ++ e ∷ []) ≡ runs_after s u (earlier ++ es) e (runs_from s u earlier rs es)
 runs_more s u earlier rs [] e = ap (λ (xs : List Entry). runs_after s u xs e rs) (sym (append-nil earlier))
 runs_more s u earlier rs (x ∷ es) e =
     let next = runs_after s u earlier x rs in
@@ -113,14 +121,16 @@ pub record Holds (s : Script) (es : List Entry) (st : State) : Type 0 where
   pub roles : AllInRoles st
   pub runs : (u : ℕ) → runs_in (frames_at u st) ≡ open_runs s es u
 
-pub holds_more : (s : Script) (es : List Entry) (st : State) (e : Entry) → Holds s es st → IsLegalEntry s st e → Holds s (es ++ e ∷ []) (after_action s e.thread st e.action)
+pub holds_more : (s : Script) (es : List Entry) (st : State) (e : Entry) → Holds s es st → IsLegalEntry s st e
+    → Holds s (es ++ e ∷ []) (after_action s e.thread st e.action)
 holds_more s es st e h legal = record {
   agrees = agrees_more s es st e h.agrees legal;
   roles = entry_in s st e h.roles legal;
   runs = λ u. entry_runs s es st h.agrees h.roles e u legal ∙ ap (runs_after s u es e) (h.runs u) ∙ sym (runs_more s u [] [] es e);
 }
 
-holds_from : (s : Script) (es : List Entry) (st : State) (more : List Entry) → Holds s es st → IsLegalPart s st more → Holds s (es ++ more) (state_from s st more)
+holds_from : (s : Script) (es : List Entry) (st : State) (more : List Entry) → Holds s es st → IsLegalPart s st more
+    → Holds s (es ++ more) (state_from s st more)
 holds_from s es st [] h legal = rw (append-nil es) h
 holds_from s es st (e ∷ more) h legal = rw (← append_assoc es (e ∷ []) more) (holds_from s (es ++ e ∷ []) (after_action s e.thread st e.action) more (holds_more s es st e h legal.0) legal.1)
 

@@ -36,13 +36,15 @@ blank_past a zero (suc t) h = refl
 blank_past a (suc n) zero h = absurd (omega arith)
 blank_past a (suc n) (suc t) h = blank_past (a + 1) n t (omega arith)
 
-still_demands : (s : Script) (st : State) (t : ℕ) (d : Demand) → demanded s st t ≡ Some d → stand_at t st.stands ≡ blank → ⊥
+still_demands : (s : Script) (st : State) (t : ℕ) (d : Demand) → demanded s st t ≡ Some d → stand_at t st.stands ≡ blank
+    → ⊥
 still_demands s st t d e none = by (sym (ap (demand s (facts_of st) t) none) ∙ e)
   where
     by : ◌≡◌ {A = Option Demand} None (Some d) → ⊥
     by e = cc
 
-beyond_put : (n u : ℕ) (new : Stand) (ss : List Stand) → (n ≤ u → new ≡ blank) → NoneBeyond n ss → NoneBeyond n (with_stand u new ss)
+beyond_put : (n u : ℕ) (new : Stand) (ss : List Stand) → (n ≤ u → new ≡ blank) → NoneBeyond n ss
+    → NoneBeyond n (with_stand u new ss)
 beyond_put n u new ss mine h t far = elim (eqb_tells t u) [
   | inl e ↦ subst (λ (v : ℕ). stand_at v (with_stand u new ss) ≡ blank) (sym e.1) (at_own blank u new ss ∙ mine (subst (λ (v : ℕ). n ≤ v) e.1 far))
   | inr e ↦ at_other blank t u new ss e.1 ∙ h t far
@@ -52,14 +54,16 @@ beyond_stopped : (n : ℕ) (stops : Option ℕ) (ss : List Stand) → NoneBeyond
 beyond_stopped n None ss h = h
 beyond_stopped n (Some u) ss h = beyond_put n u (stop_stand (stand_at u ss)) ss (λ far. ap stop_stand (h u far)) h
 
-beyond_acted : (s : Script) (t n : ℕ) (st : State) (d : Option Demand) → demanded s st t ≡ d → NoneBeyond n st.stands → NoneBeyond n (acted s t st d).stands
+beyond_acted : (s : Script) (t n : ℕ) (st : State) (d : Option Demand) → demanded s st t ≡ d → NoneBeyond n st.stands
+    → NoneBeyond n (acted s t st d).stands
 beyond_acted s t n st None e h = h
 beyond_acted s t n st (Some d) e h =
     let step = step_of s t st (frames_at t st) d in
     beyond_stopped n step.stops (with_stand t (stand_after t d step st) st.stands)
     (beyond_put n t (stand_after t d step st) st.stands (λ far. absurd (still_demands s st t d e (h t far))) h)
 
-beyond_after : (s : Script) (t n : ℕ) (st : State) (a : Action) → NoneBeyond n st.stands → NoneBeyond n (after_action s t st a).stands
+beyond_after : (s : Script) (t n : ℕ) (st : State) (a : Action) → NoneBeyond n st.stands
+    → NoneBeyond n (after_action s t st a).stands
 beyond_after s t n st (actions.Tick time) h = h
 beyond_after s t n st actions.Stall h = h
 beyond_after s t n st a h = beyond_acted s t n st (demanded s st t) refl h
@@ -134,7 +138,8 @@ module _ (s : Script) (st : State) where
       v.choice x.thread ∙ ap (λ (z : ℕ). steps z) same ∙ sym (w.choice y.thread)
 
 -- two ticks with the same times go to one
-same_time : (a b : Action) (xs ys : List ℕ) → times_in a ++ xs ≡ times_in b ++ ys → (n m : ℕ) → a ≡ actions.Tick n → b ≡ actions.Tick m → n ≡ m
+same_time : (a b : Action) (xs ys : List ℕ) → times_in a ++ xs ≡ times_in b ++ ys → (n m : ℕ) → a ≡ actions.Tick n
+    → b ≡ actions.Tick m → n ≡ m
 same_time a b xs ys e n m p q =
     first_time n m xs ys (sym (ap (λ (c : Action). times_in c ++ xs) p) ∙ e ∙ ap (λ (c : Action). times_in c ++ ys) q)
 
@@ -149,7 +154,8 @@ shorter m e = cc
 less : (m n : ℕ) → suc m ≡ suc n → m ≡ n
 less m n e = cc
 
-same_from : (s : Script) (st : State) (pointer : ℕ) (es fs : List Entry) → NoneBeyond s.thread_count st.stands → IsLegalFrom s st es → IsLegalFrom s st fs
+same_from : (s : Script) (st : State) (pointer : ℕ) (es fs : List Entry) → NoneBeyond s.thread_count st.stands
+    → IsLegalFrom s st es → IsLegalFrom s st fs
     → IsSerialFrom s st pointer es → IsSerialFrom s st pointer fs → length es ≡ length fs → tick_times es ≡ tick_times fs → es ≡ fs
 same_from s st pointer [] [] beyond h k o q l e = refl
 same_from s st pointer [] (y ∷ fs) beyond h k o q l e = absurd (shorter _ l)
@@ -176,10 +182,12 @@ given_time : (date : Option ℕ) (times : List ℕ) (n m : ℕ) → IsTimeGiven 
 given_time None times n m h k = absurd h
 given_time (Some date) times n m h k = h ∙ sym k
 
-clock_time : (date : Option ℕ) (times : List ℕ) (a b : Action) → IsTickBy date times a → IsTickBy date times b → (n m : ℕ) → a ≡ actions.Tick n → b ≡ actions.Tick m → n ≡ m
+clock_time : (date : Option ℕ) (times : List ℕ) (a b : Action) → IsTickBy date times a → IsTickBy date times b
+    → (n m : ℕ) → a ≡ actions.Tick n → b ≡ actions.Tick m → n ≡ m
 clock_time date times a b h k n m p q = given_time date times n m (subst (IsTickBy date times) p h) (subst (IsTickBy date times) q k)
 
-timed_from : (s : Script) (st : State) (pointer : ℕ) (times : List ℕ) (es fs : List Entry) → NoneBeyond s.thread_count st.stands → IsLegalFrom s st es → IsLegalFrom s st fs
+timed_from : (s : Script) (st : State) (pointer : ℕ) (times : List ℕ) (es fs : List Entry)
+    → NoneBeyond s.thread_count st.stands → IsLegalFrom s st es → IsLegalFrom s st fs
     → IsSerialFrom s st pointer es → IsSerialFrom s st pointer fs → IsTimedFrom s st times es → IsTimedFrom s st times fs → length es ≡ length fs → es ≡ fs
 timed_from s st pointer times [] [] beyond h k o q c d l = refl
 timed_from s st pointer times [] (y ∷ fs) beyond h k o q c d l = absurd (shorter _ l)

@@ -77,14 +77,16 @@ module _ (s : Script) (i t : ℕ) (st : State) where
   quiet_step a step q h = quiet_tells s i (event t a (step_answer step st)) st.parts step.parts (quiet_of a (step_answer step st) q) (h.time ∙ sym (q.time st.parts.time)) h.made h.things
 
   -- objects stay
-  pub still_step : (step : Step) → step.parts.time ≡ st.parts.time → step.parts.objects ≡ st.parts.objects → bound_in (step_answer step st) ≡ None → QuietStep step
+  pub still_step : (step : Step) → step.parts.time ≡ st.parts.time → step.parts.objects ≡ st.parts.objects
+      → bound_in (step_answer step st) ≡ None → QuietStep step
   still_step step time same none = record {
     time = time;
     made = made_same st.parts step.parts i (names i (bound_in (step_answer step st))) (ap length same) (ap (names i) none);
     things = ap (λ (obs : List Object). thing_of (slice_get obs i)) same;
   }
 
-  pub cut_unbound : (c : Option ℕ) (objects : List Object) (left : List Reference) (other : Answer) → bound_in other ≡ None → bound_in (cut_answer c objects left other) ≡ None
+  pub cut_unbound : (c : Option ℕ) (objects : List Object) (left : List Reference) (other : Answer)
+      → bound_in other ≡ None → bound_in (cut_answer c objects left other) ≡ None
   cut_unbound None objects left other h = h
   cut_unbound (Some o) objects left other h = by (eqb (degree o left) 0)
     where
@@ -104,11 +106,13 @@ module _ (s : Script) (i t : ℕ) (st : State) where
   either true x y h k = h
   either false x y h k = k
 
-  used_deal : (used : Option ℕ) (deal : ℕ → Deal) → ((o : ℕ) → QuietDeal (deal o)) → QuietDeal (with_used st.parts used deal)
+  used_deal : (used : Option ℕ) (deal : ℕ → Deal) → ((o : ℕ) → QuietDeal (deal o))
+      → QuietDeal (with_used st.parts used deal)
   used_deal None deal h = quiet_deal
   used_deal (Some o) deal h = h o
 
-  item_deal : (used : Option ℕ) (deal : ℕ → Thing → Deal) → ((j : ℕ) (x : Thing) → QuietDeal (deal j x)) → QuietDeal (with_thing st.parts used deal)
+  item_deal : (used : Option ℕ) (deal : ℕ → Thing → Deal) → ((j : ℕ) (x : Thing) → QuietDeal (deal j x))
+      → QuietDeal (with_thing st.parts used deal)
   item_deal None deal h = quiet_deal
   item_deal (Some j) deal h = by (thing_at st.parts j)
     where
@@ -116,7 +120,8 @@ module _ (s : Script) (i t : ℕ) (st : State) where
       by None = quiet_deal
       by (Some x) = h j x
 
-  filter_deal : (v object : Option ℕ) (deal : Option ℕ → Deal) → ((f : Option ℕ) → QuietDeal (deal f)) → QuietDeal (with_filter st.parts v object deal)
+  filter_deal : (v object : Option ℕ) (deal : Option ℕ → Deal) → ((f : Option ℕ) → QuietDeal (deal f))
+      → QuietDeal (with_filter st.parts v object deal)
   filter_deal None object deal h = h None
   filter_deal (Some v) object deal h = used_deal object (λ o. deal (Some o)) (λ o. h (Some o))
 
@@ -124,7 +129,8 @@ module _ (s : Script) (i t : ℕ) (st : State) where
   plain_unless answers.Skip c h = tt
   plain_unless _ c h = h
 
-  body_deal : (answer : Answer) (b : Option ℕ) (c : Change) → IsPlainChange c → QuietDeal (change_deal st.parts answer b c)
+  body_deal : (answer : Answer) (b : Option ℕ) (c : Change) → IsPlainChange c
+      → QuietDeal (change_deal st.parts answer b c)
   body_deal answer None c h = quiet_deal
   body_deal answer (Some b) c h = (refl, length-objects_after (Some b) c st.parts.objects, keeps_things b c st.parts.objects i h)
 
@@ -181,7 +187,8 @@ module _ (s : Script) (i t : ℕ) (st : State) where
       already : (b c : Bool) → b ≡ true → b ≡ (b || c)
       already b c e = grind arith
 
-  bound_quiet : (k : Holder) (answer : Answer) (origin : Origin) → IsPlainOrigin origin → bound_in answer ≡ None → QuietStep (bind_step k st.parts (record { answer = answer; origin = origin }))
+  bound_quiet : (k : Holder) (answer : Answer) (origin : Origin) → IsPlainOrigin origin → bound_in answer ≡ None
+      → QuietStep (bind_step k st.parts (record { answer = answer; origin = origin }))
   bound_quiet k answer nowhere h none = still_step _ refl (append-nil st.parts.objects) none
   bound_quiet k answer (fresh ob) h none = record {
     time = refl;
@@ -194,7 +201,8 @@ module _ (s : Script) (i t : ℕ) (st : State) where
     things = ap (λ (obs : List Object). thing_of (slice_get obs i)) (append-nil st.parts.objects);
   }
 
-  bound_by : (k : Holder) (x : Statement) (used : List (Option ℕ)) (made : Option Made) → made ≡ None → QuietStep (bind_step k st.parts (bound_if s st.parts x used made))
+  bound_by : (k : Holder) (x : Statement) (used : List (Option ℕ)) (made : Option Made) → made ≡ None
+      → QuietStep (bind_step k st.parts (bound_if s st.parts x used made))
   bound_by k x used None e =
       let a = numbered st.parts.objects (used_at used 0) in
       let b = numbered st.parts.objects (used_at used 1) in
@@ -217,7 +225,8 @@ module _ (s : Script) (i t : ℕ) (st : State) where
   release_quiet k None = still_step _ refl refl refl
   release_quiet k (Some o) = cut_quiet k o (own_reference t k o st.edges)
 
-  statement_quiet : (d : ℕ) (x : Statement) (used : List (Option ℕ)) (ownership : Ownership) → IsOther x → item_made x ≡ None → QuietStep (statement_step s t d st x used ownership)
+  statement_quiet : (d : ℕ) (x : Statement) (used : List (Option ℕ)) (ownership : Ownership) → IsOther x
+      → item_made x ≡ None → QuietStep (statement_step s t d st x used ownership)
   statement_quiet d x used Keeps h none =
       let deal = deal_quiet x used h in
       record {
@@ -230,22 +239,26 @@ module _ (s : Script) (i t : ℕ) (st : State) where
   statement_quiet d x used (Releases v) h none = release_quiet (variable t d v) (first_of used)
 
   -- what a statement says, that writes this action
-  signal_statement : (v b n : ℕ) (used : List (Option ℕ)) (object : Option ℕ) → first_of used ≡ object → timing_in (statement_of s (actions.Signal b n used)) ≡ None
+  signal_statement : (v b n : ℕ) (used : List (Option ℕ)) (object : Option ℕ) → first_of used ≡ object
+      → timing_in (statement_of s (actions.Signal b n used)) ≡ None
       → Tells s i (event t (actions.Signal b n used) (with_thing st.parts object (λ j x. signal_deal st.parts j x.valid x.item)).answer) st.parts (with_thing st.parts object (λ j x. signal_deal st.parts j x.valid x.item)).parts
   signal_statement v b n used None e plain = skipped answers.Skip refl refl
     where
-      skipped : (x : Answer) → is_ok x ≡ false → bound_in x ≡ None → Tells s i (event t (actions.Signal b n used) x) st.parts st.parts
+      skipped : (x : Answer) → is_ok x ≡ false → bound_in x ≡ None
+          → Tells s i (event t (actions.Signal b n used) x) st.parts st.parts
       skipped x bad none = quiet_tells s i (event t (actions.Signal b n used) x) st.parts st.parts
           (record { signal = and_not (names i (first_of used)) (is_ok x) bad; call = refl; make = refl; source = refl; invalidation = refl; timing = ap (timing_if (binds i (event t (actions.Signal b n used) x))) plain })
           refl (made_same st.parts st.parts i (names i (bound_in x)) refl (ap (names i) none)) refl
   signal_statement v b n used (Some j) e plain = by (thing_at st.parts j) refl
     where
-      skipped : (x : Answer) → is_ok x ≡ false → bound_in x ≡ None → Tells s i (event t (actions.Signal b n used) x) st.parts st.parts
+      skipped : (x : Answer) → is_ok x ≡ false → bound_in x ≡ None
+          → Tells s i (event t (actions.Signal b n used) x) st.parts st.parts
       skipped x bad none = quiet_tells s i (event t (actions.Signal b n used) x) st.parts st.parts
           (record { signal = and_not (names i (first_of used)) (is_ok x) bad; call = refl; make = refl; source = refl; invalidation = refl; timing = ap (timing_if (binds i (event t (actions.Signal b n used) x))) plain })
           refl (made_same st.parts st.parts i (names i (bound_in x)) refl (ap (names i) none)) refl
 
-      on_item : (h : ℕ) (info : Option ℕ) (valid : Bool) (item : Item) → thing_at st.parts j ≡ Some (record { handler = h; info = info; valid = valid; item = item })
+      on_item : (h : ℕ) (info : Option ℕ) (valid : Bool) (item : Item)
+          → thing_at st.parts j ≡ Some (record { handler = h; info = info; valid = valid; item = item })
           → Tells s i (event t (actions.Signal b n used) (signal_deal st.parts j valid item).answer) st.parts (signal_deal st.parts j valid item).parts
       on_item h info true (source_item order on) was = signal_tells s i t j st.parts b n used e plain h info order on was
       on_item h info false (source_item order on) was = skipped answers.Invalid refl refl
@@ -254,24 +267,29 @@ module _ (s : Script) (i t : ℕ) (st : State) where
       on_item h info true (observer_item mask repeats order) was = skipped answers.Skip refl refl
       on_item h info false (observer_item mask repeats order) was = skipped answers.Skip refl refl
 
-      by : (x : Option Thing) → thing_at st.parts j ≡ x → Tells s i (event t (actions.Signal b n used) (thing_deal st.parts j (λ j x. signal_deal st.parts j x.valid x.item) x).answer) st.parts (thing_deal st.parts j (λ j x. signal_deal st.parts j x.valid x.item) x).parts
+      by : (x : Option Thing) → thing_at st.parts j ≡ x
+          → Tells s i (event t (actions.Signal b n used) (thing_deal st.parts j (λ j x. signal_deal st.parts j x.valid x.item) x).answer) st.parts (thing_deal st.parts j (λ j x. signal_deal st.parts j x.valid x.item) x).parts
       by None was = skipped answers.Skip refl refl
       by (Some x) was = on_item x.handler x.info x.valid x.item was
 
-  ends_of : (b n j : ℕ) (used : List (Option ℕ)) → first_of used ≡ Some j → timing_in (statement_of s (actions.Invalidate b n used)) ≡ None
+  ends_of : (b n j : ℕ) (used : List (Option ℕ)) → first_of used ≡ Some j
+      → timing_in (statement_of s (actions.Invalidate b n used)) ≡ None
       → (invalidated_in (actions.Invalidate b n used) ≡ Some j) × (signalled_in (actions.Invalidate b n used) ≡ None) × (called_in (actions.Invalidate b n used) ≡ None) × (is_item_form (actions.Invalidate b n used) ≡ false) × (is_source_form (actions.Invalidate b n used) ≡ false) × ((m : ℕ) → time_in m (actions.Invalidate b n used) ≡ m) × (timing_in (statement_of s (actions.Invalidate b n used)) ≡ None)
   ends_of b n j used first plain = (first, refl, refl, refl, refl, (λ m. refl), plain)
 
-  end_statement : (b n : ℕ) (used : List (Option ℕ)) (object : Option ℕ) → first_of used ≡ object → timing_in (statement_of s (actions.Invalidate b n used)) ≡ None
+  end_statement : (b n : ℕ) (used : List (Option ℕ)) (object : Option ℕ) → first_of used ≡ object
+      → timing_in (statement_of s (actions.Invalidate b n used)) ≡ None
       → Tells s i (event t (actions.Invalidate b n used) (with_thing st.parts object (invalidate_deal s st)).answer) st.parts (with_thing st.parts object (invalidate_deal s st)).parts
   end_statement b n used object e plain = by_object object e
     where
-      skipped : (x : Answer) → is_ok x ≡ false → bound_in x ≡ None → Tells s i (event t (actions.Invalidate b n used) x) st.parts st.parts
+      skipped : (x : Answer) → is_ok x ≡ false → bound_in x ≡ None
+          → Tells s i (event t (actions.Invalidate b n used) x) st.parts st.parts
       skipped x bad none = quiet_tells s i (event t (actions.Invalidate b n used) x) st.parts st.parts
           (record { signal = refl; call = refl; make = refl; source = refl; invalidation = and_not (names i (first_of used)) (is_ok x) bad; timing = ap (timing_if (binds i (event t (actions.Invalidate b n used) x))) plain })
           refl (made_same st.parts st.parts i (names i (bound_in x)) refl (ap (names i) none)) refl
 
-      on_item : (j : ℕ) (x : Thing) (valid : Bool) → first_of used ≡ Some j → thing_at st.parts j ≡ Some x → x.valid ≡ valid
+      on_item : (j : ℕ) (x : Thing) (valid : Bool) → first_of used ≡ Some j → thing_at st.parts j ≡ Some x
+          → x.valid ≡ valid
           → Tells s i (event t (actions.Invalidate b n used) (cond valid (leaving (with_item st.parts j false x.item) (present_of (every_place s j st.edges) st.edges)) (answering st.parts answers.Invalid)).answer) st.parts
           (cond valid (leaving (with_item st.parts j false x.item) (present_of (every_place s j st.edges) st.edges)) (answering st.parts answers.Invalid)).parts
       on_item j x true first was valid = ends_tell s i t j st.parts (actions.Invalidate b n used) x (ends_of b n j used first plain) was
@@ -291,7 +309,8 @@ module _ (s : Script) (i t : ℕ) (st : State) where
   abbrev Writes : Action → Statement → Type 0
   Writes a x = statement_of s a ≡ Some x
 
-  pub statement_tells : (d : ℕ) (x : Statement) (site : Site) → Writes (action_of x site) x → StepTells (action_of x site) (statement_step s t d st x site.used (ownership_of x))
+  pub statement_tells : (d : ℕ) (x : Statement) (site : Site) → Writes (action_of x site) x
+      → StepTells (action_of x site) (statement_step s t d st x site.used (ownership_of x))
   statement_tells d (forms.MakeSource v order h info) site e = begins_tell s t st.parts _ h (first_of site.used) (source_item order false) (class_of (source_item order false))
       (record { form = refl; source = refl; unsignalled = refl; uncalled = refl; unended = refl; time = λ m. refl; timing = ap timing_in e; dark = refl; date = refl }) i
   statement_tells d (forms.MakeTimer v first interval h info) site e = begins_tell s t st.parts _ h (first_of site.used) (timer_item first interval (Some first)) (class_of (timer_item first interval (Some first)))

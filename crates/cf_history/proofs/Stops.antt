@@ -63,7 +63,8 @@ module _ (s : Script) (u t : ℕ) (st : State) where
   used_stop None deal h = refl
   used_stop (Some o) deal h = h o
 
-  thing_stop : (used : Option ℕ) (deal : ℕ → Thing → Deal) → ((j : ℕ) (x : Thing) → NoStop (deal j x)) → NoStop (with_thing st.parts used deal)
+  thing_stop : (used : Option ℕ) (deal : ℕ → Thing → Deal) → ((j : ℕ) (x : Thing) → NoStop (deal j x))
+      → NoStop (with_thing st.parts used deal)
   thing_stop None deal h = refl
   thing_stop (Some j) deal h = by (thing_at st.parts j)
     where
@@ -71,7 +72,8 @@ module _ (s : Script) (u t : ℕ) (st : State) where
       by None = refl
       by (Some x) = h j x
 
-  filter_stop : (v object : Option ℕ) (deal : Option ℕ → Deal) → ((f : Option ℕ) → NoStop (deal f)) → NoStop (with_filter st.parts v object deal)
+  filter_stop : (v object : Option ℕ) (deal : Option ℕ → Deal) → ((f : Option ℕ) → NoStop (deal f))
+      → NoStop (with_filter st.parts v object deal)
   filter_stop None object deal h = h None
   filter_stop (Some v) object deal h = used_stop object (λ o. deal (Some o)) (λ o. h (Some o))
 
@@ -118,21 +120,25 @@ module _ (s : Script) (u t : ℕ) (st : State) where
   release_stop k None = refl
   release_stop k (Some o) = refl
 
-  statement_stop : (d : ℕ) (x : Statement) (used : List (Option ℕ)) (ownership : Ownership) → IsOther x → (statement_step s t d st x used ownership).stops ≡ None
+  statement_stop : (d : ℕ) (x : Statement) (used : List (Option ℕ)) (ownership : Ownership) → IsOther x
+      → (statement_step s t d st x used ownership).stops ≡ None
   statement_stop d x used Keeps other = deal_stop x used other
   statement_stop d x used (Binds v) other = refl
   statement_stop d x used (Retains v) other = retain_stop (variable t d v) (first_of used)
   statement_stop d x used (Releases v) other = release_stop (variable t d v) (first_of used)
 
-  stop_says : (w : Option ℕ) → (names u w && is_ok (with_used st.parts w (stop_deal st)).answer) ≡ names u (with_used st.parts w (stop_deal st)).stops
+  stop_says : (w : Option ℕ)
+      → (names u w && is_ok (with_used st.parts w (stop_deal st)).answer) ≡ names u (with_used st.parts w (stop_deal st)).stops
   stop_says None = refl
   stop_says (Some v) = by (has_run (stand_at v st.stands).frames)
     where
-      by : (b : Bool) → (names u (Some v) && is_ok (cond b (record (okay (wake_parts st.parts v)) { stops = Some v }) (answering st.parts answers.Idle)).answer) ≡ names u (cond b (record (okay (wake_parts st.parts v)) { stops = Some v }) (answering st.parts answers.Idle)).stops
+      by : (b : Bool)
+          → (names u (Some v) && is_ok (cond b (record (okay (wake_parts st.parts v)) { stops = Some v }) (answering st.parts answers.Idle)).answer) ≡ names u (cond b (record (okay (wake_parts st.parts v)) { stops = Some v }) (answering st.parts answers.Idle)).stops
       by true = and_yes (eqb v u)
       by false = and_not (eqb v u)
 
-  statement_tells : (d : ℕ) (x : Statement) (site : Site) → statement_of s (action_of x site) ≡ Some x → Tells (action_of x site) (statement_step s t d st x site.used (ownership_of x))
+  statement_tells : (d : ℕ) (x : Statement) (site : Site) → statement_of s (action_of x site) ≡ Some x
+      → Tells (action_of x site) (statement_step s t d st x site.used (ownership_of x))
   statement_tells d (forms.Stop Own) site e = ap (λ (y : Option Statement). names u (stopped_by t y) && is_ok (with_used st.parts (Some t) (stop_deal st)).answer) e ∙ stop_says (Some t)
   statement_tells d (forms.Stop (Named w)) site e = ap (λ (y : Option Statement). names u (stopped_by t y) && is_ok (with_used st.parts w (stop_deal st)).answer) e ∙ stop_says w
   statement_tells d x site e = quiet (action_of x site) (statement_step s t d st x site.used (ownership_of x)) (ap (stopped_by t) e) (statement_stop d x site.used (ownership_of x) tt)
@@ -183,13 +189,15 @@ module _ (s : Script) (u t : ℕ) (st : State) where
   abbrev Acted : List Frame → Demand → Type 0
   Acted fs d = Tells (action_in s (facts_of st) t fs d) (step_of s t st fs d)
 
-  line_tells : (f : Frame) (fs : List Frame) (x : BlockLine) → slice_get (frame_lines s f.kind f.block) f.number ≡ Some x → Acted (f ∷ fs) (does x)
+  line_tells : (f : Frame) (fs : List Frame) (x : BlockLine)
+      → slice_get (frame_lines s f.kind f.block) f.number ≡ Some x → Acted (f ∷ fs) (does x)
   line_tells f fs (begins v) e = quiet actions.Done (step_of s t st (f ∷ fs) (does (begins v))) refl refl
   line_tells f fs (claims k v) e = quiet (action_in s (facts_of st) t (f ∷ fs) (does (claims k v))) (step_of s t st (f ∷ fs) (does (claims k v))) refl (claim_stop (parcel t k) (variable t (length fs) v) (first_held (parcel t k) st.edges))
   line_tells f fs (packs w k v) e = quiet (action_in s (facts_of st) t (f ∷ fs) (does (packs w k v))) (step_of s t st (f ∷ fs) (does (packs w k v))) refl (pack_stop (packed_holder t (length fs) v) (parcel w k) (object_at f.bindings v))
   line_tells f fs (says x) e = statement_tells (length fs) x (site_in s f (says x)) (line_written s f x e)
 
-  frame_tells : (P : Callee → Type 0) (f : Frame) (fs : List Frame) (d : Demand) → Asks P s (facts_of st) t f d → Acted (f ∷ fs) d
+  frame_tells : (P : Callee → Type 0) (f : Frame) (fs : List Frame) (d : Demand) → Asks P s (facts_of st) t f d
+      → Acted (f ∷ fs) d
   frame_tells P f fs _ (asks_call k c e inside) = quiet (action_in s (facts_of st) t (f ∷ fs) (calls k c)) (step_of s t st (f ∷ fs) (calls k c)) refl refl
   frame_tells P f fs _ (asks_line x e) = line_tells f fs x e
   frame_tells P f fs _ (asks_end e) = quiet actions.Done (step_of s t st (f ∷ fs) ends) refl refl
@@ -202,6 +210,7 @@ module _ (s : Script) (u t : ℕ) (st : State) where
   work_tells fs work _ (first_spends j h) = quiet (action_in s (facts_of st) t fs (spends j)) (step_of s t st fs (spends j)) refl (spend_stop j (thing_at st.parts j))
   work_tells fs work _ (first_drops b k o e h) = quiet (action_in s (facts_of st) t fs (drops b k o)) (step_of s t st fs (drops b k o)) refl refl
 
-  pub stop_tells : (P : Callee → Type 0) (stand : Stand) (d : Demand) → StandAsks P s (facts_of st) t stand d → Acted stand.frames d
+  pub stop_tells : (P : Callee → Type 0) (stand : Stand) (d : Demand) → StandAsks P s (facts_of st) t stand d
+      → Acted stand.frames d
   stop_tells P stand d (asks_work _ view) = work_tells stand.frames stand.work d view
   stop_tells P stand d (asks_frame _ f fs same view) = subst (λ (gs : List Frame). Acted gs d) (sym same) (frame_tells P f fs d view)

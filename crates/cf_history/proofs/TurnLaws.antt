@@ -56,7 +56,8 @@ abbrev AllRows : (Row → Type 0) → List Row → Type 0
 AllRows P [] = Unit {0}
 AllRows P (r ∷ rs) = P r × AllRows P rs
 
-found_row : (P : Row → Type 0) (test : Row → Bool) (rs : List Row) (r : Row) → AllRows P rs → find test rs ≡ Some r → P r
+found_row : (P : Row → Type 0) (test : Row → Bool) (rs : List Row) (r : Row) → AllRows P rs → find test rs ≡ Some r
+    → P r
 found_row P test [] r h e = absurd cc
 found_row P test (x ∷ rs) r h e = by (test x) e (found_row P test rs r h.1)
   where
@@ -134,12 +135,14 @@ all_rows = (
 next_goes : (f : TurnFacts) (q p : Phase) → next_of f q ≡ Some p → EndsOrHasNext p
 next_goes f q p e = by (find (λ r. same_phase q r.phase) rows) refl e
   where
-    by : (found : Option Row) → find (λ r. same_phase q r.phase) rows ≡ found → option_map (λ r. r.next f) found ≡ Some p → EndsOrHasNext p
+    by : (found : Option Row) → find (λ r. same_phase q r.phase) rows ≡ found
+        → option_map (λ r. r.next f) found ≡ Some p → EndsOrHasNext p
     by None w e = absurd cc
     by (Some r) w e = let same : r.next f ≡ p = cc in subst EndsOrHasNext same (found_row RowGoes (λ r. same_phase q r.phase) rows r all_rows w f)
 
 -- a phase that is due ends the run or another one comes after it
-due_goes : (facts : Facts) (t : ℕ) (r : Turn) (last : Option Phase) (p : Phase) → phase_due facts t r last ≡ Some p → EndsOrHasNext p
+due_goes : (facts : Facts) (t : ℕ) (r : Turn) (last : Option Phase) (p : Phase) → phase_due facts t r last ≡ Some p
+    → EndsOrHasNext p
 due_goes facts t r None p e = let same : phases.Note 1 ≡ p = cc in subst EndsOrHasNext same (inr note_1)
 due_goes facts t r (Some phases.Test) p e =
     let same : cond (is_some r.result) (phases.Note 128) (phases.Note 2) ≡ p = cc in
@@ -186,10 +189,12 @@ module _ (s : Script) (es : List Entry) (st : State) (h : Holds s es st) (t : �
   abbrev facts : Facts
   facts = facts_of st
 
-  runs_at : (f : Frame) (fs : List Frame) (r : Turn) → frames_at t st ≡ f ∷ fs → f.kind ≡ of_run r → runs_in (frames_at t st) ≡ r ∷ runs_in fs
+  runs_at : (f : Frame) (fs : List Frame) (r : Turn) → frames_at t st ≡ f ∷ fs → f.kind ≡ of_run r
+      → runs_in (frames_at t st) ≡ r ∷ runs_in fs
   runs_at f fs r same kind = ap runs_in same ∙ ap (λ (k : Kind). run_in k ++ runs_in fs) kind
 
-  phase_answers : (r : Turn) (q : Phase) → (q ≡ phases.Ran → ⊥) → AnswersPhase (turn_facts facts t r) r.result q (step_answer (phase_step st t q (of_run r)) st)
+  phase_answers : (r : Turn) (q : Phase) → (q ≡ phases.Ran → ⊥)
+      → AnswersPhase (turn_facts facts t r) r.result q (step_answer (phase_step st t q (of_run r)) st)
   phase_answers r phases.Ran k = absurd (k refl)
   phase_answers r phases.Test k = result_same (test_result facts t r)
   phase_answers r (phases.Note a) k = tt
@@ -197,13 +202,15 @@ module _ (s : Script) (es : List Entry) (st : State) (h : Holds s es st) (t : �
   phase_answers r phases.Timers k = tt
   phase_answers r phases.Sleep k = tt
 
-  by_line : (f : Frame) (fs : List Frame) (x : BlockLine) → phase_in (action_in s facts t (f ∷ fs) (does x)) ≡ Some p → ⊥
+  by_line : (f : Frame) (fs : List Frame) (x : BlockLine) → phase_in (action_in s facts t (f ∷ fs) (does x)) ≡ Some p
+      → ⊥
   by_line f fs (begins v) is = no_phase p is
   by_line f fs (claims k v) is = no_phase p is
   by_line f fs (packs u k v) is = no_phase p is
   by_line f fs (says x) is = no_phase p (sym (no_phase_said x (site_in s f (says x))) ∙ is)
 
-  by_frame : (f : Frame) (fs : List Frame) (d : Demand) → frames_at t st ≡ f ∷ fs → Asks (IsInRole st.parts) s facts t f d → phase_in (action_in s facts t (f ∷ fs) d) ≡ Some p
+  by_frame : (f : Frame) (fs : List Frame) (d : Demand) → frames_at t st ≡ f ∷ fs
+      → Asks (IsInRole st.parts) s facts t f d → phase_in (action_in s facts t (f ∷ fs) d) ≡ Some p
       → PhaseOf s st t p (step_answer (step_of s t st (f ∷ fs) d) st)
   by_frame f fs _ same (asks_call k c e inside) is = absurd (no_phase p is)
   by_frame f fs _ same (asks_line x e) is = absurd (by_line f fs x is)
@@ -228,17 +235,21 @@ module _ (s : Script) (es : List Entry) (st : State) (h : Holds s es st) (t : �
         answer = subst (λ (z : Kind). step_answer (close_step st z) st ≡ answer_to_test r.result) (sym e) (result_same r.result);
       })
 
-  by_work : (fs : List Frame) (work : List Work) (d : Demand) → WorkView facts work d → phase_in (action_in s facts t fs d) ≡ Some p → ⊥
+  by_work : (fs : List Frame) (work : List Work) (d : Demand) → WorkView facts work d
+      → phase_in (action_in s facts t fs d) ≡ Some p → ⊥
   by_work fs work _ (first_owes o q) is = no_phase p is
   by_work fs work _ (first_spends j q) is = no_phase p is
   by_work fs work _ (first_drops b k o e q) is = no_phase p is
 
-  by_stand : (d : Demand) → StandAsks (IsInRole st.parts) s facts t (stand_at t st.stands) d → phase_in (action_in s facts t (frames_at t st) d) ≡ Some p → PhaseOf s st t p (step_answer (step_of s t st (frames_at t st) d) st)
+  by_stand : (d : Demand) → StandAsks (IsInRole st.parts) s facts t (stand_at t st.stands) d
+      → phase_in (action_in s facts t (frames_at t st) d) ≡ Some p
+      → PhaseOf s st t p (step_answer (step_of s t st (frames_at t st) d) st)
   by_stand d (asks_work _ view) is = absurd (by_work (frames_at t st) (stand_at t st.stands).work d view is)
   by_stand d (asks_frame _ f fs same view) is =
       subst (λ (gs : List Frame). PhaseOf s st t p (step_answer (step_of s t st gs d) st)) (sym same) (by_frame f fs d same view (subst (λ (gs : List Frame). phase_in (action_in s facts t gs d) ≡ Some p) same is))
 
-  phase_of : (a : Action) (x : Answer) → ActionView a → IsLegalAs s st (event t a x) a → phase_in a ≡ Some p → PhaseOf s st t p x
+  phase_of : (a : Action) (x : Answer) → ActionView a → IsLegalAs s st (event t a x) a → phase_in a ≡ Some p
+      → PhaseOf s st t p x
   phase_of _ x (is_tick n) legal is = absurd (no_phase p is)
   phase_of _ x is_stall legal is = absurd (no_phase p is)
   phase_of a x (is_step _ step) legal is =
@@ -256,7 +267,8 @@ abbrev pub AllRowed : List Turn → Type 0
 AllRowed [] = Unit {0}
 AllRowed (r ∷ rs) = IsRowed r × AllRowed rs
 
-innermost_rowed : (g : Turn → Turn) (rs : List Turn) → ((r : Turn) → IsRowed r → IsRowed (g r)) → AllRowed rs → AllRowed (innermost g rs)
+innermost_rowed : (g : Turn → Turn) (rs : List Turn) → ((r : Turn) → IsRowed r → IsRowed (g r)) → AllRowed rs
+    → AllRowed (innermost g rs)
 innermost_rowed g [] h k = tt
 innermost_rowed g (r ∷ rs) h k = (h r k.0, k.1)
 
@@ -289,7 +301,8 @@ in_phase_rowed phases.Timers x r h = λ q e. subst HasNext (some_phase phases.Ti
 in_phase_rowed phases.Sleep x r h = λ q e. subst HasNext (some_phase phases.Sleep q e) h
 in_phase_rowed phases.Ran x r h = λ q e. subst HasNext (some_phase phases.Ran q e) h
 
-with_rowed : (es : List Entry) (a : Action) (x : Answer) (rs : List Turn) → ((p : Phase) → phase_in a ≡ Some p → EndsOrHasNext p) → AllRowed rs → AllRowed (runs_with es a x rs)
+with_rowed : (es : List Entry) (a : Action) (x : Answer) (rs : List Turn)
+    → ((p : Phase) → phase_in a ≡ Some p → EndsOrHasNext p) → AllRowed rs → AllRowed (runs_with es a x rs)
 with_rowed es (actions.Note n) x rs h k = innermost_rowed (in_phase (phases.Note n) x) rs (λ r q. in_phase_rowed (phases.Note n) x r (elim (h (phases.Note n) refl) [ inl e ↦ absurd cc | inr has ↦ has ])) k
 with_rowed es actions.Sources x rs h k = innermost_rowed (in_phase phases.Sources x) rs (λ r q. in_phase_rowed phases.Sources x r sources) k
 with_rowed es actions.Timers x rs h k = innermost_rowed (in_phase phases.Timers x) rs (λ r q. in_phase_rowed phases.Timers x r timers) k
@@ -300,13 +313,15 @@ with_rowed es (actions.Call c None info) x rs h k = k
 with_rowed es (actions.Call c (Some i) info) x rs h k = either_rowed (is_source_after es i) (innermost with_source rs) rs (innermost_rowed with_source rs (λ r q. q) k) k
 with_rowed es a x rs h k = k
 
-entry_rowed : (s : Script) (u : ℕ) (es : List Entry) (e : Entry) (rs : List Turn) → ((p : Phase) → phase_in e.action ≡ Some p → EndsOrHasNext p) → AllRowed rs → AllRowed (runs_after s u es e rs)
+entry_rowed : (s : Script) (u : ℕ) (es : List Entry) (e : Entry) (rs : List Turn)
+    → ((p : Phase) → phase_in e.action ≡ Some p → EndsOrHasNext p) → AllRowed rs → AllRowed (runs_after s u es e rs)
 entry_rowed s u es e rs h k =
     let own = either_rowed (eqb e.thread u) (runs_own s es e rs) rs (rowed_more (begun (time_after es) (statement_of s e.action) e.answer) (runs_with es e.action e.answer rs) (begun_rowed (time_after es) (statement_of s e.action) e.answer) (with_rowed es e.action e.answer rs h k)) k in
     let before = cond (eqb e.thread u) (runs_own s es e rs) rs in
     either_rowed (stops s u e) (innermost with_stop before) before (innermost_rowed with_stop before (λ r q. q) own) own
 
-phase_goes : (s : Script) (es : List Entry) (st : State) (h : Holds s es st) (e : Entry) → IsLegalEntry s st e → (p : Phase) → phase_in e.action ≡ Some p → EndsOrHasNext p
+phase_goes : (s : Script) (es : List Entry) (st : State) (h : Holds s es st) (e : Entry) → IsLegalEntry s st e
+    → (p : Phase) → phase_in e.action ≡ Some p → EndsOrHasNext p
 phase_goes s es st h e legal p is =
     let of = phase_of s es st h e.thread p e.action e.answer (action_view e.action) legal is in
     elim of.due [
@@ -314,7 +329,8 @@ phase_goes s es st h e legal p is =
       | inr ends ↦ inl ends.0
     ]
 
-rowed_from : (s : Script) (es : List Entry) (st : State) (more : List Entry) → Holds s es st → ((u : ℕ) → AllRowed (open_runs s es u)) → IsLegalPart s st more → (u : ℕ) → AllRowed (open_runs s (es ++ more) u)
+rowed_from : (s : Script) (es : List Entry) (st : State) (more : List Entry) → Holds s es st
+    → ((u : ℕ) → AllRowed (open_runs s es u)) → IsLegalPart s st more → (u : ℕ) → AllRowed (open_runs s (es ++ more) u)
 rowed_from s es st [] h k legal u = rw (append-nil es) (k u)
 rowed_from s es st (e ∷ more) h k legal u =
     let next : (w : ℕ) → AllRowed (open_runs s (es ++ e ∷ []) w) = λ w. subst AllRowed (sym (runs_more s w [] [] es e)) (entry_rowed s w es e (open_runs s es w) (phase_goes s es st h e legal.0) (k w)) in
@@ -322,11 +338,13 @@ rowed_from s es st (e ∷ more) h k legal u =
 
 -- ---- the law
 
-facts_told : (s : Script) (es : List Entry) (t : ℕ) (r : Turn) → Holds s es (After s es) → turn_facts (facts_of (After s es)) t r ≡ turn_facts_after s es t r
+facts_told : (s : Script) (es : List Entry) (t : ℕ) (r : Turn) → Holds s es (After s es)
+    → turn_facts (facts_of (After s es)) t r ≡ turn_facts_after s es t r
 facts_told s es t r h =
     ap (λ (n : ℕ). record { handled = r.handled; once = r.once; past = has_come r.deadline n; stopped = r.stopped; empty = is_empty_mode (After s es) t r.mode }) h.agrees.time
 
-next_told : (facts : Facts) (t : ℕ) (r : Turn) (last : Option Phase) (p : Phase) → ((q : Phase) → last ≡ Some q → HasNext q)
+next_told : (facts : Facts) (t : ℕ) (r : Turn) (last : Option Phase) (p : Phase)
+    → ((q : Phase) → last ≡ Some q → HasNext q)
     → (phase_due facts t r last ≡ Some p) ⊎ ((p ≡ phases.Ran) × (phase_due facts t r last ≡ None)) → IsNextPhase (turn_facts facts t r) r.result last p
 next_told facts t r None p rowed due = elim due [ inl e ↦ sym (some_phase (phases.Note 1) p e) | inr e ↦ absurd (let none = e.1 in absurd cc) ]
 next_told facts t r (Some phases.Test) p rowed due = elim due [ inl e ↦ sym (some_phase (cond (is_some r.result) (phases.Note 128) (phases.Note 2)) p e) | inr e ↦ absurd (let none = e.1 in absurd cc) ]

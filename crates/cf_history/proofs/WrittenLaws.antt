@@ -49,20 +49,24 @@ packs_none t (b ∷ bs) = no_statements_more (packs_from t 0 b.uses) (packs_for 
 
 -- ---- statements among lines
 
-same_statement : (x y : Statement) → ◌≡◌ {A = Option BlockLine} (Some (says y)) (Some (says x)) → ◌≡◌ {A = Option Statement} (Some y) (Some x)
+same_statement : (x y : Statement) → ◌≡◌ {A = Option BlockLine} (Some (says y)) (Some (says x))
+    → ◌≡◌ {A = Option Statement} (Some y) (Some x)
 same_statement x y e = let same : y ≡ x = cc in ap (λ (z : Statement). Some z) same
 
-among_says : (xs : List Statement) (ys : List BlockLine) (n : ℕ) (x : Statement) → NoStatements ys → slice_get (map says xs ++ ys) n ≡ Some (says x) → slice_get xs n ≡ Some x
+among_says : (xs : List Statement) (ys : List BlockLine) (n : ℕ) (x : Statement) → NoStatements ys
+    → slice_get (map says xs ++ ys) n ≡ Some (says x) → slice_get xs n ≡ Some x
 among_says [] ys n x h e = absurd (none_said ys n x h e)
 among_says (y ∷ xs) ys zero x h e = same_statement x y e
 among_says (y ∷ xs) ys (suc n) x h e = among_says xs ys n x h e
 
-in_says : (xs : List Statement) (n : ℕ) (x : Statement) → slice_get (map says xs) n ≡ Some (says x) → slice_get xs n ≡ Some x
+in_says : (xs : List Statement) (n : ℕ) (x : Statement) → slice_get (map says xs) n ≡ Some (says x)
+    → slice_get xs n ≡ Some x
 in_says [] n x e = absurd cc
 in_says (y ∷ xs) zero x e = same_statement x y e
 in_says (y ∷ xs) (suc n) x e = in_says xs n x e
 
-past_claims : (k : ℕ) (us : List Given) (ys : List BlockLine) (n : ℕ) (x : Statement) → slice_get (claims_from k us ++ ys) n ≡ Some (says x) → slice_get ys (n - length us) ≡ Some (says x)
+past_claims : (k : ℕ) (us : List Given) (ys : List BlockLine) (n : ℕ) (x : Statement)
+    → slice_get (claims_from k us ++ ys) n ≡ Some (says x) → slice_get ys (n - length us) ≡ Some (says x)
 past_claims k [] ys n x e = let same : n - 0 ≡ n = omega arith in rw same e
 past_claims k (u ∷ us) ys zero x e = absurd cc
 past_claims k (u ∷ us) ys (suc n) x e = let same : suc n - suc (length us) ≡ n - length us = omega arith in rw same (past_claims (k + 1) us ys n x e)
@@ -78,7 +82,8 @@ block_statement s (suc b) n x e =
     let block = thread_block s (suc b) in
     by (ltb (suc b) s.thread_count) (in_says (statements_in block) (n - length (uses_in block)) x (past_claims 0 (uses_in block) (map says (statements_in block)) n x e))
   where
-    by : (there : Bool) → slice_get (statements_in (cond there (slice_get s.blocks (suc b)) None)) (n - length (uses_in (thread_block s (suc b)))) ≡ Some x
+    by : (there : Bool)
+        → slice_get (statements_in (cond there (slice_get s.blocks (suc b)) None)) (n - length (uses_in (thread_block s (suc b)))) ≡ Some x
         → slice_get (statements_in (slice_get s.blocks (suc b))) (n - length (uses_in (thread_block s (suc b)))) ≡ Some x
     by true h = h
     by false h = absurd cc
@@ -88,7 +93,8 @@ handler_statement : (s : Script) (h n : ℕ) (x : Statement) → slice_get (hand
 handler_statement s h zero x e = absurd cc
 handler_statement s h (suc n) x e = let same : suc n - 1 ≡ n = omega arith in rw same (by (handler_block s h) (in_says (statements_in (block_of_handler s h)) n x e))
   where
-    by : (b : Option ℕ) → slice_get (statements_in (option_and_then (λ b. slice_get s.blocks b) b)) n ≡ Some x → slice_get (statements_in (slice_get s.blocks (number_or b))) n ≡ Some x
+    by : (b : Option ℕ) → slice_get (statements_in (option_and_then (λ b. slice_get s.blocks b) b)) n ≡ Some x
+        → slice_get (statements_in (slice_get s.blocks (number_or b))) n ≡ Some x
     by None e = absurd cc
     by (Some b) e = e
 
@@ -99,5 +105,7 @@ frame_statement s (of_handler k) h n x e = handler_statement s h n x e
 frame_statement s (of_run r) b n x e = absurd cc
 
 -- what a frame says is what its action writes
-pub line_written : (s : Script) (f : Frame) (x : Statement) → slice_get (frame_lines s f.kind f.block) f.number ≡ Some (says x) → statement_of s (action_of x (site_in s f (says x))) ≡ Some x
+pub line_written : (s : Script) (f : Frame) (x : Statement)
+    → slice_get (frame_lines s f.kind f.block) f.number ≡ Some (says x)
+    → statement_of s (action_of x (site_in s f (says x))) ≡ Some x
 line_written s f x e = ap (statement_if s) (site_action x (site_in s f (says x))) ∙ frame_statement s f.kind f.block f.number x e

@@ -45,11 +45,13 @@ next_is s st t a e = by (can_go st t) e
     some_is : (b : Action) → ◌≡◌ {A = Option Action} (Some b) (Some a) → b ≡ a
     some_is b e = cc
 
-    demand_is : (d : Option Demand) → demanded s st t ≡ d → action_if s (facts_of st) t (frames_at t st) d ≡ Some a → Acts s st t a
+    demand_is : (d : Option Demand) → demanded s st t ≡ d → action_if s (facts_of st) t (frames_at t st) d ≡ Some a
+        → Acts s st t a
     demand_is None q e = absurd cc
     demand_is (Some d) q e = record { demand = d; demands = q; action = some_is (action_in s (facts_of st) t (frames_at t st) d) e }
 
-    by : (b : Bool) → cond b (action_if s (facts_of st) t (frames_at t st) (demanded s st t)) None ≡ Some a → Acts s st t a
+    by : (b : Bool) → cond b (action_if s (facts_of st) t (frames_at t st) (demanded s st t)) None ≡ Some a
+        → Acts s st t a
     by true e = demand_is (demanded s st t) refl e
     by false e = absurd cc
 
@@ -59,21 +61,25 @@ no_skip_object : (o : ℕ) → answers.Object o ≡ answers.Skip → ⊥
 no_skip_object o e = cc
 
 -- the objects of a statement's action are those of its step
-pub site_used : (s : Script) (fs : List Frame) (x : BlockLine) → (site_in s (top_frame fs) x).used ≡ used_objects (bindings_of fs) x
+pub site_used : (s : Script) (fs : List Frame) (x : BlockLine)
+    → (site_in s (top_frame fs) x).used ≡ used_objects (bindings_of fs) x
 site_used s [] x = refl
 site_used s (f ∷ fs) x = refl
 
 module _ (s : Script) (t d : ℕ) (st : State) (x : Statement) (used : List (Option ℕ)) (owners : List Owner) (site : Site) (same : site.used ≡ used) where
-  pub uses_live : (answer : Answer) → (answer ≡ answers.Skip → ⊥) → MayUseAll st t owners (uses_of (action_of x site) answer) → LiveBy st (ownership_of x) used
+  pub uses_live : (answer : Answer) → (answer ≡ answers.Skip → ⊥)
+      → MayUseAll st t owners (uses_of (action_of x site) answer) → LiveBy st (ownership_of x) used
   uses_live answer unskipped h =
       subst (LiveBy st (ownership_of x)) same (statement_live st t owners x site (subst (MayUseAll st t owners) (not_skipped (action_of x site) answer unskipped) h))
 
-  live_for : (ownership : Ownership) → ((answer : Answer) → (answer ≡ answers.Skip → ⊥) → MayUseAll st t owners (uses_of (action_of x site) answer) → LiveBy st ownership used)
+  live_for : (ownership : Ownership)
+      → ((answer : Answer) → (answer ≡ answers.Skip → ⊥) → MayUseAll st t owners (uses_of (action_of x site) answer) → LiveBy st ownership used)
       → MayUseAll st t owners (uses_of (action_of x site) (step_answer (statement_step s t d st x used ownership) st)) → LiveFor st s t x used ownership
   live_for Keeps live h = λ unskipped. live (deal_of s t st x used).answer unskipped h
   live_for (Binds v) live h = λ m e o first. live (step_answer (statement_step s t d st x used (Binds v)) st) (made_answers m e) h 0 o first
     where
-      made_answers : (m : Made) → item_made x ≡ Some m → step_answer (statement_step s t d st x used (Binds v)) st ≡ answers.Skip → ⊥
+      made_answers : (m : Made) → item_made x ≡ Some m
+          → step_answer (statement_step s t d st x used (Binds v)) st ≡ answers.Skip → ⊥
       made_answers m e = rw e (λ q. no_skip_object _ q)
   live_for (Retains v) live h = λ o first. by (first_of used) o first refl h
     where
@@ -83,7 +89,9 @@ module _ (s : Script) (t d : ℕ) (st : State) (x : Statement) (used : List (Opt
       by (Some p) o e q h = live answers.Ok (λ z. absurd cc) h 0 o (q ∙ e)
   live_for (Releases v) live h = tt
 
-  pub statement_step_fits : IsSteady st → MayUseAll st t owners (uses_of (action_of x site) (step_answer (statement_step s t d st x used (ownership_of x)) st)) → StepFits t st (statement_step s t d st x used (ownership_of x))
+  pub statement_step_fits : IsSteady st
+      → MayUseAll st t owners (uses_of (action_of x site) (step_answer (statement_step s t d st x used (ownership_of x)) st))
+      → StepFits t st (statement_step s t d st x used (ownership_of x))
   statement_step_fits h uses = statement_fits s t d st x used (ownership_of x) h (live_for (ownership_of x) uses_live uses)
 
 -- ---- calls
@@ -94,13 +102,15 @@ call_never_skips as_source a e = cc
 call_never_skips as_timer a e = cc
 call_never_skips as_receiver a e = cc
 
-call_uses_live : (st : State) (t : ℕ) (owners : List Owner) (h : ℕ) (item info : Option ℕ) → MayUseAll st t owners (action_uses (actions.Call h item info))
+call_uses_live : (st : State) (t : ℕ) (owners : List Owner) (h : ℕ) (item info : Option ℕ)
+    → MayUseAll st t owners (action_uses (actions.Call h item info))
     → ((o : ℕ) → info ≡ Some o → IsLive st o) × ((o : ℕ) → item ≡ Some o → IsLive st o)
 call_uses_live st t owners h None info uses = (if_live st t owners knows (known_live st t owners) info uses, λ o e. absurd cc)
 call_uses_live st t owners h (Some i) info uses =
     (if_live st t owners reaches (reached_live st t owners) info uses.1, λ o e. let same : i ≡ o = cc in subst (IsLive st) same (reached_live st t owners i uses.0))
 
-called_fits : (t d : ℕ) (st : State) (kind : Kind) (k : Callee) (c : Callout) (owners : List Owner) → MayUseAll st t owners (uses_of (actions.Call c.handler (item_of k) c.info) (call_answer k.role (activity kind)))
+called_fits : (t d : ℕ) (st : State) (kind : Kind) (k : Callee) (c : Callout) (owners : List Owner)
+    → MayUseAll st t owners (uses_of (actions.Call c.handler (item_of k) c.info) (call_answer k.role (activity kind)))
     → StepFits t st (call_step t d st kind k c)
 called_fits t d st kind k c owners h =
     let uses = subst (MayUseAll st t owners) (not_skipped (actions.Call c.handler (item_of k) c.info) (call_answer k.role (activity kind)) (call_never_skips k.role (activity kind))) h in

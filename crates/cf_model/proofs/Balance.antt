@@ -71,10 +71,12 @@ moved_same : (o : ℕ) (ms : List Move) → won_by_moves (leading_to o) ms ≡ l
 moved_same o [] = refl
 moved_same o (m ∷ ms) = omega (arith, moved_same o ms)
 
-pub degree-grown : (o : ℕ) (ins : List Reference) (ms : List Move) (es : List Reference) → IsThere (grows ins ms) es → degree o (run (operations_of (grows ins ms)) es) ≡ degree o es + degree o ins
+pub degree-grown : (o : ℕ) (ins : List Reference) (ms : List Move) (es : List Reference) → IsThere (grows ins ms) es
+    → degree o (run (operations_of (grows ins ms)) es) ≡ degree o es + degree o ins
 degree-grown o ins ms es can = omega (arith, weigh-flow (leading_to o) (grows ins ms) es can, moved_same o ms)
 
-pub degree-shrunk : (o : ℕ) (r : Reference) (es : List Reference) → IsThere (shrinks r) es → degree o (run (operations_of (shrinks r)) es) + counted (eqb r.object o) ≡ degree o es
+pub degree-shrunk : (o : ℕ) (r : Reference) (es : List Reference) → IsThere (shrinks r) es
+    → degree o (run (operations_of (shrinks r)) es) + counted (eqb r.object o) ≡ degree o es
 degree-shrunk o r es can = omega (arith, weigh-flow (leading_to o) (shrinks r) es can)
 
 -- what enters leads to live objects, or to the new one, to which it does lead
@@ -110,7 +112,8 @@ module _ (finalised : List ℕ) (es : List Reference) (made size : ℕ) (ins : L
   pub adds_balance : (o : ℕ) → Balances finalised after size o
   adds_balance o = elim (cases_lt 0 (degree o ins)) [ inl some ↦ some_added o some | inr none ↦ none_added o (omega (arith, none)) ]
 
-cuts_last : (o : ℕ) (finalised : List ℕ) (left : List Reference) (made : ℕ) (b : Bool) → (degree o left == 0) ≡ b → times o finalised ≡ 0 → o < made → Balances (cond b (o ∷ []) [] ++ finalised) left made o
+cuts_last : (o : ℕ) (finalised : List ℕ) (left : List Reference) (made : ℕ) (b : Bool) → (degree o left == 0) ≡ b
+    → times o finalised ≡ 0 → o < made → Balances (cond b (o ∷ []) [] ++ finalised) left made o
 cuts_last o finalised left made true e live is =
     let none = none_if (degree o left) (eqb-true (degree o left) 0 e) in
     omega (arith, none, live, made_one o made is, ap counted (eq-eqb o o refl))
@@ -118,11 +121,14 @@ cuts_last o finalised left made false e live is =
     let some = one_if (degree o left) (grind (arith, nat_tests)) in
     omega (arith, some, live, made_one o made is)
 
-times_other : (o q : ℕ) (b : Bool) (finalised : List ℕ) → (o ≡ q → ⊥) → times q (cond b (o ∷ []) [] ++ finalised) ≡ times q finalised
+times_other : (o q : ℕ) (b : Bool) (finalised : List ℕ) → (o ≡ q → ⊥)
+    → times q (cond b (o ∷ []) [] ++ finalised) ≡ times q finalised
 times_other o q true finalised h = omega (arith, counted_no o q h)
 times_other o q false finalised h = refl
 
-cut_balance : (r : Reference) (finalised : List ℕ) (es : List Reference) (made q : ℕ) → IsThere (shrinks r) es → times r.object finalised ≡ 0 → r.object < made → Balances finalised es made q → Balances (finals_of (Some r.object) (run (operations_of (shrinks r)) es) ++ finalised) (run (operations_of (shrinks r)) es) made q
+cut_balance : (r : Reference) (finalised : List ℕ) (es : List Reference) (made q : ℕ) → IsThere (shrinks r) es
+    → times r.object finalised ≡ 0 → r.object < made → Balances finalised es made q
+    → Balances (finals_of (Some r.object) (run (operations_of (shrinks r)) es) ++ finalised) (run (operations_of (shrinks r)) es) made q
 cut_balance r finalised es made q can live is h =
     let o = r.object in
     let left = run (operations_of (shrinks r)) es in
@@ -138,12 +144,16 @@ abbrev pub FlowFits : State → Parts → Flow → Type 0
 FlowFits st p (grows ins ms) = Adds st.parts.finalised (length st.parts.objects) (length p.objects) ins
 FlowFits st p (shrinks r) = (length p.objects ≡ length st.parts.objects)
 
-flow_balance : (st : State) (p : Parts) (fl : Flow) → p.finalised ≡ st.parts.finalised → IsThere fl st.edges → FlowFits st p fl → IsBalanced st → (o : ℕ) → Balances (finals_of (cut_of fl) (run (operations_of fl) st.edges) ++ p.finalised) (run (operations_of fl) st.edges) (length p.objects) o
+flow_balance : (st : State) (p : Parts) (fl : Flow) → p.finalised ≡ st.parts.finalised → IsThere fl st.edges
+    → FlowFits st p fl → IsBalanced st → (o : ℕ)
+    → Balances (finals_of (cut_of fl) (run (operations_of fl) st.edges) ++ p.finalised) (run (operations_of fl) st.edges) (length p.objects) o
 flow_balance st p (grows ins ms) same can fits h o = rw same (adds_balance st.parts.finalised st.edges (length st.parts.objects) (length p.objects) ins ms can fits h o)
 flow_balance st p (shrinks r) same can fits h o =
     let here : 0 < weigh (one r) st.edges = omega (arith, can r, ap counted (same-refl r)) in
     let live = live_there st r h here in
     rw (same, fits) (cut_balance r st.parts.finalised st.edges (length st.parts.objects) o can live.0 live.1 (h o))
 
-pub step_balance : (t : ℕ) (d : Demand) (st : State) (step : Step) → step.parts.finalised ≡ st.parts.finalised → IsThere step.flow st.edges → FlowFits st step.parts step.flow → IsBalanced st → IsBalanced (state_after t d step st)
+pub step_balance : (t : ℕ) (d : Demand) (st : State) (step : Step) → step.parts.finalised ≡ st.parts.finalised
+    → IsThere step.flow st.edges → FlowFits st step.parts step.flow → IsBalanced st
+    → IsBalanced (state_after t d step st)
 step_balance t d st step same can fits h = flow_balance st step.parts step.flow same can fits h

@@ -43,16 +43,19 @@ same_bodies st = record { shape = record { finalised = refl; size = refl; droppe
 -- what a deal has to do
 pub record FitsDeal (st : State) (deal : Deal) : Type 0 where
   pub shape : Shape st deal.parts
-  pub left : (b : ℕ) → 0 < times b st.parts.finalised → left_of deal.parts.objects deal.parts.dropped b ≡ left_of st.parts.objects st.parts.dropped b
+  pub left : (b : ℕ) → 0 < times b st.parts.finalised
+      → left_of deal.parts.objects deal.parts.dropped b ≡ left_of st.parts.objects st.parts.dropped b
   pub ins : AllPlaces deal.enters
   pub outs : AllPlaces deal.leaves
   pub can : (r : Reference) → weigh (one r) deal.leaves ≤ weigh (one r) st.edges
-  pub slots : (b o : ℕ) → times o (left_of deal.parts.objects deal.parts.dropped b) + weigh (one (held_by (slot b) o)) deal.leaves ≡ times o (left_of st.parts.objects st.parts.dropped b) + weigh (one (held_by (slot b) o)) deal.enters
+  pub slots : (b o : ℕ)
+      → times o (left_of deal.parts.objects deal.parts.dropped b) + weigh (one (held_by (slot b) o)) deal.leaves ≡ times o (left_of st.parts.objects st.parts.dropped b) + weigh (one (held_by (slot b) o)) deal.enters
   pub live : (o : ℕ) → 0 < degree o deal.enters → IsLive st o
 
 -- ---- kinds of deals
 
-pub quiet_fits : (st : State) (deal : Deal) → deal.enters ≡ [] → deal.leaves ≡ [] → SameBodies st deal.parts → FitsDeal st deal
+pub quiet_fits : (st : State) (deal : Deal) → deal.enters ≡ [] → deal.leaves ≡ [] → SameBodies st deal.parts
+    → FitsDeal st deal
 quiet_fits st deal ins outs same = record {
   shape = same.shape;
   left = λ b f. same.left b;
@@ -63,7 +66,8 @@ quiet_fits st deal ins outs same = record {
   live = λ o some. absurd (omega (arith, some, ap (degree o) ins));
 }
 
-enters_fits : (st : State) (deal : Deal) → deal.leaves ≡ [] → AllLoop deal.enters → SameBodies st deal.parts → AllLead (IsLive st) deal.enters → FitsDeal st deal
+enters_fits : (st : State) (deal : Deal) → deal.leaves ≡ [] → AllLoop deal.enters → SameBodies st deal.parts
+    → AllLead (IsLive st) deal.enters → FitsDeal st deal
 enters_fits st deal outs loops same lead = record {
   shape = same.shape;
   left = λ b f. same.left b;
@@ -74,7 +78,8 @@ enters_fits st deal outs loops same lead = record {
   live = λ o some. all_lead (IsLive st) o deal.enters lead some;
 }
 
-leaves_fits : (st : State) (deal : Deal) (rs : List Reference) → deal.enters ≡ [] → deal.leaves ≡ present_of rs st.edges → AllLoop rs → SameBodies st deal.parts → FitsDeal st deal
+leaves_fits : (st : State) (deal : Deal) (rs : List Reference) → deal.enters ≡ [] → deal.leaves ≡ present_of rs st.edges
+    → AllLoop rs → SameBodies st deal.parts → FitsDeal st deal
 leaves_fits st deal rs ins outs loops same = record {
   shape = same.shape;
   left = λ b f. same.left b;
@@ -95,11 +100,13 @@ skip_fits st = quiet_fits st (skipping st.parts) refl refl (same_bodies st)
 answer_fits : (st : State) (a : Answer) → FitsDeal st (answering st.parts a)
 answer_fits st a = quiet_fits st (answering st.parts a) refl refl (same_bodies st)
 
-pub used_fits : (st : State) (used : Option ℕ) (deal : ℕ → Deal) → ((o : ℕ) → used ≡ Some o → FitsDeal st (deal o)) → FitsDeal st (with_used st.parts used deal)
+pub used_fits : (st : State) (used : Option ℕ) (deal : ℕ → Deal) → ((o : ℕ) → used ≡ Some o → FitsDeal st (deal o))
+    → FitsDeal st (with_used st.parts used deal)
 used_fits st None deal h = skip_fits st
 used_fits st (Some o) deal h = h o refl
 
-pub thing_fits : (st : State) (used : Option ℕ) (deal : ℕ → Thing → Deal) → ((i : ℕ) (x : Thing) → used ≡ Some i → FitsDeal st (deal i x)) → FitsDeal st (with_thing st.parts used deal)
+pub thing_fits : (st : State) (used : Option ℕ) (deal : ℕ → Thing → Deal)
+    → ((i : ℕ) (x : Thing) → used ≡ Some i → FitsDeal st (deal i x)) → FitsDeal st (with_thing st.parts used deal)
 thing_fits st None deal h = skip_fits st
 thing_fits st (Some i) deal h = by (thing_at st.parts i)
   where
@@ -107,7 +114,8 @@ thing_fits st (Some i) deal h = by (thing_at st.parts i)
     by None = skip_fits st
     by (Some x) = h i x refl
 
-pub filter_fits : (st : State) (v object : Option ℕ) (deal : Option ℕ → Deal) → ((o : Option ℕ) → FitsDeal st (deal o)) → FitsDeal st (with_filter st.parts v object deal)
+pub filter_fits : (st : State) (v object : Option ℕ) (deal : Option ℕ → Deal) → ((o : Option ℕ) → FitsDeal st (deal o))
+    → FitsDeal st (with_filter st.parts v object deal)
 filter_fits st None object deal h = h None
 filter_fits st (Some v) object deal h = used_fits st object (λ o. deal (Some o)) (λ o e. h (Some o))
 
@@ -118,7 +126,8 @@ item_content_slots : (valid : Bool) (item : Item) (c : Content) → slots_in (it
 item_content_slots valid item (item_content h info v i) = refl
 item_content_slots valid item _ = refl
 
-item_slots : (i b : ℕ) (valid : Bool) (item : Item) (obs : List Object) → slots_at (slice_get (with_change i (in_item valid item) obs) b) ≡ slots_at (slice_get obs b)
+item_slots : (i b : ℕ) (valid : Bool) (item : Item) (obs : List Object)
+    → slots_at (slice_get (with_change i (in_item valid item) obs) b) ≡ slots_at (slice_get obs b)
 item_slots i b valid item [] = refl
 item_slots zero zero valid item (ob ∷ obs) = item_content_slots valid item ob.content
 item_slots zero (suc b) valid item (ob ∷ obs) = refl
@@ -169,15 +178,18 @@ change_fits st answer (Some b) change held whole live =
       live = λ o some. live b o refl (omega (arith, some, held_objects (slot b) o ts));
     }
   where
-    other_can : (h : Holder) (o : ℕ) (gs : List ℕ) → (h ≡ slot b → ⊥) → weigh (one (held_by h o)) (map (held_by (slot b)) gs) ≤ weigh (one (held_by h o)) st.edges
+    other_can : (h : Holder) (o : ℕ) (gs : List ℕ) → (h ≡ slot b → ⊥)
+        → weigh (one (held_by h o)) (map (held_by (slot b)) gs) ≤ weigh (one (held_by h o)) st.edges
     other_can h o gs apart = omega (arith, other_weigh (held_by h o) (slot b) gs apart)
 
-    own_can : (o : ℕ) → weigh (one (held_by (slot b) o)) (map (held_by (slot b)) (given_out (slice_get st.parts.objects b) change)) ≤ weigh (one (held_by (slot b) o)) st.edges
+    own_can : (o : ℕ)
+        → weigh (one (held_by (slot b) o)) (map (held_by (slot b)) (given_out (slice_get st.parts.objects b) change)) ≤ weigh (one (held_by (slot b) o)) st.edges
     own_can o =
         let here : weigh (one (held_by (slot b) o)) st.edges ≡ times o (slots_at (slice_get st.parts.objects b)) = held b o ∙ ap (λ (n : ℕ). times o (drop n (slots_at (slice_get st.parts.objects b)))) (whole b refl).1 in
         omega (arith, own_objects (slot b) o (given_out (slice_get st.parts.objects b) change), given_most o change (slice_get st.parts.objects b), here)
 
-    slots_can : (h : Holder) (o : ℕ) (gs : List ℕ) → weigh (one (held_by h o)) (map (held_by (slot b)) (given_out (slice_get st.parts.objects b) change)) ≤ weigh (one (held_by h o)) st.edges
+    slots_can : (h : Holder) (o : ℕ) (gs : List ℕ)
+        → weigh (one (held_by h o)) (map (held_by (slot b)) (given_out (slice_get st.parts.objects b) change)) ≤ weigh (one (held_by h o)) st.edges
     slots_can (slot a) o gs = elim (eqb_tells a b) [
       | inl e ↦ subst (λ (d : ℕ). weigh (one (held_by (slot d) o)) (map (held_by (slot b)) (given_out (slice_get st.parts.objects b) change)) ≤ weigh (one (held_by (slot d) o)) st.edges) (sym e.1) (own_can o)
       | inr e ↦ other_can (slot a) o (given_out (slice_get st.parts.objects b) change) (λ q. e.1 (ap (λ k. (code_of k).first) q))
@@ -191,10 +203,12 @@ change_fits st answer (Some b) change held whole live =
 
 -- ---- loops
 
-added_lead : (s : Script) (st : State) (u i : ℕ) (p : Place) → IsLive st i → AllLead (IsLive st) (held_at u i (places_added s u i st p))
+added_lead : (s : Script) (st : State) (u i : ℕ) (p : Place) → IsLive st i
+    → AllLead (IsLive st) (held_at u i (places_added s u i st p))
 added_lead s st u i p h = held_lead (IsLive st) u i (places_added s u i st p) h
 
-pub add_fits : (s : Script) (st : State) (u : ℕ) (p : Place) (i : ℕ) (x : Thing) → IsLive st i → FitsDeal st (add_deal s st u p i x)
+pub add_fits : (s : Script) (st : State) (u : ℕ) (p : Place) (i : ℕ) (x : Thing) → IsLive st i
+    → FitsDeal st (add_deal s st u p i x)
 add_fits s st u p i x live =
     either_fits st (not x.valid) (answering st.parts answers.Invalid) _ (answer_fits st answers.Invalid)
     (either_fits st (stays_in_one (kind_of x.item) && is_elsewhere s u i st.edges) (answering st.parts answers.Elsewhere) _ (answer_fits st answers.Elsewhere)
@@ -208,7 +222,8 @@ drop_fits s st u p i =
     (answer_fits st answers.Absent)
 
 -- common items are live: their loop holds them
-common_lead : (st : State) (u m : ℕ) → IsBalanced st → AllLead (IsLive st) (map (held_by (in_mode u m)) (items_gained (λ i. has (in_mode u m) i st.edges) (common_items st u)))
+common_lead : (st : State) (u m : ℕ) → IsBalanced st
+    → AllLead (IsLive st) (map (held_by (in_mode u m)) (items_gained (λ i. has (in_mode u m) i st.edges) (common_items st u)))
 common_lead st u m b =
     filter_lead (IsLive st) (in_mode u m) (λ i. not (has (in_mode u m) i st.edges)) (common_items st u)
     (items_lead (IsLive st) (in_mode u m) (λ i. has (in_common u) i st.edges) (objects_of st.parts)

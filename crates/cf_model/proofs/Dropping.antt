@@ -19,10 +19,13 @@ use Rattle.cf_model.proofs.Views.{WorkView, first_owes, first_spends, first_drop
 use Rattle.cf_model.proofs.DealLaws.{AreSlotted}
 use Rattle.cf_model.proofs.Fitting.{StepFits}
 
-pub slot_parts : (b k o : ℕ) (st : State) → slot_left st.parts b k ≡ Some o → (0 < times b st.parts.finalised) × (k ≡ times b st.parts.dropped) × (slice_get (slots_at (slice_get st.parts.objects b)) k ≡ Some o)
+pub slot_parts : (b k o : ℕ) (st : State) → slot_left st.parts b k ≡ Some o
+    → (0 < times b st.parts.finalised) × (k ≡ times b st.parts.dropped) × (slice_get (slots_at (slice_get st.parts.objects b)) k ≡ Some o)
 slot_parts b k o st e = by (ltb 0 (times b st.parts.finalised) && eqb k (times b st.parts.dropped)) refl e
   where
-    by : (test : Bool) → (ltb 0 (times b st.parts.finalised) && eqb k (times b st.parts.dropped)) ≡ test → cond test (slice_get (slots_at (slice_get st.parts.objects b)) k) None ≡ Some o → (0 < times b st.parts.finalised) × (k ≡ times b st.parts.dropped) × (slice_get (slots_at (slice_get st.parts.objects b)) k ≡ Some o)
+    by : (test : Bool) → (ltb 0 (times b st.parts.finalised) && eqb k (times b st.parts.dropped)) ≡ test
+        → cond test (slice_get (slots_at (slice_get st.parts.objects b)) k) None ≡ Some o
+        → (0 < times b st.parts.finalised) × (k ≡ times b st.parts.dropped) × (slice_get (slots_at (slice_get st.parts.objects b)) k ≡ Some o)
     by true t q =
         let p = and_parts (ltb 0 (times b st.parts.finalised)) (eqb k (times b st.parts.dropped)) t in
         (ltb-true 0 (times b st.parts.finalised) p.0, eqb-true k (times b st.parts.dropped) p.1, q)
@@ -50,7 +53,8 @@ module _ (b k o : ℕ) (st : State) (e : slot_left st.parts b k ≡ Some o) wher
       let own : counted (eqb o o) ≡ 1 = ap (λ (x : Bool). cond x 1 0) (eq-eqb o o refl) in
       omega (arith, held b o, ap (times o) left_here, own)
 
-  slot_given : (a q : ℕ) → times q (left_of st.parts.objects (b ∷ st.parts.dropped) a) + one (held_by (slot a) q) (held_by (slot b) o) ≡ times q (left_of st.parts.objects st.parts.dropped a) + 0
+  slot_given : (a q : ℕ)
+      → times q (left_of st.parts.objects (b ∷ st.parts.dropped) a) + one (held_by (slot a) q) (held_by (slot b) o) ≡ times q (left_of st.parts.objects st.parts.dropped a) + 0
   slot_given a q = elim (eqb_tells b a) [
     | inl x ↦ subst (λ (d : ℕ). times q (left_of st.parts.objects (b ∷ st.parts.dropped) d) + one (held_by (slot d) q) (held_by (slot b) o) ≡ times q (left_of st.parts.objects st.parts.dropped d) + 0) x.1
         (omega (arith, ap (times q) left_here, one_own (slot b) q o))
@@ -106,5 +110,6 @@ stand_slot : (c : Script) (facts : Facts) (t : ℕ) (s : Stand) (d : Demand) →
 stand_slot c facts t s d (of_work w view) = work_slot facts s.work d view
 stand_slot c facts t s d (of_frame f fs w e view) = frame_slot c facts t f d view
 
-pub demand_slot : (c : Script) (facts : Facts) (t : ℕ) (s : Stand) (b k o : ℕ) → demand c facts t s ≡ Some (drops b k o) → facts.slot b k ≡ Some o
+pub demand_slot : (c : Script) (facts : Facts) (t : ℕ) (s : Stand) (b k o : ℕ) → demand c facts t s ≡ Some (drops b k o)
+    → facts.slot b k ≡ Some o
 demand_slot c facts t s b k o e = stand_slot c facts t s (drops b k o) (stand_view c facts t s (drops b k o) e)

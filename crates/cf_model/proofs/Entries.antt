@@ -78,7 +78,8 @@ module _ (s : Script) (st : State) where
       let second = subst (λ (w : ℕ). IsLegalStep s st (entry w b y)) (sym same) (q.legal s st (entry u b y) k) in
       subst (λ (w : ℕ). entry t a x ≡ entry w b y) same (step_same s st t a b x y (p.legal s st (entry t a x) h) second)
 
-  pub same_entry : (e f : Entry) → IsLegalEntry s st e → IsLegalEntry s st f → choice_in e.thread e.action ≡ choice_in f.thread f.action
+  pub same_entry : (e f : Entry) → IsLegalEntry s st e → IsLegalEntry s st f
+      → choice_in e.thread e.action ≡ choice_in f.thread f.action
       → e ≡ f
   same_entry e f h k c = same_by e.thread f.thread e.action f.action e.answer f.answer (action_view e.action) (action_view f.action) h k c
 
@@ -102,7 +103,8 @@ determined_from s st (x ∷ es) (f ∷ fs) h k e =
     let tails = determined_from s (after_action s x.thread st x.action) es fs h.2 rest (tail_is _ _ _ _ e) in
     ap (λ (y : Entry). y ∷ es) same ∙ ap (λ (ys : List Entry). f ∷ ys) tails
 
-pub determined : (s : Script) (es fs : List Entry) → IsLegal s es → IsLegal s fs → choices_of es ≡ choices_of fs → es ≡ fs
+pub determined : (s : Script) (es fs : List Entry) → IsLegal s es → IsLegal s fs → choices_of es ≡ choices_of fs
+    → es ≡ fs
 determined s es fs h k e = determined_from s (start s) es fs h k e
 
 -- ---- the state after two lists of entries

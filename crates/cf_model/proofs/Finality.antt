@@ -46,10 +46,12 @@ use Rattle.cf_model.proofs.Unfinalised.{uses_none, BindsUnfinalised, bound_none,
 
 -- ---- each entry keeps what holds
 
-acted_is : (s : Script) (t : ℕ) (st : State) (d : Demand) (e : Option Demand) → e ≡ Some d → acted s t st e ≡ done_by s t st d
+acted_is : (s : Script) (t : ℕ) (st : State) (d : Demand) (e : Option Demand) → e ≡ Some d
+    → acted s t st e ≡ done_by s t st d
 acted_is s t st d e q = ap (acted s t st) q
 
-pub step_after : (s : Script) (st : State) (e : Entry) → IsStep e.action → (done : Done s st e) → after_action s e.thread st e.action ≡ done_by s e.thread st done.acts.demand
+pub step_after : (s : Script) (st : State) (e : Entry) → IsStep e.action → (done : Done s st e)
+    → after_action s e.thread st e.action ≡ done_by s e.thread st done.acts.demand
 step_after s st e step done = step.after s e.thread st ∙ acted_is s e.thread st done.acts.demand (demanded s st e.thread) done.acts.demands
 
 -- how many finals a step of the state has, and how many its entry tells
@@ -57,10 +59,12 @@ final_none : (o : ℕ) (answer : Answer) (c : Option ℕ) → c ≡ None → one
 final_none o (answers.Final t) c e = ap (one_at o) e
 final_none o _ c e = refl
 
-cut_finals : (o p : ℕ) (objects : List Object) (left : List Reference) (other : Answer) → one_at o (final_if (cut_answer (Some p) objects left other) (Some p)) ≡ times o (finals_of (Some p) left)
+cut_finals : (o p : ℕ) (objects : List Object) (left : List Reference) (other : Answer)
+    → one_at o (final_if (cut_answer (Some p) objects left other) (Some p)) ≡ times o (finals_of (Some p) left)
 cut_finals o p objects left other = by (degree p left == 0)
   where
-    by : (b : Bool) → one_at o (final_if (cond b (answers.Final (type_in (slice_get objects p))) answers.More) (Some p)) ≡ times o (cond b (p ∷ []) [])
+    by : (b : Bool)
+        → one_at o (final_if (cond b (answers.Final (type_in (slice_get objects p))) answers.More) (Some p)) ≡ times o (cond b (p ∷ []) [])
     by true = omega arith
     by false = refl
 
@@ -77,20 +81,24 @@ statement_cut x site = refl
 pub record Tells (st : State) (step : Step) (c : Option ℕ) : Type 0 where
   pub finals : (o : ℕ) → one_at o (final_if (step_answer step st) c) ≡ times o (step_finals step st)
 
-grows_tell : (st : State) (answer : Answer) (ins : List Reference) (ms : List Move) (parts : Parts) (list : List ℕ) (stops : Option ℕ) (c : Option ℕ) → c ≡ None
+grows_tell : (st : State) (answer : Answer) (ins : List Reference) (ms : List Move) (parts : Parts) (list : List ℕ)
+    (stops : Option ℕ) (c : Option ℕ)
+    → c ≡ None
     → Tells st (record { answer = answer; flow = grows ins ms; parts = parts; list = list; stops = stops }) c
 grows_tell st answer ins ms parts list stops c e = record { finals = λ o. final_none o answer c e }
 
 ok_tells : (st : State) (c : Option ℕ) → Tells st (idle st answers.Ok) c
 ok_tells st c = record { finals = λ o. refl }
 
-cut_tells : (t : ℕ) (h : Holder) (st : State) (p : ℕ) (q : Option Reference) → IsOf t h → own_reference t h p st.edges ≡ q → Tells st (flowing st answers.Ok (cut_flow q)) (Some p)
+cut_tells : (t : ℕ) (h : Holder) (st : State) (p : ℕ) (q : Option Reference) → IsOf t h
+    → own_reference t h p st.edges ≡ q → Tells st (flowing st answers.Ok (cut_flow q)) (Some p)
 cut_tells t h st p None of e = ok_tells st (Some p)
 cut_tells t h st p (Some r) of e =
     let same : r.object ≡ p = (own_is t h p st.edges r of e).object in
     record { finals = λ o. subst (λ (m : ℕ). one_at o (final_if (step_answer (flowing st answers.Ok (shrinks r)) st) (Some m)) ≡ times o (step_finals (flowing st answers.Ok (shrinks r)) st)) same (cut_finals o r.object st.parts.objects (flowed (shrinks r) st.edges) answers.Ok) }
 
-release_tells : (t : ℕ) (h : Holder) (st : State) (object : Option ℕ) → IsOf t h → Tells st (release_step t h st object) object
+release_tells : (t : ℕ) (h : Holder) (st : State) (object : Option ℕ) → IsOf t h
+    → Tells st (release_step t h st object) object
 release_tells t h st None of = record { finals = λ o. refl }
 release_tells t h st (Some p) of = cut_tells t h st p (own_reference t h p st.edges) of refl
 
@@ -98,13 +106,16 @@ retain_tells : (h : Holder) (st : State) (object c : Option ℕ) → c ≡ None 
 retain_tells h st None c e = record { finals = λ o. refl }
 retain_tells h st (Some p) c e = record { finals = λ o. refl }
 
-statement_tells : (s : Script) (t d : ℕ) (st : State) (x : Statement) (used : List (Option ℕ)) (ownership : Ownership) (c : Option ℕ) → CutBy ownership c used → Tells st (statement_step s t d st x used ownership) c
+statement_tells : (s : Script) (t d : ℕ) (st : State) (x : Statement) (used : List (Option ℕ)) (ownership : Ownership)
+    (c : Option ℕ)
+    → CutBy ownership c used → Tells st (statement_step s t d st x used ownership) c
 statement_tells s t d st x used Keeps c e = grows_tell st _ _ _ _ _ _ c e
 statement_tells s t d st x used (Binds v) c e = grows_tell st _ _ _ _ _ _ c e
 statement_tells s t d st x used (Retains v) c e = retain_tells (variable t d v) st (first_of used) c e
 statement_tells s t d st x used (Releases v) c e = subst (Tells st (release_step t (variable t d v) st (first_of used))) (sym e) (release_tells t (variable t d v) st (first_of used) (eq-eqb t t refl))
 
-pass_tells : (t : ℕ) (st : State) (h : Holder) (object : Option ℕ) (k : Holder) → Tells st (pack_step t st h object k) None
+pass_tells : (t : ℕ) (st : State) (h : Holder) (object : Option ℕ) (k : Holder)
+    → Tells st (pack_step t st h object k) None
 pass_tells t st h None k = record { finals = λ o. refl }
 pass_tells t st h (Some p) k = record { finals = λ o. refl }
 
@@ -112,7 +123,8 @@ claim_tells : (st : State) (h : Holder) (object : Option ℕ) (k : Holder) → T
 claim_tells st h None k = record { finals = λ o. refl }
 claim_tells st h (Some p) k = record { finals = λ o. refl }
 
-line_tells : (s : Script) (t : ℕ) (st : State) (fs : List Frame) (x : BlockLine) → Tells st (step_of s t st fs (does x)) (cut_of (action_in s (facts_of st) t fs (does x)))
+line_tells : (s : Script) (t : ℕ) (st : State) (fs : List Frame) (x : BlockLine)
+    → Tells st (step_of s t st fs (does x)) (cut_of (action_in s (facts_of st) t fs (does x)))
 line_tells s t st fs (begins v) = record { finals = λ o. refl }
 line_tells s t st fs (claims k v) = claim_tells st (parcel t k) (first_held (parcel t k) st.edges) (variable t (depth_of fs) v)
 line_tells s t st fs (packs u k v) = pass_tells t st (packed_holder t (depth_of fs) v) (object_at (bindings_of fs) v) (parcel u k)
@@ -137,7 +149,8 @@ IsNoCut (shrinks r) = ⊥
 no_cut_tells : (st : State) (step : Step) (c : Option ℕ) → IsNoCut step.flow → c ≡ None → Tells st step c
 no_cut_tells st step c open_flow e = record { finals = λ o. by step.flow open_flow o }
   where
-    by : (f : Flow) → IsNoCut f → (o : ℕ) → one_at o (final_if (cut_answer (flows.cut_of f) st.parts.objects (flowed f st.edges) step.answer) c) ≡ times o (finals_of (flows.cut_of f) (flowed f st.edges))
+    by : (f : Flow) → IsNoCut f → (o : ℕ)
+        → one_at o (final_if (cut_answer (flows.cut_of f) st.parts.objects (flowed f st.edges) step.answer) c) ≡ times o (finals_of (flows.cut_of f) (flowed f st.edges))
     by (grows ins ms) open_flow o = final_none o step.answer c e
     by (shrinks r) open_flow o = absurd open_flow
 
@@ -149,7 +162,8 @@ open_close st of_block = tt
 open_close st (of_handler k) = tt
 open_close st (of_run r) = tt
 
-pub demand_tells : (s : Script) (t : ℕ) (st : State) (fs : List Frame) (d : Demand) → Tells st (step_of s t st fs d) (cut_of (action_in s (facts_of st) t fs d))
+pub demand_tells : (s : Script) (t : ℕ) (st : State) (fs : List Frame) (d : Demand)
+    → Tells st (step_of s t st fs d) (cut_of (action_in s (facts_of st) t fs d))
 demand_tells s t st fs (does x) = line_tells s t st fs x
 demand_tells s t st fs ends = record { finals = λ o. refl }
 demand_tells s t st fs returns = record { finals = λ o. refl }
@@ -160,15 +174,18 @@ demand_tells s t st fs (calls k c) = grows_tell st _ _ _ _ _ _ None refl
 demand_tells s t st fs (enters p) = no_cut_tells st (phase_step st t p (top_kind fs)) (cut_of (phase_action p)) (open_phase st t p (top_kind fs)) (phase_cut p)
 demand_tells s t st fs closes = no_cut_tells st (close_step st (top_kind fs)) None (open_close st (top_kind fs)) refl
 
-finalised_after : (s : Script) (t : ℕ) (st : State) (d : Demand) (step : Step) (o : ℕ) → step.parts.finalised ≡ st.parts.finalised
+finalised_after : (s : Script) (t : ℕ) (st : State) (d : Demand) (step : Step) (o : ℕ)
+    → step.parts.finalised ≡ st.parts.finalised
     → times o (state_after t d step st).parts.finalised ≡ times o (step_finals step st) + times o st.parts.finalised
 finalised_after s t st d step o same = times-append o (step_finals step st) step.parts.finalised ∙ ap (λ fs. times o (step_finals step st) + times o fs) same
 
 pub record EntryKeeps (s : Script) (st : State) (e : Entry) : Type 0 where
   pub steady : IsSteady (after_action s e.thread st e.action)
-  pub finals : (o : ℕ) → times o (after_action s e.thread st e.action).parts.finalised ≡ one_at o (final_of e) + times o st.parts.finalised
+  pub finals : (o : ℕ)
+      → times o (after_action s e.thread st e.action).parts.finalised ≡ one_at o (final_of e) + times o st.parts.finalised
 
-step_keeps : (s : Script) (st : State) (e : Entry) → IsSteady st → IsStep e.action → (done : Done s st e) → EntryKeeps s st e
+step_keeps : (s : Script) (st : State) (e : Entry) → IsSteady st → IsStep e.action → (done : Done s st e)
+    → EntryKeeps s st e
 step_keeps s st e h is done =
     let t = e.thread in
     let d = done.acts.demand in
@@ -181,7 +198,9 @@ step_keeps s st e h is done =
       finals = λ o. subst (λ (x : State). times o x.parts.finalised ≡ one_at o (final_of e) + times o st.parts.finalised) (sym after) (omega (arith, finalised_after s t st d step o done.fits.finalised, same o));
     }
 
-entry_keeps : (s : Script) (st : State) (t : ℕ) (a : Action) (x : Answer) → IsSteady st → ActionView a → IsLegalAs s st (record { thread = t; action = a; answer = x }) a → EntryKeeps s st (record { thread = t; action = a; answer = x })
+entry_keeps : (s : Script) (st : State) (t : ℕ) (a : Action) (x : Answer) → IsSteady st → ActionView a
+    → IsLegalAs s st (record { thread = t; action = a; answer = x }) a
+    → EntryKeeps s st (record { thread = t; action = a; answer = x })
 entry_keeps s st t _ x h (is_tick n) legal = record { steady = ticked_steady n st h; finals = λ o. omega (arith, final_none o x None refl) }
 entry_keeps s st t _ x h is_stall legal = record { steady = h; finals = λ o. omega (arith, final_none o x None refl) }
 entry_keeps s st t a x h (is_step _ step) legal =
@@ -216,22 +235,26 @@ kept_part s st (e ∷ es) h legal =
 pub kept : (s : Script) (es : List Entry) → IsLegal s es → Kept s (start s) es
 kept s es legal = kept_part s (start s) es (start_steady s) (part_of_legal s (start s) es legal)
 
-finals_after : (s : Script) (o : ℕ) (es : List Entry) → IsLegal s es → finals o es ≡ times o (After s es).parts.finalised
+finals_after : (s : Script) (o : ℕ) (es : List Entry) → IsLegal s es
+    → finals o es ≡ times o (After s es).parts.finalised
 finals_after s o es legal = let k = (kept s es legal).finals o in omega (arith, k)
 
 -- ---- the law
 
-step_uses : (s : Script) (st : State) (e : Entry) (o : ℕ) → IsSteady st → 0 < times o st.parts.finalised → IsLegalStep s st e → uses o e ≡ 0
+step_uses : (s : Script) (st : State) (e : Entry) (o : ℕ) → IsSteady st → 0 < times o st.parts.finalised
+    → IsLegalStep s st e → uses o e ≡ 0
 step_uses s st e o h some legal =
     let done = legal_done s st e h legal in
     let step = step_of s e.thread st (frames_at e.thread st) done.acts.demand in
     let binds = subst (BindsUnfinalised st) (sym done.answer) (cut_unfinalised st (flows.cut_of step.flow) st.parts.objects (flowed step.flow st.edges) step.answer (demand_unfinalised s e.thread st (frames_at e.thread st) done.acts.demand h.balance)) in
     omega (arith, bound_none st o e.answer some binds, uses_none st e.thread (owners_of e.action) o (uses_of e.action e.answer) some legal.uses)
 
-lead_uses : (o t : ℕ) (a : Action) (x : Answer) → x ≡ answers.Ok → action_uses a ≡ [] → uses o (record { thread = t; action = a; answer = x }) ≡ 0
+lead_uses : (o t : ℕ) (a : Action) (x : Answer) → x ≡ answers.Ok → action_uses a ≡ []
+    → uses o (record { thread = t; action = a; answer = x }) ≡ 0
 lead_uses o t a x e none = rw e (let n : uses_among o (action_uses a) ≡ 0 = ap (uses_among o) none in omega (arith, n))
 
-entry_uses : (s : Script) (st : State) (t : ℕ) (a : Action) (x : Answer) (o : ℕ) → IsSteady st → 0 < times o st.parts.finalised → ActionView a → IsLegalAs s st (record { thread = t; action = a; answer = x }) a
+entry_uses : (s : Script) (st : State) (t : ℕ) (a : Action) (x : Answer) (o : ℕ) → IsSteady st
+    → 0 < times o st.parts.finalised → ActionView a → IsLegalAs s st (record { thread = t; action = a; answer = x }) a
     → uses o (record { thread = t; action = a; answer = x }) ≡ 0
 entry_uses s st t _ x o h some (is_tick n) legal = lead_uses o t (actions.Tick n) x legal.1 refl
 entry_uses s st t _ x o h some is_stall legal = lead_uses o t actions.Stall x legal.1 refl
@@ -239,7 +262,8 @@ entry_uses s st t a x o h some (is_step _ step) legal =
     step_uses s st (record { thread = t; action = a; answer = x }) o h some (step.legal s st (record { thread = t; action = a; answer = x }) legal)
 
 -- a legal journal in two parts: the first is legal, and so is the entry after it
-legal_front : (s : Script) (st : State) (es : List Entry) (e : Entry) (fs : List Entry) → IsLegalFrom s st (es ++ e ∷ fs) → IsLegalPart s st es × IsLegalEntry s (state_from s st es) e
+legal_front : (s : Script) (st : State) (es : List Entry) (e : Entry) (fs : List Entry)
+    → IsLegalFrom s st (es ++ e ∷ fs) → IsLegalPart s st es × IsLegalEntry s (state_from s st es) e
 legal_front s st [] e fs h = (tt, h.0)
 legal_front s st (f ∷ es) e fs h = let r = legal_front s (after_action s f.thread st f.action) es e fs h.2 in ((h.0, r.0), r.1)
 

@@ -19,7 +19,8 @@ module _ (h : Holder) where
   held_nothing [] e = refl
   held_nothing (r ∷ es) e = by (same_holder h r.holder) refl (held_nothing es (omega (arith, e)))
     where
-      by : (b : Bool) → same_holder h r.holder ≡ b → first_held h es ≡ None → cond b (Some r.object) (first_held h es) ≡ None
+      by : (b : Bool) → same_holder h r.holder ≡ b → first_held h es ≡ None
+          → cond b (Some r.object) (first_held h es) ≡ None
       by true q rest = let here : from_holder h r ≡ 1 = ap counted q in absurd (omega (arith, e, here))
       by false q rest = rest
 
@@ -39,11 +40,13 @@ module _ (h : Holder) where
   nothing_held [] e = refl
   nothing_held (r ∷ es) e = by (same_holder h r.holder) refl e (nothing_held es)
     where
-      by : (b : Bool) → same_holder h r.holder ≡ b → cond b (Some r.object) (first_held h es) ≡ None → (first_held h es ≡ None → weigh (from_holder h) es ≡ 0) → weigh (from_holder h) (r ∷ es) ≡ 0
+      by : (b : Bool) → same_holder h r.holder ≡ b → cond b (Some r.object) (first_held h es) ≡ None
+          → (first_held h es ≡ None → weigh (from_holder h) es ≡ 0) → weigh (from_holder h) (r ∷ es) ≡ 0
       by true q found rest = absurd cc
       by false q found rest = let none : from_holder h r ≡ 0 = ap counted q in omega (arith, none, rest found)
 
-  own_reference_is : (r : Reference) (o : ℕ) → same_holder h r.holder ≡ true → ◌≡◌ {A = Option ℕ} (Some r.object) (Some o) → held_by h o ≡ r
+  own_reference_is : (r : Reference) (o : ℕ) → same_holder h r.holder ≡ true
+      → ◌≡◌ {A = Option ℕ} (Some r.object) (Some o) → held_by h o ≡ r
   own_reference_is r o q found =
       let object : o ≡ r.object = cc in
       ap (λ (k : Holder). held_by k o) (same_holder-equal h r.holder q) ∙ ap (λ (n : ℕ). held_by r.holder n) object
@@ -52,7 +55,8 @@ module _ (h : Holder) where
   first_there o [] e = absurd cc
   first_there o (r ∷ es) e = by (same_holder h r.holder) refl e (first_there o es)
     where
-      by : (b : Bool) → same_holder h r.holder ≡ b → cond b (Some r.object) (first_held h es) ≡ Some o → (first_held h es ≡ Some o → 0 < weigh (one (held_by h o)) es) → 0 < weigh (one (held_by h o)) (r ∷ es)
+      by : (b : Bool) → same_holder h r.holder ≡ b → cond b (Some r.object) (first_held h es) ≡ Some o
+          → (first_held h es ≡ Some o → 0 < weigh (one (held_by h o)) es) → 0 < weigh (one (held_by h o)) (r ∷ es)
       by true q found rest =
           let is : one (held_by h o) r ≡ 1 = ap (λ (x : Reference). one x r) (own_reference_is r o q found) ∙ ap counted (same-refl r) in
           omega (arith, is)
@@ -75,21 +79,26 @@ module _ (h : Holder) where
 
   -- ---- what changes it
 
-  pub first_other : (r : Reference) (es : List Reference) → same_holder h r.holder ≡ false → first_held h (r ∷ es) ≡ first_held h es
+  pub first_other : (r : Reference) (es : List Reference) → same_holder h r.holder ≡ false
+      → first_held h (r ∷ es) ≡ first_held h es
   first_other r es e = ap (λ (b : Bool). cond b (Some r.object) (first_held h es)) e
 
-  pub first_own : (r : Reference) (es : List Reference) → same_holder h r.holder ≡ true → first_held h (r ∷ es) ≡ Some r.object
+  pub first_own : (r : Reference) (es : List Reference) → same_holder h r.holder ≡ true
+      → first_held h (r ∷ es) ≡ Some r.object
   first_own r es e = ap (λ (b : Bool). cond b (Some r.object) (first_held h es)) e
 
-  pub first_without : (r : Reference) (es : List Reference) → same_holder h r.holder ≡ false → first_held h (without r es) ≡ first_held h es
+  pub first_without : (r : Reference) (es : List Reference) → same_holder h r.holder ≡ false
+      → first_held h (without r es) ≡ first_held h es
   first_without r [] e = refl
   first_without r (q ∷ es) e = by (same r q) refl (first_without r es e)
     where
-      by : (b : Bool) → same r q ≡ b → first_held h (without r es) ≡ first_held h es → first_held h (cond b es (q ∷ without r es)) ≡ first_held h (q ∷ es)
+      by : (b : Bool) → same r q ≡ b → first_held h (without r es) ≡ first_held h es
+          → first_held h (cond b es (q ∷ without r es)) ≡ first_held h (q ∷ es)
       by true t rest = sym (first_other q es (ap (λ (x : Reference). same_holder h x.holder) (sym (same-equal r q t)) ∙ e))
       by false t rest = ap (λ (o : Option ℕ). cond (same_holder h q.holder) (Some q.object) o) rest
 
-  pub first_moved : (r : Reference) (k : Holder) (es : List Reference) → same_holder h r.holder ≡ false → same_holder h k ≡ false → first_held h (moved r k ∷ without r es) ≡ first_held h es
+  pub first_moved : (r : Reference) (k : Holder) (es : List Reference) → same_holder h r.holder ≡ false
+      → same_holder h k ≡ false → first_held h (moved r k ∷ without r es) ≡ first_held h es
   first_moved r k es from to = first_other (moved r k) (without r es) to ∙ first_without r es from
 
   pub first_moved_here : (r : Reference) (es : List Reference) → first_held h (moved r h ∷ without r es) ≡ Some r.object

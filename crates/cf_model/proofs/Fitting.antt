@@ -26,13 +26,16 @@ pub record StepFits (t : ℕ) (st : State) (step : Step) : Type 0 where
   pub finalised : step.parts.finalised ≡ st.parts.finalised
   pub undropped : (a : ℕ) → times a st.parts.finalised ≡ 0 → times a step.parts.dropped ≡ times a st.parts.dropped
   pub flow : FlowFits st step.parts step.flow
-  pub slots : (b o : ℕ) → times o (left_of step.parts.objects step.parts.dropped b) + flow_lost (one (held_by (slot b) o)) step.flow ≡ times o (left_of st.parts.objects st.parts.dropped b) + flow_won (one (held_by (slot b) o)) step.flow
+  pub slots : (b o : ℕ)
+      → times o (left_of step.parts.objects step.parts.dropped b) + flow_lost (one (held_by (slot b) o)) step.flow ≡ times o (left_of st.parts.objects st.parts.dropped b) + flow_won (one (held_by (slot b) o)) step.flow
 
-live_adds : (st : State) (p : Parts) (ins : List Reference) → length p.objects ≡ length st.parts.objects → ((o : ℕ) → 0 < degree o ins → IsLive st o)
+live_adds : (st : State) (p : Parts) (ins : List Reference) → length p.objects ≡ length st.parts.objects
+    → ((o : ℕ) → 0 < degree o ins → IsLive st o)
     → Adds st.parts.finalised (length st.parts.objects) (length p.objects) ins
 live_adds st p ins size live = record { live = λ o some. inl (live o some); new = λ e. absurd (omega (arith, size, e)); sizes = inl size }
 
-none_adds : (st : State) (p : Parts) → length p.objects ≡ length st.parts.objects → Adds st.parts.finalised (length st.parts.objects) (length p.objects) []
+none_adds : (st : State) (p : Parts) → length p.objects ≡ length st.parts.objects
+    → Adds st.parts.finalised (length st.parts.objects) (length p.objects) []
 none_adds st p size = live_adds st p [] size (λ o some. absurd (omega arith))
 
 -- ---- steps that move nothing
@@ -52,7 +55,8 @@ idle_fits t st answer = still_fits t st (idle st answer) (same_bodies st) refl
 
 -- ---- deals
 
-pub deal_fits : (t : ℕ) (st : State) (deal : Deal) (posts : List ℕ) → FitsDeal st deal → StepFits t st (deal_step t deal posts)
+pub deal_fits : (t : ℕ) (st : State) (deal : Deal) (posts : List ℕ) → FitsDeal st deal
+    → StepFits t st (deal_step t deal posts)
 deal_fits t st deal posts h = record {
   own = (places_own t deal.enters h.ins, owed_own t deal.leaves h.outs);
   there = λ r. omega (arith, moves_lost (owed t) (one r) deal.leaves, h.can r);
@@ -77,7 +81,8 @@ one_there r q es h = by (same r q) refl
     by true e = subst (λ (p : Reference). 1 ≤ weigh (one p) es) (sym (same-equal r q e)) (omega (arith, h))
     by false e = omega arith
 
-cut_one : (t o : ℕ) (st : State) (answer : Answer) (q : Reference) → OwnIs t o st.edges q → StepFits t st (flowing st answer (shrinks q))
+cut_one : (t o : ℕ) (st : State) (answer : Answer) (q : Reference) → OwnIs t o st.edges q
+    → StepFits t st (flowing st answer (shrinks q))
 cut_one t o st answer q h = record {
   own = of_own t q.holder h.thread;
   there = λ r. one_there r q st.edges h.there;
@@ -87,7 +92,8 @@ cut_one t o st answer q h = record {
   slots = λ b x. omega (arith, one_slot t b x q h.thread);
 }
 
-cut_by : (t : ℕ) (h : Holder) (st : State) (o : ℕ) (answer : Answer) (q : Option Reference) → IsOf t h → own_reference t h o st.edges ≡ q → StepFits t st (flowing st answer (cut_flow q))
+cut_by : (t : ℕ) (h : Holder) (st : State) (o : ℕ) (answer : Answer) (q : Option Reference) → IsOf t h
+    → own_reference t h o st.edges ≡ q → StepFits t st (flowing st answer (cut_flow q))
 cut_by t h st o answer None of e = idle_fits t st answer
 cut_by t h st o answer (Some q) of e = cut_one t o st answer q (own_is t h o st.edges q of e)
 
@@ -116,7 +122,8 @@ slots_none t b o [] h = refl
 slots_none t b o (r ∷ rs) h = omega (arith, one_slot t b o r h.0, slots_none t b o rs h.1)
 
 -- a step by which a thread gets references to live objects
-pub gains_fit : (t : ℕ) (st : State) (step : Step) (rs : List Reference) → SameBodies st step.parts → step.flow ≡ grows rs [] → AllOf t rs
+pub gains_fit : (t : ℕ) (st : State) (step : Step) (rs : List Reference) → SameBodies st step.parts
+    → step.flow ≡ grows rs [] → AllOf t rs
     → ((o : ℕ) → 0 < degree o rs → IsLive st o) → StepFits t st step
 gains_fit t st step rs same e of live = record {
   own = subst (FlowOwn t) (sym e) (all_own t rs of, tt);
@@ -134,7 +141,8 @@ leads_if o h (Some x) some = elim (eqb_tells x o) [
   | inr e ↦ absurd (let none : counted (eqb x o) ≡ 0 = ap counted e.0 in omega arith)
 ]
 
-pub retain_fits : (t : ℕ) (h : Holder) (st : State) (object : Option ℕ) → IsOf t h → ((o : ℕ) → object ≡ Some o → IsLive st o) → StepFits t st (retain_step h st object)
+pub retain_fits : (t : ℕ) (h : Holder) (st : State) (object : Option ℕ) → IsOf t h
+    → ((o : ℕ) → object ≡ Some o → IsLive st o) → StepFits t st (retain_step h st object)
 retain_fits t h st None of live = idle_fits t st _
 retain_fits t h st (Some o) of live =
     gains_fit t st (retain_step h st (Some o)) (held_by h o ∷ []) (same_bodies st) refl (of, tt) (λ p some. live p (leads_if p h (Some o) some))
@@ -144,7 +152,8 @@ moves_are_own : (t : ℕ) (k : Holder) (rs : List Reference) → AllOf t rs → 
 moves_are_own t k [] h own = tt
 moves_are_own t k (r ∷ rs) h own = (of_own t r.holder h.0, own, moves_are_own t k rs h.1 own)
 
-pub moves_fit : (t : ℕ) (st : State) (answer : Answer) (k : Holder) (rs : List Reference) → OwnAre t st.edges rs → IsOwn t k → ((b : ℕ) → slot b ≡ k → ⊥)
+pub moves_fit : (t : ℕ) (st : State) (answer : Answer) (k : Holder) (rs : List Reference) → OwnAre t st.edges rs
+    → IsOwn t k → ((b : ℕ) → slot b ≡ k → ⊥)
     → StepFits t st (flowing st answer (grows [] (moves_to k rs)))
 moves_fit t st answer k rs h own apart = record {
   own = (tt, moves_are_own t k rs h.thread own);
@@ -155,7 +164,8 @@ moves_fit t st answer k rs h own apart = record {
   slots = λ b o. omega (arith, moves_lost k (one (held_by (slot b) o)) rs, slots_none t b o rs h.thread, moves_other k (held_by (slot b) o) rs (apart b));
 }
 
-pub pack_fits : (t : ℕ) (st : State) (h : Holder) (object : Option ℕ) (u k : ℕ) → IsOf t h → StepFits t st (pack_step t st h object (parcel u k))
+pub pack_fits : (t : ℕ) (st : State) (h : Holder) (object : Option ℕ) (u k : ℕ) → IsOf t h
+    → StepFits t st (pack_step t st h object (parcel u k))
 pack_fits t st h None u k of = idle_fits t st _
 pack_fits t st h (Some o) u k of =
     moves_fit t st _ (parcel u k) (own_references t (held_by h o ∷ []) st.edges) (own_are t (held_by h o ∷ []) st.edges (of, tt)) tt (λ b. kinds_apart (slot b) (parcel u k) refl)
@@ -170,7 +180,8 @@ pub call_of : (t d : ℕ) (info item : Option ℕ) → AllOf t (call_references 
 call_of t d info item =
     of_append t (held_if (variable t d 0) info) (held_if (callout t d) item) (own_if t (variable t d 0) info (eq-eqb t t refl)) (own_if t (callout t d) item (eq-eqb t t refl))
 
-pub call_leads : (st : State) (t d : ℕ) (info item : Option ℕ) → ((o : ℕ) → info ≡ Some o → IsLive st o) → ((o : ℕ) → item ≡ Some o → IsLive st o)
+pub call_leads : (st : State) (t d : ℕ) (info item : Option ℕ) → ((o : ℕ) → info ≡ Some o → IsLive st o)
+    → ((o : ℕ) → item ≡ Some o → IsLive st o)
     → (o : ℕ) → 0 < degree o (call_references t d info item) → IsLive st o
 call_leads st t d info item live_info live_item o some = elim (eqb_tells (degree o (held_if (variable t d 0) info)) 0) [
   | inl e ↦ live_item o (leads_if o (callout t d) item (omega (arith, some, e.1, weigh-append (leading_to o) (held_if (variable t d 0) info) (held_if (callout t d) item))))
@@ -181,7 +192,8 @@ call_leads st t d info item live_info live_item o some = elim (eqb_tells (degree
     positive n h = grind (arith, nat_tests)
 
 -- a claim moves what the parcel has
-pub first_there : (h : Holder) (es : List Reference) (o : ℕ) → first_held h es ≡ Some o → 0 < weigh (one (held_by h o)) es
+pub first_there : (h : Holder) (es : List Reference) (o : ℕ) → first_held h es ≡ Some o
+    → 0 < weigh (one (held_by h o)) es
 first_there h [] o e = absurd cc
 first_there h (r ∷ rs) o e = by (same_holder h r.holder) refl e (first_there h rs o)
   where
@@ -190,7 +202,8 @@ first_there h (r ∷ rs) o e = by (same_holder h r.holder) refl e (first_there h
     by true test e rest = let same : r.object ≡ o = cc in let here : one (held_by h o) r ≡ 1 = rw (test, same) (ap counted (eq-eqb o o refl)) in omega (arith, here)
     by false test e rest = omega (arith, rest e)
 
-pub claim_fits : (t d v k : ℕ) (st : State) (object : Option ℕ) → first_held (parcel t k) st.edges ≡ object → StepFits t st (claim_step st (parcel t k) object (variable t d v))
+pub claim_fits : (t d v k : ℕ) (st : State) (object : Option ℕ) → first_held (parcel t k) st.edges ≡ object
+    → StepFits t st (claim_step st (parcel t k) object (variable t d v))
 claim_fits t d v k st None e = idle_fits t st _
 claim_fits t d v k st (Some o) e = record {
   own = (tt, (tt, refl, tt));

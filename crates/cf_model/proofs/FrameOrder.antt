@@ -31,19 +31,24 @@ FramesFit c [] = Unit {0}
 FramesFit c (f ∷ fs) = Owns (lines_done c f) f.bindings × FramesFit c fs
 
 -- the same bindings after the same lines
-pub other_kind : (c : Script) (f : Frame) (k : Kind) → frame_lines c k f.block ≡ frame_lines c f.kind f.block → Owns (lines_done c f) f.bindings → Owns (take f.number (frame_lines c k f.block)) f.bindings
+pub other_kind : (c : Script) (f : Frame) (k : Kind) → frame_lines c k f.block ≡ frame_lines c f.kind f.block
+    → Owns (lines_done c f) f.bindings → Owns (take f.number (frame_lines c k f.block)) f.bindings
 other_kind c f k e h = rw e h
 
-pub called_fit : (c : Script) (facts : Facts) (t : ℕ) (role : Role) (f : Frame) → Owns (lines_done c f) f.bindings → Owns (lines_done c (call_done facts t role f)) (call_done facts t role f).bindings
+pub called_fit : (c : Script) (facts : Facts) (t : ℕ) (role : Role) (f : Frame) → Owns (lines_done c f) f.bindings
+    → Owns (lines_done c (call_done facts t role f)) (call_done facts t role f).bindings
 called_fit c facts t role f h = other_kind c f (kind_called role f.kind) (called_lines c role f.kind f.block) h
 
-pub phase_fit : (c : Script) (facts : Facts) (t : ℕ) (p : Phase) (list : List ℕ) (f : Frame) → Owns (lines_done c f) f.bindings → Owns (lines_done c (phase_done facts t p list f)) (phase_done facts t p list f).bindings
+pub phase_fit : (c : Script) (facts : Facts) (t : ℕ) (p : Phase) (list : List ℕ) (f : Frame)
+    → Owns (lines_done c f) f.bindings
+    → Owns (lines_done c (phase_done facts t p list f)) (phase_done facts t p list f).bindings
 phase_fit c facts t p list f h = other_kind c f (kind_after facts t p f.kind) (phase_lines c facts t p f.kind f.block) h
 
 pub none_owns : Owns [] []
 none_owns = record { unbound = λ v e. (refl, refl); most = λ v. omega arith }
 
-pub handler_fit : (c : Script) (k : Callee) (called : Callout) → Owns (lines_done c (handler_frame k called)) (handler_frame k called).bindings
+pub handler_fit : (c : Script) (k : Callee) (called : Callout)
+    → Owns (lines_done c (handler_frame k called)) (handler_frame k called).bindings
 handler_fit c k called = record {
   unbound = λ v none.
       let none_here : one_of v 0 ≡ 0 = omega (arith, none) in
@@ -52,11 +57,14 @@ handler_fit c k called = record {
   most = λ v. omega arith;
 }
 
-pub run_frames_fit : (c : Script) (time : ℕ) (x : BlockLine) (b : Bool) (fs : List Frame) → FramesFit c fs → FramesFit c (run_frames time x b ++ fs)
+pub run_frames_fit : (c : Script) (time : ℕ) (x : BlockLine) (b : Bool) (fs : List Frame) → FramesFit c fs
+    → FramesFit c (run_frames time x b ++ fs)
 run_frames_fit c time (says (forms.Run m limit once)) true fs h = (none_owns, h)
 run_frames_fit c time x b fs h = h
 
-stop_fit_by : (c : Script) (k : Kind) (b n : ℕ) (bs : List Binding) (cs : List Callee) (fs : List Frame) → FramesFit c (frame k b n bs cs ∷ fs) → FramesFit c (stop_frames fs) → FramesFit c (stop_frames (frame k b n bs cs ∷ fs))
+stop_fit_by : (c : Script) (k : Kind) (b n : ℕ) (bs : List Binding) (cs : List Callee) (fs : List Frame)
+    → FramesFit c (frame k b n bs cs ∷ fs) → FramesFit c (stop_frames fs)
+    → FramesFit c (stop_frames (frame k b n bs cs ∷ fs))
 stop_fit_by c of_block b n bs cs fs h rest = (h.0, rest)
 stop_fit_by c (of_handler k) b n bs cs fs h rest = (h.0, rest)
 stop_fit_by c (of_run r) b n bs cs fs h rest = (h.0, h.1)
@@ -78,7 +86,8 @@ test_holds false r e = absurd cc
 none_bound : (n : ℕ) → ◌≡◌ {A = Option Reason} (cond (eqb n 0) None (Some Redefined)) None → n ≡ 0
 none_bound n e = eqb-true n 0 (test_holds (eqb n 0) Redefined e)
 
-own_of_use : (s : Script) (earlier : List BlockLine) (v : ℕ) → mention_fault s earlier (mentions.Uses v) ≡ None → HasOwn earlier v
+own_of_use : (s : Script) (earlier : List BlockLine) (v : ℕ) → mention_fault s earlier (mentions.Uses v) ≡ None
+    → HasOwn earlier v
 own_of_use s earlier v e =
     let h = none_first (unbound_fault earlier v) (unowned_fault earlier v) e in
     record {
@@ -91,7 +100,8 @@ abbrev pub HaveOwn : List BlockLine → List ℕ → Type 0
 HaveOwn earlier [] = Unit {0}
 HaveOwn earlier (v ∷ vs) = HasOwn earlier v × HaveOwn earlier vs
 
-uses_own : (s : Script) (earlier : List BlockLine) (ms : List (Option Mention)) → mentions_fault s earlier ms ≡ None → HaveOwn earlier (present (map used ms))
+uses_own : (s : Script) (earlier : List BlockLine) (ms : List (Option Mention)) → mentions_fault s earlier ms ≡ None
+    → HaveOwn earlier (present (map used ms))
 uses_own s earlier [] e = tt
 uses_own s earlier (None ∷ ms) e = uses_own s earlier ms e
 uses_own s earlier (Some (mentions.Uses v) ∷ ms) e =
@@ -103,7 +113,8 @@ uses_own s earlier (Some (mentions.Handler h) ∷ ms) e = uses_own s earlier ms 
 uses_own s earlier (Some (mentions.Thread t) ∷ ms) e = uses_own s earlier ms (none_first (mention_fault s earlier (mentions.Thread t)) (mentions_fault s earlier ms) e).1
 uses_own s earlier (Some mentions.Unknown ∷ ms) e = uses_own s earlier ms (none_first (mention_fault s earlier mentions.Unknown) (mentions_fault s earlier ms) e).1
 
-bind_fits_ownership : (s : Script) (earlier : List BlockLine) (ms : List (Option Mention)) → mentions_fault s earlier ms ≡ None → FitsOwnership earlier (bound_in ms)
+bind_fits_ownership : (s : Script) (earlier : List BlockLine) (ms : List (Option Mention))
+    → mentions_fault s earlier ms ≡ None → FitsOwnership earlier (bound_in ms)
 bind_fits_ownership s earlier [] e = tt
 bind_fits_ownership s earlier (None ∷ ms) e = tt
 bind_fits_ownership s earlier (Some (mentions.Binds v) ∷ ms) e = none_bound (bound v earlier) (none_first (mention_fault s earlier (mentions.Binds v)) (mentions_fault s earlier ms) e).0
@@ -113,12 +124,14 @@ bind_fits_ownership s earlier (Some (mentions.Handler h) ∷ ms) e = tt
 bind_fits_ownership s earlier (Some (mentions.Thread t) ∷ ms) e = tt
 bind_fits_ownership s earlier (Some mentions.Unknown ∷ ms) e = tt
 
-statement_fits_ownership : (s : Script) (earlier : List BlockLine) (x : Statement) → line_fault s earlier (says x) ≡ None → FitsOwnership earlier (ownership_of x)
+statement_fits_ownership : (s : Script) (earlier : List BlockLine) (x : Statement)
+    → line_fault s earlier (says x) ≡ None → FitsOwnership earlier (ownership_of x)
 statement_fits_ownership s earlier (forms.Retain v) e = own_of_use s earlier v (none_first (mention_fault s earlier (mentions.Uses v)) None e).0
 statement_fits_ownership s earlier (forms.Release v) e = own_of_use s earlier v (none_first (mention_fault s earlier (mentions.Uses v)) None e).0
 statement_fits_ownership s earlier x e = bind_fits_ownership s earlier (mentions_of x) e
 
-line_fits_ownership : (s : Script) (earlier : List BlockLine) (x : BlockLine) → line_fault s earlier x ≡ None → FitsOwnership earlier (line_ownership x)
+line_fits_ownership : (s : Script) (earlier : List BlockLine) (x : BlockLine) → line_fault s earlier x ≡ None
+    → FitsOwnership earlier (line_ownership x)
 line_fits_ownership s earlier (begins v) e = bind_fits_ownership s earlier (line_mentions (begins v)) e
 line_fits_ownership s earlier (claims k v) e = bind_fits_ownership s earlier (line_mentions (claims k v)) e
 line_fits_ownership s earlier (packs u k None) e = tt
@@ -127,7 +140,8 @@ line_fits_ownership s earlier (says x) e = statement_fits_ownership s earlier x 
 
 -- ---- lines at their places
 
-take_next : (xs : List BlockLine) (n : ℕ) (x : BlockLine) → slice_get xs n ≡ Some x → take (n + 1) xs ≡ take n xs ++ x ∷ []
+take_next : (xs : List BlockLine) (n : ℕ) (x : BlockLine) → slice_get xs n ≡ Some x
+    → take (n + 1) xs ≡ take n xs ++ x ∷ []
 take_next [] n x e = absurd cc
 take_next (y ∷ xs) zero x e = ap (λ (z : BlockLine). z ∷ []) cc
 take_next (y ∷ xs) (suc n) x e =
@@ -144,7 +158,8 @@ line_is : (x y : BlockLine) → ◌≡◌ {A = Option BlockLine} (Some x) (Some 
 line_is x y e = cc
 
 -- each line of lines without a fault has none after those before it
-pub fit_at : (s : Script) (earlier xs : List BlockLine) (n : ℕ) (x : BlockLine) → lines_fault s earlier xs ≡ None → slice_get xs n ≡ Some x → line_fault s (earlier ++ take n xs) x ≡ None
+pub fit_at : (s : Script) (earlier xs : List BlockLine) (n : ℕ) (x : BlockLine) → lines_fault s earlier xs ≡ None
+    → slice_get xs n ≡ Some x → line_fault s (earlier ++ take n xs) x ≡ None
 fit_at s earlier [] n x h e = absurd cc
 fit_at s earlier (y ∷ xs) zero x h e =
     let p = none_first (line_fault s earlier y) (lines_fault s (earlier ++ y ∷ []) xs) h in
@@ -163,7 +178,8 @@ block_fits c of_block b own = own.threads b
 block_fits c (of_handler k) b own = own.handlers b
 block_fits c (of_run r) b own = refl
 
-pub fit_line : (c : Script) (f : Frame) (x : BlockLine) → FitsByBlock c → slice_get (frame_lines c f.kind f.block) f.number ≡ Some x → FitLine (lines_done c f) x
+pub fit_line : (c : Script) (f : Frame) (x : BlockLine) → FitsByBlock c
+    → slice_get (frame_lines c f.kind f.block) f.number ≡ Some x → FitLine (lines_done c f) x
 fit_line c f x own e =
     let fit = fit_at c [] (frame_lines c f.kind f.block) f.number x (block_fits c f.kind f.block own) e in
     record {
@@ -175,11 +191,14 @@ fit_line c f x own e =
 abbrev pub MovesOn : Script → Frame → BlockLine → Type 0
 MovesOn c f x = (answer : Answer) → Follows (lines_done c f) x (lines_then c f x answer)
 
-pub moves_on : (c : Script) (f : Frame) (x : BlockLine) → FitsByBlock c → slice_get (frame_lines c f.kind f.block) f.number ≡ Some x → MovesOn c f x
+pub moves_on : (c : Script) (f : Frame) (x : BlockLine) → FitsByBlock c
+    → slice_get (frame_lines c f.kind f.block) f.number ≡ Some x → MovesOn c f x
 moves_on c f x own e answer = none_passed (lines_done c f) x (lines_then c f x answer) (take_next (frame_lines c f.kind f.block) f.number x e)
 
 -- a handler's frame at its end owns one reference to its info, and no other
-pub handler_balance : (c : Script) (f : Frame) (k : Callee) → FitsByBlock c → f.kind ≡ of_handler k → slice_get (handler_lines c f.block) f.number ≡ None → (v o : ℕ) → frame_holds c f v o ≡ one_if (look 0 f.bindings) o (one_of v 0)
+pub handler_balance : (c : Script) (f : Frame) (k : Callee) → FitsByBlock c → f.kind ≡ of_handler k
+    → slice_get (handler_lines c f.block) f.number ≡ None → (v o : ℕ)
+    → frame_holds c f v o ≡ one_if (look 0 f.bindings) o (one_of v 0)
 handler_balance c f k own e end v o =
     let lines = handler_lines c f.block in
     let whole : lines_done c f ≡ lines = rw e (take_all lines f.number end) in

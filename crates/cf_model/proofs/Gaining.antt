@@ -54,7 +54,8 @@ filter_most : {A : Type 0} (p : A → Bool) (xs : List A) → length (filter p x
 filter_most p [] = omega arith
 filter_most p (x ∷ xs) = by (p x) (filter_most p xs)
   where
-    by : (b : Bool) → length (filter p xs) ≤ length xs → length (cond b (x ∷ filter p xs) (filter p xs)) ≤ suc (length xs)
+    by : (b : Bool) → length (filter p xs) ≤ length xs
+        → length (cond b (x ∷ filter p xs) (filter p xs)) ≤ suc (length xs)
     by true h = omega (arith, h)
     by false h = omega (arith, h)
 
@@ -62,7 +63,8 @@ length_modes : (ms : List ℕ) → length (map Mode ms) ≡ length ms
 length_modes [] = refl
 length_modes (m ∷ ms) = ap suc (length_modes ms)
 
-added_most : (s : Script) (u i : ℕ) (st : State) (p : Place) (o : ℕ) → degree o (held_at u i (places_added s u i st p)) ≤ length s.modes + 1
+added_most : (s : Script) (u i : ℕ) (st : State) (p : Place) (o : ℕ)
+    → degree o (held_at u i (places_added s u i st p)) ≤ length s.modes + 1
 added_most s u i st Common o =
     let cm = common_modes s u st.parts in
     let few : length cm ≤ length (modes_of s) = filter_most (is_common u st.parts.commons) (modes_of s) in
@@ -81,11 +83,13 @@ times_filter : (o : ℕ) (p : ℕ → Bool) (xs : List ℕ) → times o (filter 
 times_filter o p [] = omega arith
 times_filter o p (x ∷ xs) = by (p x) (times_filter o p xs)
   where
-    by : (b : Bool) → times o (filter p xs) ≤ times o xs → times o (cond b (x ∷ filter p xs) (filter p xs)) ≤ times o (x ∷ xs)
+    by : (b : Bool) → times o (filter p xs) ≤ times o xs
+        → times o (cond b (x ∷ filter p xs) (filter p xs)) ≤ times o (x ∷ xs)
     by true h = omega (arith, h)
     by false h = omega (arith, h)
 
-common_most : (u m : ℕ) (st : State) (o : ℕ) → degree o (map (held_by (in_mode u m)) (items_gained (λ i. has (in_mode u m) i st.edges) (common_items st u))) ≤ 1
+common_most : (u m : ℕ) (st : State) (o : ℕ)
+    → degree o (map (held_by (in_mode u m)) (items_gained (λ i. has (in_mode u m) i st.edges) (common_items st u))) ≤ 1
 common_most u m st o =
     let items = common_items st u in
     omega (
@@ -102,11 +106,13 @@ common_most u m st o =
 abbrev Few : ℕ → Deal → Type 0
 Few o deal = degree o deal.enters ≤ 1025
 
-few_used : (o : ℕ) (p : Parts) (used : Option ℕ) (deal : ℕ → Deal) → ((i : ℕ) → Few o (deal i)) → Few o (with_used p used deal)
+few_used : (o : ℕ) (p : Parts) (used : Option ℕ) (deal : ℕ → Deal) → ((i : ℕ) → Few o (deal i))
+    → Few o (with_used p used deal)
 few_used o p None deal h = omega arith
 few_used o p (Some i) deal h = h i
 
-few_thing : (o : ℕ) (p : Parts) (used : Option ℕ) (deal : ℕ → Thing → Deal) → ((i : ℕ) (x : Thing) → Few o (deal i x)) → Few o (with_thing p used deal)
+few_thing : (o : ℕ) (p : Parts) (used : Option ℕ) (deal : ℕ → Thing → Deal) → ((i : ℕ) (x : Thing) → Few o (deal i x))
+    → Few o (with_thing p used deal)
 few_thing o p None deal h = omega arith
 few_thing o p (Some i) deal h = by (thing_at p i)
   where
@@ -114,7 +120,8 @@ few_thing o p (Some i) deal h = by (thing_at p i)
     by None = omega arith
     by (Some x) = h i x
 
-few_filter : (o : ℕ) (p : Parts) (v object : Option ℕ) (deal : Option ℕ → Deal) → ((q : Option ℕ) → Few o (deal q)) → Few o (with_filter p v object deal)
+few_filter : (o : ℕ) (p : Parts) (v object : Option ℕ) (deal : Option ℕ → Deal) → ((q : Option ℕ) → Few o (deal q))
+    → Few o (with_filter p v object deal)
 few_filter o p None object deal h = h None
 few_filter o p (Some v) object deal h = few_used o p object (λ q. deal (Some q)) (λ q. h (Some q))
 
@@ -135,17 +142,20 @@ times_length : (o : ℕ) (xs : List ℕ) → times o xs ≤ length xs
 times_length o [] = omega arith
 times_length o (x ∷ xs) = omega (arith, one_most (eqb x o), times_length o xs)
 
-few_change : (o : ℕ) (p : Parts) (answer : Answer) (b : Option ℕ) (change : Change) → length (named_in change) ≤ 2 → Few o (change_deal p answer b change)
+few_change : (o : ℕ) (p : Parts) (answer : Answer) (b : Option ℕ) (change : Change) → length (named_in change) ≤ 2
+    → Few o (change_deal p answer b change)
 few_change o p answer None change few = omega arith
 few_change o p answer (Some b) change few =
     let taken = taken_in (slice_get p.objects b) change in
     omega (arith, held_objects (slot b) o taken, taken_most o change (slice_get p.objects b), times_length o (named_in change), few)
 
-few_named : (answer : Answer) (change : Change) → length (named_in change) ≤ 2 → length (named_in (change_unless_skipped answer change)) ≤ 2
+few_named : (answer : Answer) (change : Change) → length (named_in change) ≤ 2
+    → length (named_in (change_unless_skipped answer change)) ≤ 2
 few_named answers.Skip change few = omega arith
 few_named _ change few = few
 
-deed_few : (s : Script) (st : State) (x : Statement) (used : List (Option ℕ)) → length (named_in (deed_at s.classes st.parts.objects x used).change) ≤ 2
+deed_few : (s : Script) (st : State) (x : Statement) (used : List (Option ℕ))
+    → length (named_in (deed_at s.classes st.parts.objects x used).change) ≤ 2
 deed_few s st x used =
     (form_fits s.classes x (numbered st.parts.objects (used_at used 0)) (numbered st.parts.objects (used_at used 1)) (numbered st.parts.objects (used_at used 2))).used.few
 
@@ -163,7 +173,8 @@ module _ (s : Script) (t : ℕ) (st : State) (o : ℕ) (modes : length s.modes �
   few_common : (u m : ℕ) → Few o (common_deal st u m)
   few_common u m = by (is_common u st.parts.commons m)
     where
-      by : (b : Bool) → Few o (cond b (answering st.parts answers.Present) (record (okay st.parts) { parts = record st.parts { commons = record { thread = u; mode = m } ∷ st.parts.commons }; enters = map (held_by (in_mode u m)) (items_gained (λ i. has (in_mode u m) i st.edges) (common_items st u)) }))
+      by : (b : Bool)
+          → Few o (cond b (answering st.parts answers.Present) (record (okay st.parts) { parts = record st.parts { commons = record { thread = u; mode = m } ∷ st.parts.commons }; enters = map (held_by (in_mode u m)) (items_gained (λ i. has (in_mode u m) i st.edges) (common_items st u)) }))
       by true = omega arith
       by false = omega (arith, common_most u m st o)
 
@@ -192,7 +203,9 @@ module _ (s : Script) (t : ℕ) (st : State) (o : ℕ) (modes : length s.modes �
   if_few h None = omega arith
   if_few h (Some x) = omega (arith, one_most (eqb x o))
 
-  bind_few : (h : Holder) (answer : Answer) (origin : Origin) → ((ob : Object) → origin ≡ fresh ob → length (slots_in ob.content) ≤ 1) → gains o (bind_step h st.parts (record { answer = answer; origin = origin })).flow ≤ 1025
+  bind_few : (h : Holder) (answer : Answer) (origin : Origin)
+      → ((ob : Object) → origin ≡ fresh ob → length (slots_in ob.content) ≤ 1)
+      → gains o (bind_step h st.parts (record { answer = answer; origin = origin })).flow ≤ 1025
   bind_few h answer nowhere few = omega arith
   bind_few h answer (fresh ob) few =
       let slots = slots_in ob.content in
@@ -207,7 +220,8 @@ module _ (s : Script) (t : ℕ) (st : State) (o : ℕ) (modes : length s.modes �
   object_is : (a b : Object) → fresh a ≡ fresh b → a ≡ b
   object_is a b e = cc
 
-  bound_few : (h : Holder) (x : Statement) (used : List (Option ℕ)) (made : Option Made) → gains o (bind_step h st.parts (bound_if s st.parts x used made)).flow ≤ 1025
+  bound_few : (h : Holder) (x : Statement) (used : List (Option ℕ)) (made : Option Made)
+      → gains o (bind_step h st.parts (bound_if s st.parts x used made)).flow ≤ 1025
   bound_few h x used (Some m) =
       bind_few h answers.Skip (fresh (record { class = class_of m.item; content = item_content m.handler (first_of used) true m.item }))
       (λ ob e. subst (λ (b : Object). length (slots_in b.content) ≤ 1) (object_is (record { class = class_of m.item; content = item_content m.handler (first_of used) true m.item }) ob e) (info_few (first_of used)))
@@ -224,7 +238,8 @@ module _ (s : Script) (t : ℕ) (st : State) (o : ℕ) (modes : length s.modes �
   cut_few None = omega arith
   cut_few (Some r) = omega arith
 
-  statement_few : (d : ℕ) (x : Statement) (used : List (Option ℕ)) (ownership : Ownership) → gains o (statement_step s t d st x used ownership).flow ≤ 1025
+  statement_few : (d : ℕ) (x : Statement) (used : List (Option ℕ)) (ownership : Ownership)
+      → gains o (statement_step s t d st x used ownership).flow ≤ 1025
   statement_few d x used Keeps = deal_few x used
   statement_few d x used (Binds v) = bound_few (variable t d v) x used (item_made x)
   statement_few d x used (Retains v) = retain_few (variable t d v) (first_of used)
@@ -272,11 +287,13 @@ module _ (s : Script) (t : ℕ) (st : State) (o : ℕ) (modes : length s.modes �
   demand_few fs (enters p) = phase_few p (top_kind fs)
   demand_few fs closes = close_few (top_kind fs)
 
-flow_few : (s : Script) (t : ℕ) (st : State) (o : ℕ) → length s.modes ≤ 1024 → (d : Option Demand) → gains o (flow_if s t st d) ≤ 1025
+flow_few : (s : Script) (t : ℕ) (st : State) (o : ℕ) → length s.modes ≤ 1024 → (d : Option Demand)
+    → gains o (flow_if s t st d) ≤ 1025
 flow_few s t st o modes None = omega arith
 flow_few s t st o modes (Some d) = demand_few s t st o modes (frames_at t st) d
 
-pub few_gained : (s : Script) (st : State) (t : ℕ) (a : Action) (o : ℕ) → length s.modes ≤ 1024 → gains o (flow_in s t st a) ≤ 1025
+pub few_gained : (s : Script) (st : State) (t : ℕ) (a : Action) (o : ℕ) → length s.modes ≤ 1024
+    → gains o (flow_in s t st a) ≤ 1025
 few_gained s st t a o modes = by a (action_view a)
   where
     by : (a : Action) → ActionView a → gains o (flow_in s t st a) ≤ 1025

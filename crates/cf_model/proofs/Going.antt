@@ -80,7 +80,8 @@ module _ (w : ℕ) (st : State) where
   used_go None deal h = same_go
   used_go (Some o) deal h = h o
 
-  thing_go : (used : Option ℕ) (deal : ℕ → Thing → Deal) → ((i : ℕ) (x : Thing) → Go (deal i x)) → Go (with_thing st.parts used deal)
+  thing_go : (used : Option ℕ) (deal : ℕ → Thing → Deal) → ((i : ℕ) (x : Thing) → Go (deal i x))
+      → Go (with_thing st.parts used deal)
   thing_go None deal h = same_go
   thing_go (Some i) deal h = by (thing_at st.parts i)
     where
@@ -88,7 +89,8 @@ module _ (w : ℕ) (st : State) where
       by None = same_go
       by (Some x) = h i x
 
-  filter_go : (v object : Option ℕ) (deal : Option ℕ → Deal) → ((f : Option ℕ) → Go (deal f)) → Go (with_filter st.parts v object deal)
+  filter_go : (v object : Option ℕ) (deal : Option ℕ → Deal) → ((f : Option ℕ) → Go (deal f))
+      → Go (with_filter st.parts v object deal)
   filter_go None object deal h = h None
   filter_go (Some v) object deal h = used_go object (λ o. deal (Some o)) (λ o. h (Some o))
 
@@ -151,7 +153,8 @@ module _ (w : ℕ) (st : State) where
   pack_go t h k None = same_go
   pack_go t h k (Some o) = same_go
 
-  statement_go : (s : Script) (t d : ℕ) (x : Statement) (used : List (Option ℕ)) (ownership : Ownership) → StepGo (statement_step s t d st x used ownership)
+  statement_go : (s : Script) (t d : ℕ) (x : Statement) (used : List (Option ℕ)) (ownership : Ownership)
+      → StepGo (statement_step s t d st x used ownership)
   statement_go s t d x used Keeps = deal_goes s t x used
   statement_go s t d x used (Binds v) = same_go
   statement_go s t d x used (Retains v) = retain_go (variable t d v) (first_of used)
@@ -166,7 +169,8 @@ module _ (w : ℕ) (st : State) where
   end_go : (t : ℕ) → StepGo (end_step t st)
   end_go t = by (eqb t 0)
     where
-      by : (b : Bool) → FlagsGo w st.parts.flags (cond b (record st.parts { flags = start_all st.parts.flags }) st.parts).flags
+      by : (b : Bool)
+          → FlagsGo w st.parts.flags (cond b (record st.parts { flags = start_all st.parts.flags }) st.parts).flags
       by true = all_go (λ (f : Flags). record f { is_started = true }) (λ f. record { started = λ e. refl; stays_awake = λ e. e }) w st.parts.flags
       by false = same_go
 
@@ -204,7 +208,8 @@ module _ (w : ℕ) (st : State) where
 
 -- ---- entries
 
-stopped_done : (stops : Option ℕ) (w : ℕ) (ss : List Stand) → (stand_at w (stopped_at stops ss)).is_done ≡ (stand_at w ss).is_done
+stopped_done : (stops : Option ℕ) (w : ℕ) (ss : List Stand)
+    → (stand_at w (stopped_at stops ss)).is_done ≡ (stand_at w ss).is_done
 stopped_done None w ss = refl
 stopped_done (Some u) w ss = elim (eqb_tells w u) [
   | inl e ↦ subst (λ (n : ℕ). (stand_at n (stopped_at (Some u) ss)).is_done ≡ (stand_at n ss).is_done) (sym e.1) (ap (λ (s : Stand). s.is_done) (at_own blank u (stop_stand (stand_at u ss)) ss))
@@ -215,7 +220,8 @@ pub record ThreadGoes (w : ℕ) (st next : State) : Type 0 where
   pub flags : FlagsGo w st.parts.flags next.parts.flags
   pub done : (stand_at w next.stands).is_done ≡ (stand_at w st.stands).is_done
 
-pub acted_goes : (s : Script) (t w : ℕ) (st : State) (d : Option Demand) → (w ≡ t → ⊥) → ThreadGoes w st (acted s t st d)
+pub acted_goes : (s : Script) (t w : ℕ) (st : State) (d : Option Demand) → (w ≡ t → ⊥)
+    → ThreadGoes w st (acted s t st d)
 acted_goes s t w st None apart = record { flags = same_flag (flags_at w st.parts.flags); done = refl }
 acted_goes s t w st (Some d) apart =
     let step = step_of s t st (frames_at t st) d in
@@ -225,7 +231,8 @@ acted_goes s t w st (Some d) apart =
       done = stopped_done step.stops w (with_stand t new st.stands) ∙ ap (λ (x : Stand). x.is_done) (at_other blank w t new st.stands apart);
     }
 
-pub entry_goes : (s : Script) (t w : ℕ) (st : State) (a : Action) → (w ≡ t → ⊥) → ThreadGoes w st (after_action s t st a)
+pub entry_goes : (s : Script) (t w : ℕ) (st : State) (a : Action) → (w ≡ t → ⊥)
+    → ThreadGoes w st (after_action s t st a)
 entry_goes s t w st (actions.Tick n) apart = record { flags = all_go (tick_flags n) (tick_goes n) w st.parts.flags; done = refl }
 entry_goes s t w st actions.Stall apart = record { flags = same_flag (flags_at w st.parts.flags); done = refl }
 entry_goes s t w st a apart = acted_goes s t w st (demanded s st t) apart

@@ -53,38 +53,48 @@ module _ (ts : List ℕ) (u : ℕ) (among : list_any (λ t. t == u) ts ≡ true)
   all_held o [] own = refl
   all_held o (r ∷ rs) own = omega (arith, one_held o r own.0, all_held o rs own.1)
 
-  moves_held : (o : ℕ) (ms : List Move) → MovesOwn u ms → won_by_moves (held_with ts o) ms ≡ lost_by_moves (held_with ts o) ms
+  moves_held : (o : ℕ) (ms : List Move) → MovesOwn u ms
+      → won_by_moves (held_with ts o) ms ≡ lost_by_moves (held_with ts o) ms
   moves_held o [] own = refl
   moves_held o (m ∷ ms) own = omega (arith, one_held o (moved m.from m.to) own.1, one_held o m.from own.0, moves_held o ms own.2)
 
-  flow_held : (o : ℕ) (f : Flow) (es : List Reference) → FlowOwn u f → IsThere f es → weigh (held_with ts o) (flowed f es) + cuts o f ≡ weigh (held_with ts o) es + gains o f
+  flow_held : (o : ℕ) (f : Flow) (es : List Reference) → FlowOwn u f → IsThere f es
+      → weigh (held_with ts o) (flowed f es) + cuts o f ≡ weigh (held_with ts o) es + gains o f
   flow_held o (grows ins ms) es own can = omega (arith, weigh-flow (held_with ts o) (grows ins ms) es can, all_held o ins own.0, moves_held o ms own.1)
   flow_held o (shrinks r) es own can = omega (arith, weigh-flow (held_with ts o) (shrinks r) es can, one_held o r own)
 
 -- a flow moves the number of references to an object by all that it adds and takes away, since it does not do both
-pub flow_apart : (o : ℕ) (f : Flow) (es : List Reference) → IsThere f es → apart (degree o es) (degree o (flowed f es)) ≡ gains o f + cuts o f
+pub flow_apart : (o : ℕ) (f : Flow) (es : List Reference) → IsThere f es
+    → apart (degree o es) (degree o (flowed f es)) ≡ gains o f + cuts o f
 flow_apart o (grows ins ms) es can = omega (arith, degree-flow o (grows ins ms) es can)
 flow_apart o (shrinks r) es can = omega (arith, degree-flow o (shrinks r) es can)
 
 -- ---- entries
 
 pub record FlowTells (s : Script) (st : State) (u : ℕ) (a : Action) : Type 0 where
-  pub held : (ts : List ℕ) (o : ℕ) → list_any (λ t. t == u) ts ≡ true → weigh (held_with ts o) (after_action s u st a).edges + cuts o (flow_in s u st a) ≡ weigh (held_with ts o) st.edges + gains o (flow_in s u st a)
-  pub gained : (o : ℕ) → 0 < gains o (flow_in s u st a) → ((times o st.parts.finalised ≡ 0) × (o < length st.parts.objects)) ⊎ (o ≡ length st.parts.objects)
-  pub changed : (o : ℕ) → apart (degree o st.edges) (degree o (after_action s u st a).edges) ≡ gains o (flow_in s u st a) + cuts o (flow_in s u st a)
+  pub held : (ts : List ℕ) (o : ℕ) → list_any (λ t. t == u) ts ≡ true
+      → weigh (held_with ts o) (after_action s u st a).edges + cuts o (flow_in s u st a) ≡ weigh (held_with ts o) st.edges + gains o (flow_in s u st a)
+  pub gained : (o : ℕ) → 0 < gains o (flow_in s u st a)
+      → ((times o st.parts.finalised ≡ 0) × (o < length st.parts.objects)) ⊎ (o ≡ length st.parts.objects)
+  pub changed : (o : ℕ)
+      → apart (degree o st.edges) (degree o (after_action s u st a).edges) ≡ gains o (flow_in s u st a) + cuts o (flow_in s u st a)
 
-flow_gains : (st : State) (p : Parts) (f : Flow) (o : ℕ) → FlowFits st p f → 0 < gains o f → ((times o st.parts.finalised ≡ 0) × (o < length st.parts.objects)) ⊎ (o ≡ length st.parts.objects)
+flow_gains : (st : State) (p : Parts) (f : Flow) (o : ℕ) → FlowFits st p f → 0 < gains o f
+    → ((times o st.parts.finalised ≡ 0) × (o < length st.parts.objects)) ⊎ (o ≡ length st.parts.objects)
 flow_gains st p (grows ins ms) o fits some = elim (fits.live o some) [ inl live ↦ inl live | inr new ↦ inr new.0 ]
 flow_gains st p (shrinks r) o fits some = absurd (omega (arith, some))
 
-step_tells : (s : Script) (st : State) (u : ℕ) (a : Action) (step : Step) → (after_action s u st a).edges ≡ flowed step.flow st.edges → flow_in s u st a ≡ step.flow → StepFits u st step → FlowTells s st u a
+step_tells : (s : Script) (st : State) (u : ℕ) (a : Action) (step : Step)
+    → (after_action s u st a).edges ≡ flowed step.flow st.edges → flow_in s u st a ≡ step.flow → StepFits u st step
+    → FlowTells s st u a
 step_tells s st u a step after flow fits = record {
   held = λ ts o among. rw (after, flow) (flow_held ts u among o step.flow st.edges fits.own fits.there);
   gained = λ o some. flow_gains st step.parts step.flow o fits.flow (subst (λ (f : Flow). 0 < gains o f) flow some);
   changed = λ o. rw (after, flow) (flow_apart o step.flow st.edges fits.there);
 }
 
-pub entry_tells : (s : Script) (st : State) (u : ℕ) (a : Action) (x : Answer) → IsSteady st → ActionView a → IsLegalAs s st (record { thread = u; action = a; answer = x }) a → FlowTells s st u a
+pub entry_tells : (s : Script) (st : State) (u : ℕ) (a : Action) (x : Answer) → IsSteady st → ActionView a
+    → IsLegalAs s st (record { thread = u; action = a; answer = x }) a → FlowTells s st u a
 entry_tells s st u _ x h (is_tick n) legal = record { held = λ ts o among. refl; gained = λ o some. absurd (omega (arith, some)); changed = λ o. omega arith }
 entry_tells s st u _ x h is_stall legal = record { held = λ ts o among. refl; gained = λ o some. absurd (omega (arith, some)); changed = λ o. omega arith }
 entry_tells s st u a x h (is_step _ step) legal =
@@ -94,19 +104,23 @@ entry_tells s st u a x h (is_step _ step) legal =
     (ap (λ (y : State). y.edges) (step_after s st e step done))
     (step.flow s u st ∙ ap (flow_if s u st) done.acts.demands) done.fits
 
-pub entry_flow : (s : Script) (journal more : List Entry) (e : Entry) → IsLegal s (journal ++ e ∷ more) → FlowTells s (After s journal) e.thread e.action
+pub entry_flow : (s : Script) (journal more : List Entry) (e : Entry) → IsLegal s (journal ++ e ∷ more)
+    → FlowTells s (After s journal) e.thread e.action
 entry_flow s journal more e legal =
     let parts = split_part s (start s) journal (e ∷ more) (part_of_legal s (start s) (journal ++ e ∷ more) legal) in
     let steady = (kept_part s (start s) journal (start_steady s) parts.0).steady in
     entry_tells s (After s journal) e.thread e.action e.answer steady (action_view e.action) parts.1.0
 
-pub held_changes : (s : Script) (journal more : List Entry) (e : Entry) (ts : List ℕ) → IsLegal s (journal ++ e ∷ more) → HeldChanges s journal e ts
+pub held_changes : (s : Script) (journal more : List Entry) (e : Entry) (ts : List ℕ) → IsLegal s (journal ++ e ∷ more)
+    → HeldChanges s journal e ts
 held_changes s journal more e ts legal o among = (entry_flow s journal more e legal).held ts o among
 
-pub gains_fit : (s : Script) (journal more : List Entry) (e : Entry) → IsLegal s (journal ++ e ∷ more) → GainsFit s journal e
+pub gains_fit : (s : Script) (journal more : List Entry) (e : Entry) → IsLegal s (journal ++ e ∷ more)
+    → GainsFit s journal e
 gains_fit s journal more e legal o some = (entry_flow s journal more e legal).gained o some
 
-pub changes_grow : (s : Script) (journal more : List Entry) (e : Entry) → IsLegal s (journal ++ e ∷ more) → ChangesGrow s journal e
+pub changes_grow : (s : Script) (journal more : List Entry) (e : Entry) → IsLegal s (journal ++ e ∷ more)
+    → ChangesGrow s journal e
 changes_grow s journal more e legal o =
     omega (arith, changes_append s o journal (e ∷ []), (entry_flow s journal more e legal).changed o)
 

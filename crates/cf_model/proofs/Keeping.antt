@@ -38,7 +38,8 @@ stand f fs work done = record { frames = f ∷ fs; work = work; is_done = done }
 
 -- a step keeps what its thread's own holders hold: each has afterwards what the flow says
 pub record KeepsOwn (c : Script) (t : ℕ) (old : Stand) (f : Flow) (new : Stand) : Type 0 where
-  pub variables : (d v o : ℕ) → Balanced f (variable t d v) o (frames_hold c old.frames d v o) (frames_hold c new.frames d v o)
+  pub variables : (d v o : ℕ)
+      → Balanced f (variable t d v) o (frames_hold c old.frames d v o) (frames_hold c new.frames d v o)
   pub callouts : (d o : ℕ) → Balanced f (callout t d) o (callouts_hold old.frames d o) (callouts_hold new.frames d o)
   pub owed : (o : ℕ) → Balanced f (owed t) o (owed_in o old.work) (owed_in o new.work)
 
@@ -62,14 +63,20 @@ NoCallouts t fl = (d o : ℕ) → flow_won (one (held_by (callout t d) o)) fl �
 
 -- the flow of a line: what it wins and loses by the variables of its frame
 pub record LineFlow (t depth : ℕ) (bs : List Binding) (ownership : Ownership) (object : Option ℕ) (fl : Flow) : Type 0 where
-  pub won : (d v o : ℕ) → flow_won (one (held_by (variable t d v) o)) fl ≡ cond (eqb depth d) (wins bs ownership object v o) 0
-  pub lost : (d v o : ℕ) → flow_lost (one (held_by (variable t d v) o)) fl ≡ cond (eqb depth d) (loses bs ownership v o) 0
+  pub won : (d v o : ℕ)
+      → flow_won (one (held_by (variable t d v) o)) fl ≡ cond (eqb depth d) (wins bs ownership object v o) 0
+  pub lost : (d v o : ℕ)
+      → flow_lost (one (held_by (variable t d v) o)) fl ≡ cond (eqb depth d) (loses bs ownership v o) 0
   pub callouts : NoCallouts t fl
 
-line_after : (c : Script) (facts : Facts) (t : ℕ) (x : BlockLine) (answer : Answer) (list : List ℕ) (f : Frame) (ownership : Ownership) (object : Option ℕ) → line_ownership x ≡ ownership → bound_object facts t answer x ≡ object → (v o : ℕ) → frame_holds c (line_done facts t x answer list f) v o ≡ count_of (lines_then c f x answer) (bindings_by ownership object ++ f.bindings) v o
+line_after : (c : Script) (facts : Facts) (t : ℕ) (x : BlockLine) (answer : Answer) (list : List ℕ) (f : Frame)
+    (ownership : Ownership) (object : Option ℕ)
+    → line_ownership x ≡ ownership → bound_object facts t answer x ≡ object → (v o : ℕ)
+    → frame_holds c (line_done facts t x answer list f) v o ≡ count_of (lines_then c f x answer) (bindings_by ownership object ++ f.bindings) v o
 line_after c facts t x answer list f ownership object k b v o = rw (k, b) refl
 
-pub line_keeps : (c : Script) (facts : Facts) (t : ℕ) (f : Frame) (fs : List Frame) (work : List Work) (done : Bool) (x : BlockLine) (answer : Answer) (finals list : List ℕ) (fl : Flow) (ownership : Ownership) (object : Option ℕ)
+pub line_keeps : (c : Script) (facts : Facts) (t : ℕ) (f : Frame) (fs : List Frame) (work : List Work) (done : Bool)
+    (x : BlockLine) (answer : Answer) (finals list : List ℕ) (fl : Flow) (ownership : Ownership) (object : Option ℕ)
     → line_ownership x ≡ ownership
     → bound_object facts t answer x ≡ object
     → OwnsAfter (lines_done c f) (lines_then c f x answer) f.bindings ownership object
@@ -113,21 +120,24 @@ cond_zero : (b : Bool) → ◌≡◌ {A = ℕ} 0 (cond b 0 0)
 cond_zero true = refl
 cond_zero false = refl
 
-pub bind_flow : (t depth w n : ℕ) (bs : List Binding) (object : Option ℕ) (origin : Origin) → LineFlow t depth bs (Binds w) object (grows (held_if (variable t depth w) object ++ new_slots n origin) [])
+pub bind_flow : (t depth w n : ℕ) (bs : List Binding) (object : Option ℕ) (origin : Origin)
+    → LineFlow t depth bs (Binds w) object (grows (held_if (variable t depth w) object ++ new_slots n origin) [])
 bind_flow t depth w n bs object origin = record {
   won = λ d v o. omega (arith, weigh-append (one (held_by (variable t d v) o)) (held_if (variable t depth w) object) (new_slots n origin), at_depth t d depth v w o object, no_slots t d v o n origin);
   lost = λ d v o. cond_zero (eqb depth d);
   callouts = λ d o. omega (arith, weigh-append (one (held_by (callout t d) o)) (held_if (variable t depth w) object) (new_slots n origin), held_if_apart (held_by (callout t d) o) (variable t depth w) object (kinds_apart (callout t d) (variable t depth w) refl), no_slots_called t d o n origin);
 }
 
-pub retain_flow : (t depth w : ℕ) (bs : List Binding) (object bound : Option ℕ) → look w bs ≡ object → LineFlow t depth bs (Retains w) bound (grows (held_if (variable t depth w) object) [])
+pub retain_flow : (t depth w : ℕ) (bs : List Binding) (object bound : Option ℕ) → look w bs ≡ object
+    → LineFlow t depth bs (Retains w) bound (grows (held_if (variable t depth w) object) [])
 retain_flow t depth w bs object bound e = record {
   won = λ d v o. rw e (omega (arith, at_depth t d depth v w o object));
   lost = λ d v o. cond_zero (eqb depth d);
   callouts = λ d o. omega (arith, held_if_apart (held_by (callout t d) o) (variable t depth w) object (kinds_apart (callout t d) (variable t depth w) refl));
 }
 
-pub release_flow : (t depth w x : ℕ) (bs : List Binding) (bound : Option ℕ) → look w bs ≡ Some x → LineFlow t depth bs (Releases w) bound (shrinks (held_by (variable t depth w) x))
+pub release_flow : (t depth w x : ℕ) (bs : List Binding) (bound : Option ℕ) → look w bs ≡ Some x
+    → LineFlow t depth bs (Releases w) bound (shrinks (held_by (variable t depth w) x))
 release_flow t depth w x bs bound e = record {
   won = λ d v o. cond_zero (eqb depth d);
   lost = λ d v o. rw e (omega (arith, at_depth t d depth v w o (Some x)));
@@ -135,7 +145,8 @@ release_flow t depth w x bs bound e = record {
 }
 
 -- an empty variable has nothing to lose
-pub skip_flow : (t depth w : ℕ) (bs : List Binding) (bound : Option ℕ) → look w bs ≡ None → LineFlow t depth bs (Releases w) bound still
+pub skip_flow : (t depth w : ℕ) (bs : List Binding) (bound : Option ℕ) → look w bs ≡ None
+    → LineFlow t depth bs (Releases w) bound still
 skip_flow t depth w bs bound e = record {
   won = λ d v o. cond_zero (eqb depth d);
   lost = λ d v o. rw e (cond_zero (eqb depth d));
@@ -147,7 +158,8 @@ abbrev pub claim_by : Holder → Option ℕ → Holder → Flow
 claim_by h None k = still
 claim_by h (Some o) k = grows [] (moves_to k (held_by h o ∷ []))
 
-pub claim_flow : (t depth w k : ℕ) (bs : List Binding) (object : Option ℕ) → LineFlow t depth bs (Binds w) object (claim_by (parcel t k) object (variable t depth w))
+pub claim_flow : (t depth w k : ℕ) (bs : List Binding) (object : Option ℕ)
+    → LineFlow t depth bs (Binds w) object (claim_by (parcel t k) object (variable t depth w))
 claim_flow t depth w k bs None = record { won = λ d v o. cond_zero (eqb depth d); lost = λ d v o. cond_zero (eqb depth d); callouts = λ d o. refl }
 claim_flow t depth w k bs (Some x) = record {
   won = λ d v o. omega (arith, at_depth t d depth v w o (Some x));
@@ -155,7 +167,8 @@ claim_flow t depth w k bs (Some x) = record {
   callouts = λ d o. refl;
 }
 
-pub pack_flow : (t depth w u k x : ℕ) (bs : List Binding) (bound : Option ℕ) → look w bs ≡ Some x → LineFlow t depth bs (Releases w) bound (grows [] (moves_to (parcel u k) (held_by (variable t depth w) x ∷ [])))
+pub pack_flow : (t depth w u k x : ℕ) (bs : List Binding) (bound : Option ℕ) → look w bs ≡ Some x
+    → LineFlow t depth bs (Releases w) bound (grows [] (moves_to (parcel u k) (held_by (variable t depth w) x ∷ [])))
 pack_flow t depth w u k x bs bound e = record {
   won = λ d v o. cond_zero (eqb depth d);
   lost = λ d v o. rw e (omega (arith, at_depth t d depth v w o (Some x)));
@@ -163,7 +176,8 @@ pack_flow t depth w u k x bs bound e = record {
 }
 
 -- what a deal does to bodies and loops does nothing to variables and callouts
-pub deal_flow : (t depth : ℕ) (bs : List Binding) (bound : Option ℕ) (ins outs : List Reference) → AllPlaces ins → AllPlaces outs → LineFlow t depth bs Keeps bound (grows ins (moves_to (owed t) outs))
+pub deal_flow : (t depth : ℕ) (bs : List Binding) (bound : Option ℕ) (ins outs : List Reference) → AllPlaces ins
+    → AllPlaces outs → LineFlow t depth bs Keeps bound (grows ins (moves_to (owed t) outs))
 deal_flow t depth bs bound ins outs i o = record {
   won = λ d v q. omega (arith, places_weigh (held_by (variable t d v) q) ins (λ x. x) i, moves_other (owed t) (held_by (variable t d v) q) outs (kinds_apart (variable t d v) (owed t) refl), cond_zero (eqb depth d));
   lost = λ d v q. omega (arith, moves_lost (owed t) (one (held_by (variable t d v) q)) outs, places_weigh (held_by (variable t d v) q) outs (λ x. x) o, cond_zero (eqb depth d));

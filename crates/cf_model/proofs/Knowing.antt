@@ -51,7 +51,8 @@ frames_more : (m n : ℕ) (fs : List Frame) → m ≤ n → FramesKnown m fs →
 frames_more m n [] h k = tt
 frames_more m n (f ∷ fs) h k = (known_more m n f.collected h k.0, frames_more m n fs h k.1)
 
-left_known : (n : ℕ) (facts : Facts) (t : ℕ) (kind : Kind) (ks : List Callee) → Known n ks → Known n (callees_left facts t kind ks)
+left_known : (n : ℕ) (facts : Facts) (t : ℕ) (kind : Kind) (ks : List Callee) → Known n ks
+    → Known n (callees_left facts t kind ks)
 left_known n facts t kind [] k = tt
 left_known n facts t kind (x ∷ ks) k = by (is_some (callout_of facts t kind x.role x.number)) (left_known n facts t kind ks k.1)
   where
@@ -95,14 +96,16 @@ range_below n a (suc k) h = (omega arith, range_below n (a + 1) k (omega arith))
 abbrev Posts : ℕ → BlockLine → List ℕ → Type 0
 Posts n x list = is_post x ≡ true → AllBelow n list
 
-statement_posts : (c : Script) (t d : ℕ) (st : State) (x : Statement) (used : List (Option ℕ)) → Posts (length st.parts.registrations) (says x) (statement_step c t d st x used (ownership_of x)).list
+statement_posts : (c : Script) (t d : ℕ) (st : State) (x : Statement) (used : List (Option ℕ))
+    → Posts (length st.parts.registrations) (says x) (statement_step c t d st x used (ownership_of x)).list
 statement_posts c t d st (forms.Post name info) used e =
     let n = length st.parts.registrations in
     filter_below n (λ k. is_there_and (may_receive st.parts) (slice_index_or st.parts.registrations k None)) (receivers name (first_of used) st.parts.registrations)
     (filter_below n (λ k. is_there_and (matches name (first_of used)) (slice_index_or st.parts.registrations k None)) (range_with_len 0 n) (range_below n 0 n (omega arith)))
 statement_posts c t d st x used e = absurd cc
 
-line_posts : (c : Script) (t d : ℕ) (st : State) (bs : List Binding) (x : BlockLine) → Posts (length st.parts.registrations) x (line_step c t d st bs x).list
+line_posts : (c : Script) (t d : ℕ) (st : State) (bs : List Binding) (x : BlockLine)
+    → Posts (length st.parts.registrations) x (line_step c t d st bs x).list
 line_posts c t d st bs (begins v) e = absurd cc
 line_posts c t d st bs (claims k v) e = absurd cc
 line_posts c t d st bs (packs u k v) e = absurd cc
@@ -112,13 +115,15 @@ abbrev StepPosts : ℕ → Demand → List ℕ → Type 0
 StepPosts n (does x) list = Posts n x list
 StepPosts n _ list = Unit {0}
 
-step_posts : (c : Script) (t : ℕ) (st : State) (fs : List Frame) (d : Demand) → StepPosts (length st.parts.registrations) d (step_of c t st fs d).list
+step_posts : (c : Script) (t : ℕ) (st : State) (fs : List Frame) (d : Demand)
+    → StepPosts (length st.parts.registrations) d (step_of c t st fs d).list
 step_posts c t st fs (does x) = line_posts c t _ st (bindings_of fs) x
 step_posts c t st fs _ = tt
 
 -- frames after a demand
 
-run_frames_known : (n time : ℕ) (x : BlockLine) (b : Bool) (fs : List Frame) → FramesKnown n fs → FramesKnown n (run_frames time x b ++ fs)
+run_frames_known : (n time : ℕ) (x : BlockLine) (b : Bool) (fs : List Frame) → FramesKnown n fs
+    → FramesKnown n (run_frames time x b ++ fs)
 run_frames_known n time (says (forms.Run m limit once)) true fs h = (tt, h)
 run_frames_known n time x b fs h = h
 
@@ -129,7 +134,8 @@ line_known n x list h = by (is_post x) (λ e. h e)
     by true k = callees_known n list (k refl)
     by false k = tt
 
-top_known : (n : ℕ) (f : Frame → Frame) (fs : List Frame) → ((x : Frame) → Known n x.collected → Known n (f x).collected) → FramesKnown n fs → FramesKnown n (on_top f fs)
+top_known : (n : ℕ) (f : Frame → Frame) (fs : List Frame)
+    → ((x : Frame) → Known n x.collected → Known n (f x).collected) → FramesKnown n fs → FramesKnown n (on_top f fs)
 top_known n f [] h k = tt
 top_known n f (x ∷ xs) h k = (h x k.0, k.1)
 
@@ -137,7 +143,8 @@ drop_known : (n : ℕ) (fs : List Frame) → FramesKnown n fs → FramesKnown n 
 drop_known n [] k = tt
 drop_known n (f ∷ fs) k = k.1
 
-after_known : (n : ℕ) (facts : Facts) (t : ℕ) (d : Demand) (answer : Answer) (list : List ℕ) (fs : List Frame) → StepPosts n d list → FramesKnown n fs → FramesKnown n (frames_after facts t d answer list fs)
+after_known : (n : ℕ) (facts : Facts) (t : ℕ) (d : Demand) (answer : Answer) (list : List ℕ) (fs : List Frame)
+    → StepPosts n d list → FramesKnown n fs → FramesKnown n (frames_after facts t d answer list fs)
 after_known n facts t (does x) answer list fs p k = run_frames_known n facts.time x (is_entered answer) (on_top (line_done facts t x answer list) fs) (top_known n (line_done facts t x answer list) fs (λ f h. line_known n x list p) k)
 after_known n facts t ends answer list fs p k = k
 after_known n facts t returns answer list fs p k = drop_known n fs k
@@ -148,7 +155,9 @@ after_known n facts t (calls q called) answer list fs p k = (tt, top_known n _ f
 after_known n facts t (enters p) answer list fs q k = top_known n _ fs (λ f h. roles_known n (role_at p) list (phase_role p)) k
 after_known n facts t closes answer list fs p k = drop_known n fs k
 
-stop_known_by : (n : ℕ) (k : Kind) (b m : ℕ) (bs : List Binding) (cs : List Callee) (fs : List Frame) → FramesKnown n (frame k b m bs cs ∷ fs) → FramesKnown n (stop_frames fs) → FramesKnown n (stop_frames (frame k b m bs cs ∷ fs))
+stop_known_by : (n : ℕ) (k : Kind) (b m : ℕ) (bs : List Binding) (cs : List Callee) (fs : List Frame)
+    → FramesKnown n (frame k b m bs cs ∷ fs) → FramesKnown n (stop_frames fs)
+    → FramesKnown n (stop_frames (frame k b m bs cs ∷ fs))
 stop_known_by n of_block b m bs cs fs h rest = (h.0, rest)
 stop_known_by n (of_handler k) b m bs cs fs h rest = (h.0, rest)
 stop_known_by n (of_run r) b m bs cs fs h rest = (h.0, h.1)
@@ -157,14 +166,17 @@ stop_known : (n : ℕ) (fs : List Frame) → FramesKnown n fs → FramesKnown n 
 stop_known n [] h = tt
 stop_known n (f ∷ fs) h = stop_known_by n f.kind f.block f.number f.bindings f.collected fs h (stop_known n fs h.1)
 
-stopped_known : (n : ℕ) (stops : Option ℕ) (ss : List Stand) → ((u : ℕ) → FramesKnown n (stand_at u ss).frames) → (u : ℕ) → FramesKnown n (stand_at u (stopped_at stops ss)).frames
+stopped_known : (n : ℕ) (stops : Option ℕ) (ss : List Stand) → ((u : ℕ) → FramesKnown n (stand_at u ss).frames)
+    → (u : ℕ) → FramesKnown n (stand_at u (stopped_at stops ss)).frames
 stopped_known n None ss h u = h u
 stopped_known n (Some w) ss h u = elim (eqb_tells u w) [
   | inl e ↦ subst (λ (v : ℕ). FramesKnown n (stand_at v (stopped_at (Some w) ss)).frames) (sym e.1) (subst (λ (s : Stand). FramesKnown n s.frames) (sym (at_own blank w (stop_stand (stand_at w ss)) ss)) (stop_known n (stand_at w ss).frames (h w)))
   | inr e ↦ subst (λ (s : Stand). FramesKnown n s.frames) (sym (at_other blank u w (stop_stand (stand_at w ss)) ss e.1)) (h u)
 ]
 
-all_known : (n t : ℕ) (new : Stand) (ss : List Stand) → FramesKnown n new.frames → ((u : ℕ) → FramesKnown n (stand_at u ss).frames) → (u : ℕ) → FramesKnown n (stand_at u (with_stand t new ss)).frames
+all_known : (n t : ℕ) (new : Stand) (ss : List Stand) → FramesKnown n new.frames
+    → ((u : ℕ) → FramesKnown n (stand_at u ss).frames) → (u : ℕ)
+    → FramesKnown n (stand_at u (with_stand t new ss)).frames
 all_known n t new ss mine h u = elim (eqb_tells u t) [
   | inl e ↦ subst (λ (v : ℕ). FramesKnown n (stand_at v (with_stand t new ss)).frames) (sym e.1) (subst (λ (s : Stand). FramesKnown n s.frames) (sym (at_own blank t new ss)) mine)
   | inr e ↦ subst (λ (s : Stand). FramesKnown n s.frames) (sym (at_other blank u t new ss e.1)) (h u)
@@ -175,7 +187,8 @@ pub record IsKnown (st : State) : Type 0 where
   pub frames : (t : ℕ) → FramesKnown (length st.parts.registrations) (frames_at t st)
   pub registered : AllOfMade st.parts
 
-demand_known : (c : Script) (t : ℕ) (st : State) (d : Demand) → FitsByBlock c → IsSound c st → IsKnown st → demanded c st t ≡ Some d → IsKnown (done_by c t st d)
+demand_known : (c : Script) (t : ℕ) (st : State) (d : Demand) → FitsByBlock c → IsSound c st → IsKnown st
+    → demanded c st t ≡ Some d → IsKnown (done_by c t st d)
 demand_known c t st d own h k e =
     let step = step_of c t st (frames_at t st) d in
     let n = length step.parts.registrations in
@@ -194,7 +207,8 @@ demand_known c t st d own h k e =
     more (does x) m n list h p = λ e. below_more m n list h (p e)
     more _ m n list h p = tt
 
-acted_known : (c : Script) (t : ℕ) (st : State) (d : Option Demand) → FitsByBlock c → IsSound c st → IsKnown st → demanded c st t ≡ d → IsKnown (acted c t st d)
+acted_known : (c : Script) (t : ℕ) (st : State) (d : Option Demand) → FitsByBlock c → IsSound c st → IsKnown st
+    → demanded c st t ≡ d → IsKnown (acted c t st d)
 acted_known c t st None own h k e = k
 acted_known c t st (Some d) own h k e = demand_known c t st d own h k e
 
@@ -209,7 +223,8 @@ ticked_made n st all m = by (registration_at st.parts m) (all m)
     by None made = tt
     by (Some r) made = (made.0, by_filter r.filter made.1)
 
-pub entry_known : (c : Script) (t : ℕ) (st : State) (a : Action) → FitsByBlock c → IsSound c st → IsKnown st → IsKnown (after_action c t st a)
+pub entry_known : (c : Script) (t : ℕ) (st : State) (a : Action) → FitsByBlock c → IsSound c st → IsKnown st
+    → IsKnown (after_action c t st a)
 entry_known c t st (actions.Tick n) own h k = record { frames = k.frames; registered = ticked_made n st k.registered }
 entry_known c t st actions.Stall own h k = k
 entry_known c t st a own h k = acted_known c t st (demanded c st t) own h k refl
@@ -236,38 +251,45 @@ begins-trans xs ys zs a b = record { rest = a.rest ++ b.rest; is = assoc xs ∙ 
 abbrev due : Script → State → ℕ → List ℕ
 due c st t = ahead c (facts_of st) t (stand_at t st.stands)
 
-gate_begins : (a b : Bool) (xs ys : List ℕ) → (a ≡ true → b ≡ true) → Begins xs ys → Begins (cond a xs []) (cond b ys [])
+gate_begins : (a b : Bool) (xs ys : List ℕ) → (a ≡ true → b ≡ true) → Begins xs ys
+    → Begins (cond a xs []) (cond b ys [])
 gate_begins false b xs ys h k = record { rest = cond b ys []; is = refl }
 gate_begins true b xs ys h k = subst (λ (d : Bool). Begins xs (cond d ys [])) (sym (h refl)) k
 
-ahead_tick : (c : Script) (n t : ℕ) (st : State) → TopKnown (length st.parts.registrations) (frames_at t st) → Begins (due c st t) (due c (ticked n st) t)
+ahead_tick : (c : Script) (n t : ℕ) (st : State) → TopKnown (length st.parts.registrations) (frames_at t st)
+    → Begins (due c st t) (due c (ticked n st) t)
 ahead_tick c n t st known =
     stand_begins c st (ticked n st) t (stand_at t st.stands) (stand_at t st.stands).frames (λ e. e) (all_plain c st (ticked n st) t (stand_at t st.stands).frames known (λ r near none. none))
 
-ahead_step : (c : Script) (u t : ℕ) (st : State) (d : Demand) → (t ≡ u → ⊥) → FitsByBlock c → IsSound c st → IsWorked st → IsKnown st → demanded c st u ≡ Some d → Begins (due c st t) (due c (done_by c u st d) t)
+ahead_step : (c : Script) (u t : ℕ) (st : State) (d : Demand) → (t ≡ u → ⊥) → FitsByBlock c → IsSound c st → IsWorked st
+    → IsKnown st → demanded c st u ≡ Some d → Begins (due c st t) (due c (done_by c u st d) t)
 ahead_step c u t st d apart own h w k e =
     ahead_begins c u t st d apart own h w e (top_of (length st.parts.registrations) (frames_at t st) (k.frames t))
     (λ r near none. receivers_stay st.parts (done_by c u st d).parts r (demand_onward c u st own h d e) (k.registered r) near none)
 
-acted_begins : (c : Script) (u t : ℕ) (st : State) (d : Option Demand) → (t ≡ u → ⊥) → FitsByBlock c → IsSound c st → IsWorked st → IsKnown st → demanded c st u ≡ d → Begins (next_retains c st t) (next_retains c (acted c u st d) t)
+acted_begins : (c : Script) (u t : ℕ) (st : State) (d : Option Demand) → (t ≡ u → ⊥) → FitsByBlock c → IsSound c st
+    → IsWorked st → IsKnown st → demanded c st u ≡ d → Begins (next_retains c st t) (next_retains c (acted c u st d) t)
 acted_begins c u t st None apart own h w k e = begins-self (next_retains c st t)
 acted_begins c u t st (Some d) apart own h w k e =
     gate_begins (can_go st t) (can_go (done_by c u st d) t) (due c st t) (due c (done_by c u st d) t) (goes_on t st (done_by c u st d) (acted_goes c u t st (Some d) apart)) (ahead_step c u t st d apart own h w k e)
 
-entry_begins : (c : Script) (u t : ℕ) (st : State) (a : Action) → (t ≡ u → ⊥) → FitsByBlock c → IsSound c st → IsWorked st → IsKnown st → Begins (next_retains c st t) (next_retains c (after_action c u st a) t)
+entry_begins : (c : Script) (u t : ℕ) (st : State) (a : Action) → (t ≡ u → ⊥) → FitsByBlock c → IsSound c st
+    → IsWorked st → IsKnown st → Begins (next_retains c st t) (next_retains c (after_action c u st a) t)
 entry_begins c u t st (actions.Tick n) apart own h w k =
     gate_begins (can_go st t) (can_go (ticked n st) t) (due c st t) (due c (ticked n st) t) (goes_on t st (ticked n st) (entry_goes c u t st (actions.Tick n) apart)) (ahead_tick c n t st (top_of (length st.parts.registrations) (frames_at t st) (k.frames t)))
 entry_begins c u t st actions.Stall apart own h w k = begins-self (next_retains c st t)
 entry_begins c u t st a apart own h w k = acted_begins c u t st (demanded c st u) apart own h w k refl
 
-pub begins_from : (c : Script) (t : ℕ) (st : State) (more : List Entry) → FitsByBlock c → IsSound c st → IsWorked st → IsKnown st → NoneBy t more → Begins (next_retains c st t) (next_retains c (state_from c st more) t)
+pub begins_from : (c : Script) (t : ℕ) (st : State) (more : List Entry) → FitsByBlock c → IsSound c st → IsWorked st
+    → IsKnown st → NoneBy t more → Begins (next_retains c st t) (next_retains c (state_from c st more) t)
 begins_from c t st [] own h w k none = begins-self (next_retains c st t)
 begins_from c t st (e ∷ more) own h w k none =
     let new = after_action c e.thread st e.action in
     begins-trans (next_retains c st t) (next_retains c new t) (next_retains c (state_from c new more) t) (entry_begins c e.thread t st e.action none.0 own h w k)
     (begins_from c t new more own (entry_sound c e.thread st e.action own h) (entry_worked c e.thread st e.action own h w) (entry_known c e.thread st e.action own h k) none.1)
 
-known_from : (c : Script) (st : State) (es : List Entry) → FitsByBlock c → IsSound c st → IsKnown st → IsKnown (state_from c st es)
+known_from : (c : Script) (st : State) (es : List Entry) → FitsByBlock c → IsSound c st → IsKnown st
+    → IsKnown (state_from c st es)
 known_from c st [] own h k = k
 known_from c st (e ∷ es) own h k = known_from c (after_action c e.thread st e.action) es own (entry_sound c e.thread st e.action own h) (entry_known c e.thread st e.action own h k)
 
@@ -284,11 +306,13 @@ start_known c = record { frames = opening_known (threads_of c); registered = non
     none_registered zero = tt
     none_registered (suc n) = tt
 
-state-append : (c : Script) (st : State) (es more : List Entry) → state_from c st (es ++ more) ≡ state_from c (state_from c st es) more
+state-append : (c : Script) (st : State) (es more : List Entry)
+    → state_from c st (es ++ more) ≡ state_from c (state_from c st es) more
 state-append c st [] more = refl
 state-append c st (e ∷ es) more = state-append c (after_action c e.thread st e.action) es more
 
 -- entries of other threads and of the lead take none of a thread's next retains away
-pub ahead_frame : (c : Script) (journal more : List Entry) (t : ℕ) → FitsByBlock c → NoneBy t more → Begins (next_retains c (After c journal) t) (next_retains c (After c (journal ++ more)) t)
+pub ahead_frame : (c : Script) (journal more : List Entry) (t : ℕ) → FitsByBlock c → NoneBy t more
+    → Begins (next_retains c (After c journal) t) (next_retains c (After c (journal ++ more)) t)
 ahead_frame c journal more t own none = subst (λ (st : State). Begins (next_retains c (After c journal) t) (next_retains c st t)) (sym (state-append c (start c) journal more))
     (begins_from c t (After c journal) more own (sound_from c (start c) journal own (start_sound c)) (worked_along c journal own) (known_from c (start c) journal own (start_sound c) (start_known c)) none)

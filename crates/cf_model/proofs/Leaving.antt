@@ -28,10 +28,12 @@ use Rattle.cf_model.specs.Own.{moves_to, own_references}
 use Rattle.cf_model.specs.Steps.{call_references}
 
 -- frames that hold the same
-pub top_same : (c : Script) (f g : Frame) (fs : List Frame) → ((v o : ℕ) → frame_holds c g v o ≡ frame_holds c f v o) → (d v o : ℕ) → frames_hold c (g ∷ fs) d v o ≡ frames_hold c (f ∷ fs) d v o
+pub top_same : (c : Script) (f g : Frame) (fs : List Frame) → ((v o : ℕ) → frame_holds c g v o ≡ frame_holds c f v o)
+    → (d v o : ℕ) → frames_hold c (g ∷ fs) d v o ≡ frames_hold c (f ∷ fs) d v o
 top_same c f g fs h d v o = ap (λ (n : ℕ). cond (eqb (length fs) d) n (frames_hold c fs d v o)) (h v o)
 
-pub called_lines : (c : Script) (role : Role) (k : Kind) (b : ℕ) → frame_lines c (kind_called role k) b ≡ frame_lines c k b
+pub called_lines : (c : Script) (role : Role) (k : Kind) (b : ℕ)
+    → frame_lines c (kind_called role k) b ≡ frame_lines c k b
 called_lines c role of_block b = refl
 called_lines c role (of_handler k) b = refl
 called_lines c role (of_run r) b = refl
@@ -41,7 +43,8 @@ called_item role of_block = refl
 called_item role (of_handler k) = refl
 called_item role (of_run r) = refl
 
-pub phase_lines : (c : Script) (facts : Facts) (t : ℕ) (p : Phase) (k : Kind) (b : ℕ) → frame_lines c (kind_after facts t p k) b ≡ frame_lines c k b
+pub phase_lines : (c : Script) (facts : Facts) (t : ℕ) (p : Phase) (k : Kind) (b : ℕ)
+    → frame_lines c (kind_after facts t p k) b ≡ frame_lines c k b
 phase_lines c facts t p of_block b = refl
 phase_lines c facts t p (of_handler k) b = refl
 phase_lines c facts t p (of_run r) b = refl
@@ -51,7 +54,8 @@ phase_item facts t p of_block = refl
 phase_item facts t p (of_handler k) = refl
 phase_item facts t p (of_run r) = refl
 
-same_lines : (c : Script) (f : Frame) (xs : List BlockLine) (v o : ℕ) → xs ≡ frame_lines c f.kind f.block → one_if (look v f.bindings) o (given v (take f.number xs) - released v (take f.number xs)) ≡ frame_holds c f v o
+same_lines : (c : Script) (f : Frame) (xs : List BlockLine) (v o : ℕ) → xs ≡ frame_lines c f.kind f.block
+    → one_if (look v f.bindings) o (given v (take f.number xs) - released v (take f.number xs)) ≡ frame_holds c f v o
 same_lines c f xs v o e = rw e refl
 
 -- ---- work
@@ -60,7 +64,8 @@ module _ (c : Script) (facts : Facts) (t : ℕ) (old : Stand) where
   abbrev left : List Work
   left = work_left facts old.work
 
-  pub owes_keeps : (o : ℕ) (answer : Answer) (finals list : List ℕ) → ((p : ℕ) → owed_in p old.work ≡ counted (eqb o p) + owed_in p left)
+  pub owes_keeps : (o : ℕ) (answer : Answer) (finals list : List ℕ)
+      → ((p : ℕ) → owed_in p old.work ≡ counted (eqb o p) + owed_in p left)
       → KeepsOwn c t old (shrinks (held_by (owed t) o)) (advanced facts t (owes o) answer finals list old)
   owes_keeps o answer finals list first = record {
     variables = λ d v p. refl;
@@ -68,7 +73,8 @@ module _ (c : Script) (facts : Facts) (t : ℕ) (old : Stand) where
     owed = λ p. omega (arith, owed-bodies p finals left, first p, one_own (owed t) p o);
   }
 
-  pub drops_keeps : (b k o : ℕ) (answer : Answer) (finals list : List ℕ) → ((q : ℕ) → owed_in q old.work ≡ owed_in q left)
+  pub drops_keeps : (b k o : ℕ) (answer : Answer) (finals list : List ℕ)
+      → ((q : ℕ) → owed_in q old.work ≡ owed_in q left)
       → KeepsOwn c t old (shrinks (held_by (slot b) o)) (advanced facts t (drops b k o) answer finals list old)
   drops_keeps b k o answer finals list first = record {
     variables = λ d v q. refl;
@@ -76,7 +82,8 @@ module _ (c : Script) (facts : Facts) (t : ℕ) (old : Stand) where
     owed = λ q. omega (arith, owed-bodies q finals (slots_of b (k + 1) ∷ left), first q);
   }
 
-  pub spends_keeps : (i : ℕ) (answer : Answer) (finals list : List ℕ) (ins outs : List Reference) → AllPlaces ins → AllPlaces outs → list ≡ objects_in outs
+  pub spends_keeps : (i : ℕ) (answer : Answer) (finals list : List ℕ) (ins outs : List Reference) → AllPlaces ins
+      → AllPlaces outs → list ≡ objects_in outs
       → ((q : ℕ) → owed_in q old.work ≡ owed_in q left)
       → KeepsOwn c t old (grows ins (moves_to (owed t) outs)) (advanced facts t (spends i) answer finals list old)
   spends_keeps i answer finals list ins outs into places same first = record {
@@ -88,7 +95,8 @@ module _ (c : Script) (facts : Facts) (t : ℕ) (old : Stand) where
 -- ---- steps of the frame on top
 
 -- nothing is done to references, and nothing was owed
-pub still_keeps : (c : Script) (t : ℕ) (old new : Stand) → ((d v o : ℕ) → frames_hold c new.frames d v o ≡ frames_hold c old.frames d v o)
+pub still_keeps : (c : Script) (t : ℕ) (old new : Stand)
+    → ((d v o : ℕ) → frames_hold c new.frames d v o ≡ frames_hold c old.frames d v o)
     → ((d o : ℕ) → callouts_hold new.frames d o ≡ callouts_hold old.frames d o) → ((o : ℕ) → owed_in o new.work ≡ owed_in o old.work)
     → KeepsOwn c t old still new
 still_keeps c t old new vs cs ws = record {
@@ -101,14 +109,16 @@ module _ (c : Script) (facts : Facts) (t : ℕ) (f : Frame) (fs : List Frame) (w
   abbrev old : Stand
   old = stand f fs work done
 
-  pub phase_keeps : (q : Phase) (answer : Answer) (finals list : List ℕ) → KeepsOwn c t old still (advanced facts t (enters q) answer finals list old)
+  pub phase_keeps : (q : Phase) (answer : Answer) (finals list : List ℕ)
+      → KeepsOwn c t old still (advanced facts t (enters q) answer finals list old)
   phase_keeps q answer finals list =
       still_keeps c t old (advanced facts t (enters q) answer finals list old)
       (top_same c f (phase_done facts t q list f) fs (λ v o. same_lines c f (frame_lines c (kind_after facts t q f.kind) f.block) v o (phase_lines c facts t q f.kind f.block)))
       (λ d o. rw (phase_item facts t q f.kind) refl)
       (λ o. omega (arith, idle o, owed-bodies o finals []))
 
-  pub end_keeps : (answer : Answer) (finals list : List ℕ) → KeepsOwn c t old still (advanced facts t ends answer finals list old)
+  pub end_keeps : (answer : Answer) (finals list : List ℕ)
+      → KeepsOwn c t old still (advanced facts t ends answer finals list old)
   end_keeps answer finals list =
       still_keeps c t old (advanced facts t ends answer finals list old) (λ d v o. refl) (λ d o. refl) (λ o. omega (arith, idle o, owed-bodies o finals []))
 
@@ -120,7 +130,8 @@ module _ (c : Script) (facts : Facts) (t : ℕ) (f : Frame) (fs : List Frame) (w
       by zero = one_if-none (look v f.bindings) o
       by (suc n) = one_if-none (look v f.bindings) o
 
-  pub close_keeps : (r : Turn) (answer : Answer) (finals list : List ℕ) → f.kind ≡ of_run r → KeepsOwn c t old still (advanced facts t closes answer finals list old)
+  pub close_keeps : (r : Turn) (answer : Answer) (finals list : List ℕ) → f.kind ≡ of_run r
+      → KeepsOwn c t old still (advanced facts t closes answer finals list old)
   close_keeps r answer finals list e =
       still_keeps c t old (advanced facts t closes answer finals list old)
       (λ d v o. sym (blank_holds c f fs (run_blank r e) d v o))
@@ -136,7 +147,8 @@ module _ (c : Script) (facts : Facts) (t : ℕ) (f : Frame) (fs : List Frame) (w
 -- ---- calls
 
 -- what a handler's frame holds as it opens
-opening_holds : (c : Script) (k : Callee) (called : Callout) (v o : ℕ) → frame_holds c (handler_frame k called) v o ≡ one_if called.info o (one_of v 0)
+opening_holds : (c : Script) (k : Callee) (called : Callout) (v o : ℕ)
+    → frame_holds c (handler_frame k called) v o ≡ one_if called.info o (one_of v 0)
 opening_holds c k called v o = elim (eqb_tells 0 v) [
   | inl e ↦ rw (e.0, ← e.1) refl
   | inr e ↦
@@ -144,19 +156,22 @@ opening_holds c k called v o = elim (eqb_tells 0 v) [
       rw (e.0, none_here) (sym (one_if-none called.info o))
 ]
 
-called_calls : (c : Script) (k : Callee) (called : Callout) (g : Frame) (fs : List Frame) (d o : ℕ) → callouts_hold (handler_frame k called ∷ g ∷ fs) d o ≡ callouts_hold (g ∷ fs) d o + cond (eqb (suc (length fs)) d) (one_if (item_of k) o 1) 0
+called_calls : (c : Script) (k : Callee) (called : Callout) (g : Frame) (fs : List Frame) (d o : ℕ)
+    → callouts_hold (handler_frame k called ∷ g ∷ fs) d o ≡ callouts_hold (g ∷ fs) d o + cond (eqb (suc (length fs)) d) (one_if (item_of k) o 1) 0
 called_calls c k called g fs d o = elim (eqb_tells (suc (length fs)) d) [
   | inl e ↦ rw e.0 (omega (arith, calls_beyond (g ∷ fs) d o (omega (arith, e.1))))
   | inr e ↦ rw e.0 (omega arith)
 ]
 
-called_holds : (c : Script) (k : Callee) (called : Callout) (g : Frame) (fs : List Frame) (d v o : ℕ) → frames_hold c (handler_frame k called ∷ g ∷ fs) d v o ≡ frames_hold c (g ∷ fs) d v o + cond (eqb (suc (length fs)) d) (one_if called.info o (one_of v 0)) 0
+called_holds : (c : Script) (k : Callee) (called : Callout) (g : Frame) (fs : List Frame) (d v o : ℕ)
+    → frames_hold c (handler_frame k called ∷ g ∷ fs) d v o ≡ frames_hold c (g ∷ fs) d v o + cond (eqb (suc (length fs)) d) (one_if called.info o (one_of v 0)) 0
 called_holds c k called g fs d v o = elim (eqb_tells (suc (length fs)) d) [
   | inl e ↦ rw e.0 (omega (arith, holds_beyond c (g ∷ fs) d v o (omega (arith, e.1)), opening_holds c k called v o))
   | inr e ↦ rw e.0 (omega arith)
 ]
 
-pub calls_keeps : (c : Script) (facts : Facts) (t : ℕ) (f : Frame) (fs : List Frame) (work : List Work) (done : Bool) (k : Callee) (called : Callout) (answer : Answer) (finals list : List ℕ)
+pub calls_keeps : (c : Script) (facts : Facts) (t : ℕ) (f : Frame) (fs : List Frame) (work : List Work) (done : Bool)
+    (k : Callee) (called : Callout) (answer : Answer) (finals list : List ℕ)
     → ((o : ℕ) → owed_in o work ≡ 0)
     → KeepsOwn c t (stand f fs work done) (grows (call_references t (suc (length fs)) called.info (item_of k)) []) (advanced facts t (calls k called) answer finals list (stand f fs work done))
 calls_keeps c facts t f fs work done k called answer finals list idle =
@@ -197,15 +212,18 @@ calls_keeps c facts t f fs work done k called answer finals list idle =
 
 -- ---- returns
 
-owed_moves : (t o : ℕ) (h : Holder) (object : Option ℕ) (rs : List Reference) → won_by_moves (one (held_by (owed t) o)) (moves_to (owed t) (held_if h object ++ rs)) ≡ one_if object o 1 + won_by_moves (one (held_by (owed t) o)) (moves_to (owed t) rs)
+owed_moves : (t o : ℕ) (h : Holder) (object : Option ℕ) (rs : List Reference)
+    → won_by_moves (one (held_by (owed t) o)) (moves_to (owed t) (held_if h object ++ rs)) ≡ one_if object o 1 + won_by_moves (one (held_by (owed t) o)) (moves_to (owed t) rs)
 owed_moves t o h None rs = omega arith
 owed_moves t o h (Some x) rs = omega (arith, one_own (owed t) o x)
 
-owed_releases : (o : ℕ) (object : Option ℕ) (work : List Work) → owed_in o (releases_of object ++ work) ≡ one_if object o 1 + owed_in o work
+owed_releases : (o : ℕ) (object : Option ℕ) (work : List Work)
+    → owed_in o (releases_of object ++ work) ≡ one_if object o 1 + owed_in o work
 owed_releases o None work = omega arith
 owed_releases o (Some x) work = refl
 
-owed_spend : (facts : Facts) (k : Kind) (o : ℕ) (work : List Work) → owed_in o (spend_work facts k ++ work) ≡ owed_in o work
+owed_spend : (facts : Facts) (k : Kind) (o : ℕ) (work : List Work)
+    → owed_in o (spend_work facts k ++ work) ≡ owed_in o work
 owed_spend facts of_block o rest = refl
 owed_spend facts (of_run r) o rest = refl
 owed_spend facts (of_handler q) o rest = by (is_spent facts q.role q.number)
@@ -231,7 +249,8 @@ module _ (c : Script) (facts : Facts) (t : ℕ) (es : List Reference) (f : Frame
   abbrev cs : List Reference
   cs = held_if (callout t e) item
 
-  popped_holds : (d v o : ℕ) → frames_hold c (f ∷ fs) d v o ≡ frames_hold c fs d v o + cond (eqb e d) (one_if info o (one_of v 0)) 0
+  popped_holds : (d v o : ℕ)
+      → frames_hold c (f ∷ fs) d v o ≡ frames_hold c fs d v o + cond (eqb e d) (one_if info o (one_of v 0)) 0
   popped_holds d v o = elim (eqb_tells (length fs) d) [
     | inl q ↦ rw q.0 (omega (arith, holds_beyond c fs d v o (omega (arith, q.1)), balance v o))
     | inr q ↦ rw q.0 (omega arith)
@@ -246,11 +265,13 @@ module _ (c : Script) (facts : Facts) (t : ℕ) (es : List Reference) (f : Frame
   both : (g : Reference → ℕ) → weigh g (call_references t e info item) ≡ weigh g vs + weigh g cs
   both g = weigh-append g vs cs
 
-  none_there : (h : Holder) (o : ℕ) → (h ≡ variable t e 0 → ⊥) → (h ≡ callout t e → ⊥) → weigh (one (held_by h o)) (call_references t e info item) ≤ weigh (one (held_by h o)) es
+  none_there : (h : Holder) (o : ℕ) → (h ≡ variable t e 0 → ⊥) → (h ≡ callout t e → ⊥)
+      → weigh (one (held_by h o)) (call_references t e info item) ≤ weigh (one (held_by h o)) es
   none_there h o a b = omega (arith, both (one (held_by h o)), held_if_apart (held_by h o) (variable t e 0) info a, held_if_apart (held_by h o) (callout t e) item b)
 
   -- both are there
-  references_there : (h : Holder) (o : ℕ) → weigh (one (held_by h o)) (call_references t e info item) ≤ weigh (one (held_by h o)) es
+  references_there : (h : Holder) (o : ℕ)
+      → weigh (one (held_by h o)) (call_references t e info item) ≤ weigh (one (held_by h o)) es
   references_there (variable u d v) o = elim (eqb_tells t u) [
     | inl q ↦ subst (λ (w : ℕ). weigh (one (held_by (variable w d v) o)) (call_references t e info item) ≤ weigh (one (held_by (variable w d v) o)) es) q.1
         (omega (arith, both (one (held_by (variable t d v) o)), at_depth t d e v 0 o info, held_if_apart (held_by (variable t d v) o) (callout t e) item (kinds_apart (variable t d v) (callout t e) refl), held.variables d v o, popped_holds d v o))

@@ -32,14 +32,16 @@ module _ (st : State) (t : ℕ) (owners : List Owner) where
   known_live o h = live_of_test st o h
 
   -- of objects that are all used each is live
-  pub all_live : (used : List (Option ℕ)) → MayUseAll st t owners (reaches_all used) → (i o : ℕ) → used_at used i ≡ Some o → IsLive st o
+  pub all_live : (used : List (Option ℕ)) → MayUseAll st t owners (reaches_all used) → (i o : ℕ)
+      → used_at used i ≡ Some o → IsLive st o
   all_live [] h i o e = absurd cc
   all_live (None ∷ us) h zero o e = absurd cc
   all_live (None ∷ us) h (suc i) o e = all_live us h i o e
   all_live (Some p ∷ us) h zero o e = let same : p ≡ o = cc in subst (IsLive st) same (reached_live p h.0)
   all_live (Some p ∷ us) h (suc i) o e = all_live us h.1 i o e
 
-  pub if_live : (how : ℕ → Use) (each : (o : ℕ) → MayUse st t owners (how o) → IsLive st o) (p : Option ℕ) → MayUseAll st t owners (uses_if how p) → (o : ℕ) → p ≡ Some o → IsLive st o
+  pub if_live : (how : ℕ → Use) (each : (o : ℕ) → MayUse st t owners (how o) → IsLive st o) (p : Option ℕ)
+      → MayUseAll st t owners (uses_if how p) → (o : ℕ) → p ≡ Some o → IsLive st o
   if_live how each None h o e = absurd cc
   if_live how each (Some p) h o e = let same : p ≡ o = cc in subst (IsLive st) same (each p h.0)
 
@@ -48,7 +50,8 @@ abbrev pub LiveBy : State → Ownership → List (Option ℕ) → Type 0
 LiveBy st (Releases v) used = Unit {0}
 LiveBy st _ used = (i o : ℕ) → used_at used i ≡ Some o → IsLive st o
 
-pub statement_live : (st : State) (t : ℕ) (owners : List Owner) (x : Statement) (site : Site) → MayUseAll st t owners (action_uses (action_of x site)) → LiveBy st (ownership_of x) site.used
+pub statement_live : (st : State) (t : ℕ) (owners : List Owner) (x : Statement) (site : Site)
+    → MayUseAll st t owners (action_uses (action_of x site)) → LiveBy st (ownership_of x) site.used
 statement_live st t owners (forms.Release v) site h = tt
 statement_live st t owners x site h = all_live st t owners site.used h
 

@@ -40,13 +40,15 @@ use Rattle.cf_model.proofs.Taking.{deal_of_fits}
 -- ---- what is bound
 
 -- the slots of bodies where one more is made
-slots_made : (objects : List Object) (ob : Object) (b : ℕ) → (b ≡ length objects → ⊥) → slots_at (slice_get (objects ++ ob ∷ []) b) ≡ slots_at (slice_get objects b)
+slots_made : (objects : List Object) (ob : Object) (b : ℕ) → (b ≡ length objects → ⊥)
+    → slots_at (slice_get (objects ++ ob ∷ []) b) ≡ slots_at (slice_get objects b)
 slots_made [] ob zero h = absurd (h refl)
 slots_made [] ob (suc b) h = refl
 slots_made (o ∷ os) ob zero h = refl
 slots_made (o ∷ os) ob (suc b) h = slots_made os ob b (λ e. h (ap suc e))
 
-slots_new : (objects : List Object) (ob : Object) → slots_at (slice_get (objects ++ ob ∷ []) (length objects)) ≡ slots_in ob.content
+slots_new : (objects : List Object) (ob : Object)
+    → slots_at (slice_get (objects ++ ob ∷ []) (length objects)) ≡ slots_in ob.content
 slots_new [] ob = refl
 slots_new (o ∷ os) ob = slots_new os ob
 
@@ -118,7 +120,8 @@ module _ (s : Script) (t d v : ℕ) (st : State) (h : IsSteady st) where
   found_live x true e o q = let same : x ≡ o = cc in subst (IsLive st) same (live_of_test st x e)
   found_live x false e o q = absurd cc
 
-  bound_fits : (answer : Answer) (origin : Origin) → ((ob : Object) → origin ≡ fresh ob → (o : ℕ) → 0 < times o (slots_in ob.content) → IsLive st o)
+  bound_fits : (answer : Answer) (origin : Origin)
+      → ((ob : Object) → origin ≡ fresh ob → (o : ℕ) → 0 < times o (slots_in ob.content) → IsLive st o)
       → StepFits t st (bind_step k st.parts (record { answer = answer; origin = origin }))
   bound_fits answer nowhere live = still_fits t st _ (same_objects _ refl) refl
   bound_fits answer (fresh ob) live = fresh_fits answer ob (live ob refl)
@@ -139,7 +142,8 @@ item_live st (Some x) m live o some = elim (eqb_tells x o) [
 object_is : (a b : Object) → fresh a ≡ fresh b → a ≡ b
 object_is a b e = cc
 
-empty_live : (st : State) (origin : Origin) → MakesEmpty origin → (ob : Object) → origin ≡ fresh ob → (o : ℕ) → 0 < times o (slots_in ob.content) → IsLive st o
+empty_live : (st : State) (origin : Origin) → MakesEmpty origin → (ob : Object) → origin ≡ fresh ob → (o : ℕ)
+    → 0 < times o (slots_in ob.content) → IsLive st o
 empty_live st origin empty ob e o some =
     let none : slots_in ob.content ≡ [] = subst MakesEmpty e empty in absurd (omega (arith, some, ap (times o) none))
 
@@ -148,7 +152,8 @@ pub bind_fits : (s : Script) (t d v : ℕ) (st : State) (x : Statement) (used : 
     → StepFits t st (bind_step (variable t d v) st.parts (bound_of s st.parts x used))
 bind_fits s t d v st x used h live = by (item_made x) refl
   where
-    by : (made : Option Made) → item_made x ≡ made → StepFits t st (bind_step (variable t d v) st.parts (bound_if s st.parts x used made))
+    by : (made : Option Made) → item_made x ≡ made
+        → StepFits t st (bind_step (variable t d v) st.parts (bound_if s st.parts x used made))
     by (Some m) e = fresh_fits s t d v st h answers.Skip (record { class = class_of m.item; content = item_content m.handler (first_of used) true m.item }) (item_live st (first_of used) m (live m e))
     by None e =
         let deed = deed_at s.classes st.parts.objects x used in
@@ -168,7 +173,9 @@ LiveFor st s t x used (Binds v) = (m : Made) → item_made x ≡ Some m → (o :
 LiveFor st s t x used (Retains v) = (o : ℕ) → first_of used ≡ Some o → IsLive st o
 LiveFor st s t x used (Releases v) = Unit {0}
 
-pub statement_fits : (s : Script) (t d : ℕ) (st : State) (x : Statement) (used : List (Option ℕ)) (ownership : Ownership) → IsSteady st
+pub statement_fits : (s : Script) (t d : ℕ) (st : State) (x : Statement) (used : List (Option ℕ))
+    (ownership : Ownership)
+    → IsSteady st
     → LiveFor st s t x used ownership → StepFits t st (statement_step s t d st x used ownership)
 statement_fits s t d st x used Keeps h live = deal_fits t st (deal_of s t st x used) (posts_of st.parts x used) (deal_of_fits s t st h x used live)
 statement_fits s t d st x used (Binds v) h live = bind_fits s t d v st x used h live
@@ -184,7 +191,8 @@ end_fits t st = still_fits t st (end_step t st) (by (eqb t 0)) refl
     by true = flags_bodies st (start_all st.parts.flags)
     by false = same_bodies st
 
-pub spend_fits : (s : Script) (t : ℕ) (st : State) (i : ℕ) → StepFits t st (deal_step t (spend_if s st i (thing_at st.parts i)) [])
+pub spend_fits : (s : Script) (t : ℕ) (st : State) (i : ℕ)
+    → StepFits t st (deal_step t (spend_if s st i (thing_at st.parts i)) [])
 spend_fits s t st i = deal_fits t st (spend_if s st i (thing_at st.parts i)) [] (by (thing_at st.parts i))
   where
     either : (b : Bool) (x y : Deal) → FitsDeal st x → FitsDeal st y → FitsDeal st (cond b x y)
@@ -203,7 +211,8 @@ fired_bodies st (Some i) = by (thing_at st.parts i)
     by None = same_bodies st
     by (Some x) = item_bodies st i x.valid (fired st.parts.time x.item)
 
-pub call_fits : (t d : ℕ) (st : State) (kind : Kind) (k : Callee) (c : Callout) → ((o : ℕ) → c.info ≡ Some o → IsLive st o) → ((o : ℕ) → item_of k ≡ Some o → IsLive st o)
+pub call_fits : (t d : ℕ) (st : State) (kind : Kind) (k : Callee) (c : Callout)
+    → ((o : ℕ) → c.info ≡ Some o → IsLive st o) → ((o : ℕ) → item_of k ≡ Some o → IsLive st o)
     → StepFits t st (call_step t d st kind k c)
 call_fits t d st kind k c live_info live_item =
     gains_fit t st (call_step t d st kind k c) (call_references t d c.info (item_of k)) (fired_bodies st (item_of k)) refl (call_of t d c.info (item_of k))

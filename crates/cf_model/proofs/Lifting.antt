@@ -26,10 +26,12 @@ Balanced f h o before after = after + flow_lost (one (held_by h o)) f ≡ before
 pub record KeepsHeld (c : Script) (t : ℕ) (st : State) (old : Stand) (f : Flow) (p : Parts) (s : Stand) : Type 0 where
   pub own : FlowOwn t f
   pub there : IsThere f st.edges
-  pub variables : (d v o : ℕ) → Balanced f (variable t d v) o (frames_hold c old.frames d v o) (frames_hold c s.frames d v o)
+  pub variables : (d v o : ℕ)
+      → Balanced f (variable t d v) o (frames_hold c old.frames d v o) (frames_hold c s.frames d v o)
   pub callouts : (d o : ℕ) → Balanced f (callout t d) o (callouts_hold old.frames d o) (callouts_hold s.frames d o)
   pub owed : (o : ℕ) → Balanced f (owed t) o (owed_in o old.work) (owed_in o s.work)
-  pub slots : (b o : ℕ) → Balanced f (slot b) o (times o (left_of st.parts.objects st.parts.dropped b)) (times o (left_of p.objects p.dropped b))
+  pub slots : (b o : ℕ)
+      → Balanced f (slot b) o (times o (left_of st.parts.objects st.parts.dropped b)) (times o (left_of p.objects p.dropped b))
 
 module _ (c : Script) (t : ℕ) (st : State) (d : Demand) (step : Step) (h : HeldAsTold c st) (k : KeepsHeld c t st (stand_at t st.stands) step.flow step.parts (stand_after t d step st)) where
   abbrev new : Stand
@@ -46,10 +48,12 @@ module _ (c : Script) (t : ℕ) (st : State) (d : Demand) (step : Step) (h : Hel
   other_stand u apart =
       subst (HoldsAs c (stand_at u stands)) (at_other blank u t new st.stands apart) (stopped_as c step.stops u (with_stand t new st.stands))
 
-  by_law : (k : Holder) (o : ℕ) → weigh (one (held_by k o)) (run (operations_of step.flow) st.edges) + flow_lost (one (held_by k o)) step.flow ≡ weigh (one (held_by k o)) st.edges + flow_won (one (held_by k o)) step.flow
+  by_law : (k : Holder) (o : ℕ)
+      → weigh (one (held_by k o)) (run (operations_of step.flow) st.edges) + flow_lost (one (held_by k o)) step.flow ≡ weigh (one (held_by k o)) st.edges + flow_won (one (held_by k o)) step.flow
   by_law x o = weigh-flow (one (held_by x o)) step.flow st.edges k.there
 
-  by_other : (x : Holder) (o : ℕ) → (IsOwn t x → ⊥) → weigh (one (held_by x o)) (run (operations_of step.flow) st.edges) ≡ weigh (one (held_by x o)) st.edges
+  by_other : (x : Holder) (o : ℕ) → (IsOwn t x → ⊥)
+      → weigh (one (held_by x o)) (run (operations_of step.flow) st.edges) ≡ weigh (one (held_by x o)) st.edges
   by_other x o apart =
       let none = flow_apart t (held_by x o) step.flow apart k.own in
       omega (arith, by_law x o, none.0, none.1)

@@ -31,14 +31,16 @@ retain_parts k st None = refl
 retain_parts k st (Some o) = refl
 
 -- a stop leaves whether a thread is done
-pub done_stays : (t : ℕ) (stops : Option ℕ) (ss : List Stand) → (stand_at t (stopped_at stops ss)).is_done ≡ (stand_at t ss).is_done
+pub done_stays : (t : ℕ) (stops : Option ℕ) (ss : List Stand)
+    → (stand_at t (stopped_at stops ss)).is_done ≡ (stand_at t ss).is_done
 done_stays t None ss = refl
 done_stays t (Some u) ss = elim (eqb_tells t u) [
   | inl e ↦ subst (λ (n : ℕ). (stand_at n (stopped_at (Some u) ss)).is_done ≡ (stand_at n ss).is_done) (sym e.1) (ap (λ (s : Stand). s.is_done) (at_own blank u (stop_stand (stand_at u ss)) ss))
   | inr e ↦ ap (λ (s : Stand). s.is_done) (at_other blank t u (stop_stand (stand_at u ss)) ss e.1)
 ]
 
-can_rest : (s : Script) (st : State) (t o : ℕ) (os : List ℕ) (h : First s (facts_of st) t (stand_at t st.stands) o os) → can_go st t ≡ true → can_go (done_by s t st (does (says (Retain h.var)))) t ≡ true
+can_rest : (s : Script) (st : State) (t o : ℕ) (os : List ℕ) (h : First s (facts_of st) t (stand_at t st.stands) o os)
+    → can_go st t ≡ true → can_go (done_by s t st (does (says (Retain h.var)))) t ≡ true
 can_rest s st t o os h go =
     let d : Demand = does (says (Retain h.var)) in
     let step = step_of s t st (frames_at t st) d in
@@ -47,13 +49,15 @@ can_rest s st t o os h go =
     done_stays t step.stops (with_stand t (stand_after t d step st) st.stands) ∙ ap (λ (s : Stand). s.is_done) (at_own blank t (stand_after t d step st) st.stands) ∙ sym h.going in
     ap (λ (p : List Flags × Bool). ((flags_at t p.0).is_started && not p.1) && not (is_asleep (flags_at t p.0).sleep)) (λ i. (flags i, done i)) ∙ go
 
-rest_after : (s : Script) (st : State) (t o : ℕ) (os : List ℕ) (h : First s (facts_of st) t (stand_at t st.stands) o os) → can_go st t ≡ true → next_retains s (done_by s t st (does (says (Retain h.var)))) t ≡ os
+rest_after : (s : Script) (st : State) (t o : ℕ) (os : List ℕ) (h : First s (facts_of st) t (stand_at t st.stands) o os)
+    → can_go st t ≡ true → next_retains s (done_by s t st (does (says (Retain h.var)))) t ≡ os
 rest_after s st t o os h go =
     let d : Demand = does (says (Retain h.var)) in
     let new = done_by s t st d in
     ap (λ (b : Bool). cond b (due s new t) []) (can_rest s st t o os h go) ∙ rest_comes s t st o os h
 
-pub comes_first : (s : Script) (st : State) (t o : ℕ) (os : List ℕ) → next_retains s st t ≡ o ∷ os → ComesFirst s st t o os
+pub comes_first : (s : Script) (st : State) (t o : ℕ) (os : List ℕ) → next_retains s st t ≡ o ∷ os
+    → ComesFirst s st t o os
 comes_first s st t o os e =
     let g = gate_first (can_go st t) (due s st t) o os e in
     let h = first_comes s (facts_of st) t (stand_at t st.stands) o os g.1 in

@@ -56,7 +56,8 @@ module _ (c : Script) (t : ℕ) (st : State) (own : FitsByBlock c) (h : IsSound 
       is_less : (m n : ℕ) → m < n → ltb m n ≡ true
       is_less m n h = grind (arith, nat_tests)
 
-  statement_go : (d : ℕ) (x : Statement) (used : List (Option ℕ)) (ownership : Ownership) → ((i o : ℕ) → used_at used i ≡ Some o → IsLive st o) → StepGo (statement_step c t d st x used ownership)
+  statement_go : (d : ℕ) (x : Statement) (used : List (Option ℕ)) (ownership : Ownership)
+      → ((i o : ℕ) → used_at used i ≡ Some o → IsLive st o) → StepGo (statement_step c t d st x used ownership)
   statement_go d x used Keeps live = deal_go IsOld st c t x used (λ k o name filter first second. (made_live o (live 0 o first), by filter second))
     where
       by : (f : Option ℕ) → ((p : ℕ) → f ≡ Some p → used_at used 1 ≡ Some p) → MadeIf st.parts f
@@ -93,7 +94,8 @@ module _ (c : Script) (t : ℕ) (st : State) (own : FitsByBlock c) (h : IsSound 
   end_go : StepGo (end_step t st)
   end_go = by (eqb t 0)
     where
-      by : (b : Bool) → RegistrationsGo IsOld st.parts.registrations (cond b (record st.parts { flags = start_all st.parts.flags }) st.parts).registrations
+      by : (b : Bool)
+          → RegistrationsGo IsOld st.parts.registrations (cond b (record st.parts { flags = start_all st.parts.flags }) st.parts).registrations
       by true = quiet
       by false = quiet
 
@@ -105,10 +107,13 @@ module _ (c : Script) (t : ℕ) (st : State) (own : FitsByBlock c) (h : IsSound 
       by None = quiet
       by (Some x) = quiet
 
-  spend_go : (i : ℕ) → RegistrationsGo IsOld st.parts.registrations (spend_if c st i (thing_at st.parts i)).parts.registrations
+  spend_go : (i : ℕ)
+      → RegistrationsGo IsOld st.parts.registrations (spend_if c st i (thing_at st.parts i)).parts.registrations
   spend_go i = by (thing_at st.parts i)
     where
-      inner : (b : Bool) (x y : Deal) → RegistrationsGo IsOld st.parts.registrations x.parts.registrations → RegistrationsGo IsOld st.parts.registrations y.parts.registrations → RegistrationsGo IsOld st.parts.registrations (cond b x y).parts.registrations
+      inner : (b : Bool) (x y : Deal) → RegistrationsGo IsOld st.parts.registrations x.parts.registrations
+          → RegistrationsGo IsOld st.parts.registrations y.parts.registrations
+          → RegistrationsGo IsOld st.parts.registrations (cond b x y).parts.registrations
       inner true x y p q = p
       inner false x y p q = q
 
@@ -116,7 +121,9 @@ module _ (c : Script) (t : ℕ) (st : State) (own : FitsByBlock c) (h : IsSound 
       by None = quiet
       by (Some x) = inner x.valid _ _ (inner x.valid _ _ quiet quiet) quiet
 
-  line_go : (f : Frame) (fs : List Frame) (work : List Work) (done : Bool) → OwnHeld c t st.edges (stand f fs work done) → Owns (lines_done c f) f.bindings → ((o : ℕ) → owed_in o work ≡ 0) → (x : BlockLine) → slice_get (frame_lines c f.kind f.block) f.number ≡ Some x → StepGo (step_of c t st (f ∷ fs) (does x))
+  line_go : (f : Frame) (fs : List Frame) (work : List Work) (done : Bool) → OwnHeld c t st.edges (stand f fs work done)
+      → Owns (lines_done c f) f.bindings → ((o : ℕ) → owed_in o work ≡ 0) → (x : BlockLine)
+      → slice_get (frame_lines c f.kind f.block) f.number ≡ Some x → StepGo (step_of c t st (f ∷ fs) (does x))
   line_go f fs work done held owns no_work (says x) at =
       let vs = line_uses (says x) in
       statement_go (length fs) x (used_objects f.bindings (says x)) (ownership_of x) (used_live c t st f fs work done held owns no_work h.steady.balance vs (3 - length vs) (fit_line c f (says x) own at).uses)
@@ -124,7 +131,9 @@ module _ (c : Script) (t : ℕ) (st : State) (own : FitsByBlock c) (h : IsSound 
   line_go f fs work done held owns no_work (claims k v) at = claim_go (parcel t k) (variable t (length fs) v) (first_held (parcel t k) st.edges)
   line_go f fs work done held owns no_work (packs u k v) at = pack_go (packed_holder t (length fs) v) (parcel u k) (object_at f.bindings v)
 
-  frame_go : (f : Frame) (fs : List Frame) (work : List Work) (done : Bool) → OwnHeld c t st.edges (stand f fs work done) → Owns (lines_done c f) f.bindings → ((o : ℕ) → owed_in o work ≡ 0) → (d : Demand) → FrameView c (facts_of st) t f d → StepGo (step_of c t st (f ∷ fs) d)
+  frame_go : (f : Frame) (fs : List Frame) (work : List Work) (done : Bool)
+      → OwnHeld c t st.edges (stand f fs work done) → Owns (lines_done c f) f.bindings → ((o : ℕ) → owed_in o work ≡ 0)
+      → (d : Demand) → FrameView c (facts_of st) t f d → StepGo (step_of c t st (f ∷ fs) d)
   frame_go f fs work done held owns no_work _ (is_call k called found) = fire_go (item_of k)
   frame_go f fs work done held owns no_work _ (is_line x at) = line_go f fs work done held owns no_work x at
   frame_go f fs work done held owns no_work _ (is_end e) = end_go
@@ -132,12 +141,14 @@ module _ (c : Script) (t : ℕ) (st : State) (own : FitsByBlock c) (h : IsSound 
   frame_go f fs work done held owns no_work _ (is_phase r p e) = phase_go p f.kind
   frame_go f fs work done held owns no_work _ (is_close r e) = close_go f.kind
 
-  work_go : (fs : List Frame) (work : List Work) (d : Demand) → WorkView (facts_of st) work d → StepGo (step_of c t st fs d)
+  work_go : (fs : List Frame) (work : List Work) (d : Demand) → WorkView (facts_of st) work d
+      → StepGo (step_of c t st fs d)
   work_go fs work _ (first_owes o first) = quiet
   work_go fs work _ (first_spends i first) = spend_go i
   work_go fs work _ (first_drops b k o left first) = quiet
 
-  stand_go : (s : Stand) (d : Demand) → OwnHeld c t st.edges s → FramesFit c s.frames → StandView c (facts_of st) t s d → StepGo (step_of c t st s.frames d)
+  stand_go : (s : Stand) (d : Demand) → OwnHeld c t st.edges s → FramesFit c s.frames → StandView c (facts_of st) t s d
+      → StepGo (step_of c t st s.frames d)
   stand_go s d held fits (of_work w view) = work_go s.frames s.work d view
   stand_go s d held fits (of_frame f fs no_work e view) =
       let held_top = subst (λ (gs : List Frame). OwnHeld c t st.edges (record { frames = gs; work = s.work; is_done = s.is_done })) e held in
@@ -168,7 +179,8 @@ module _ (c : Script) (t : ℕ) (st : State) (own : FitsByBlock c) (h : IsSound 
 abbrev pub AllOfMade : Parts → Type 0
 AllOfMade p = (n : ℕ) → IsOfMade p (registration_at p n)
 
-made_onward : (p q : Parts) (r : Option Registration) → ((o : ℕ) → is_made p o ≡ true → is_made q o ≡ true) → IsOfMade p r → IsOfMade q r
+made_onward : (p q : Parts) (r : Option Registration) → ((o : ℕ) → is_made p o ≡ true → is_made q o ≡ true)
+    → IsOfMade p r → IsOfMade q r
 made_onward p q None more made = tt
 made_onward p q (Some r) more made = (more r.observer made.0, by r.filter made.1)
   where
@@ -176,10 +188,12 @@ made_onward p q (Some r) more made = (more r.observer made.0, by r.filter made.1
     by None m = tt
     by (Some o) m = more o m
 
-pub demand_of_made : (c : Script) (t : ℕ) (st : State) (d : Demand) → FitsByBlock c → IsSound c st → demanded c st t ≡ Some d → AllOfMade st.parts → AllOfMade (done_by c t st d).parts
+pub demand_of_made : (c : Script) (t : ℕ) (st : State) (d : Demand) → FitsByBlock c → IsSound c st
+    → demanded c st t ≡ Some d → AllOfMade st.parts → AllOfMade (done_by c t st d).parts
 demand_of_made c t st d own h e all n = by (registration_at (done_by c t st d).parts n) refl
   where
-    by : (r : Option Registration) → registration_at (done_by c t st d).parts n ≡ r → IsOfMade (done_by c t st d).parts r
+    by : (r : Option Registration) → registration_at (done_by c t st d).parts n ≡ r
+        → IsOfMade (done_by c t st d).parts r
     by None q = tt
     by (Some r) q =
         let on = demand_onward c t st own h d e in

@@ -47,14 +47,16 @@ first_is : (t o : ℕ) (es : List Reference) (q : Reference) → first_from t o 
 first_is t o [] q e = absurd cc
 first_is t o (r ∷ rs) q e = by ((eqb r.object o) && is_thread t (owner_of r.holder)) refl e (first_is t o rs q)
   where
-    by : (b : Bool) → ((eqb r.object o) && is_thread t (owner_of r.holder)) ≡ b → cond b (Some r) (first_from t o rs) ≡ Some q
+    by : (b : Bool) → ((eqb r.object o) && is_thread t (owner_of r.holder)) ≡ b
+        → cond b (Some r) (first_from t o rs) ≡ Some q
         → (first_from t o rs ≡ Some q → OwnIs t o rs q) → OwnIs t o (r ∷ rs) q
     by true test e rest =
         let p = and_parts (eqb r.object o) (is_thread t (owner_of r.holder)) test in
         subst (OwnIs t o (r ∷ rs)) (some_is r q e) (record { there = one_here r rs; thread = p.1; object = eqb-true r.object o p.0 })
     by false test e rest = more_own t o r rs q (rest e)
 
-pub own_is : (t : ℕ) (h : Holder) (o : ℕ) (es : List Reference) (q : Reference) → IsOf t h → own_reference t h o es ≡ Some q → OwnIs t o es q
+pub own_is : (t : ℕ) (h : Holder) (o : ℕ) (es : List Reference) (q : Reference) → IsOf t h
+    → own_reference t h o es ≡ Some q → OwnIs t o es q
 own_is t h o es q of e = by (has h o es) refl e
   where
     by : (b : Bool) → has h o es ≡ b → cond b (Some (held_by h o)) (first_from t o es) ≡ Some q → OwnIs t o es q
@@ -62,7 +64,8 @@ own_is t h o es q of e = by (has h o es) refl e
     by false test e = first_is t o es q e
 
 -- where the holder has a reference, that is the one
-pub own_has : (t : ℕ) (h : Holder) (o : ℕ) (es : List Reference) → has h o es ≡ true → own_reference t h o es ≡ Some (held_by h o)
+pub own_has : (t : ℕ) (h : Holder) (o : ℕ) (es : List Reference) → has h o es ≡ true
+    → own_reference t h o es ≡ Some (held_by h o)
 own_has t h o es e = ap (λ (b : Bool). cond b (Some (held_by h o)) (first_from t o es)) e
 
 -- ---- several
@@ -76,13 +79,16 @@ pub record OwnAre (t : ℕ) (es rs : List Reference) : Type 0 where
   pub there : (r : Reference) → weigh (one r) rs ≤ weigh (one r) es
   pub thread : AllOf t rs
 
-own_cons : (t o : ℕ) (es : List Reference) (q : Reference) (rs : List Reference) → OwnIs t o es q → OwnAre t (without q es) rs → OwnAre t es (q ∷ rs)
+own_cons : (t o : ℕ) (es : List Reference) (q : Reference) (rs : List Reference) → OwnIs t o es q
+    → OwnAre t (without q es) rs → OwnAre t es (q ∷ rs)
 own_cons t o es q rs h k = record {
   there = λ r. omega (arith, k.there r, weigh-without (one r) q es h.there);
   thread = (h.thread, k.thread);
 }
 
-own_each : (t : ℕ) (h : Holder) (o : ℕ) (rest : List Reference → List Reference) (es : List Reference) (q : Option Reference) → IsOf t h → own_reference t h o es ≡ q
+own_each : (t : ℕ) (h : Holder) (o : ℕ) (rest : List Reference → List Reference) (es : List Reference)
+    (q : Option Reference)
+    → IsOf t h → own_reference t h o es ≡ q
     → ((fs : List Reference) → OwnAre t fs (rest fs)) → OwnAre t es (option_to_list q ++ rest (without_if q es))
 own_each t h o rest es None of e k = k es
 own_each t h o rest es (Some q) of e k = own_cons t o es q (rest (without q es)) (own_is t h o es q of e) (k (without q es))
@@ -93,7 +99,8 @@ own_are t (r ∷ rs) es of =
     own_each t r.holder r.object (own_references t rs) es (own_reference t r.holder r.object es) of.0 refl (λ fs. own_are t rs fs of.1)
 
 -- where the holders have them all, they are what is taken
-pub own_all : (t : ℕ) (rs es : List Reference) → ((r : Reference) → weigh (one r) rs ≤ weigh (one r) es) → own_references t rs es ≡ rs
+pub own_all : (t : ℕ) (rs es : List Reference) → ((r : Reference) → weigh (one r) rs ≤ weigh (one r) es)
+    → own_references t rs es ≡ rs
 own_all t [] es h = refl
 own_all t (r ∷ rs) es h =
     let same : one r r ≡ 1 = ap counted (same-refl r) in

@@ -62,7 +62,8 @@ statement_of_thread : (x : Statement) (site : Site) → IsOfThread (action_of x 
 statement_of_thread (forms.Retain v) site = tt
 statement_of_thread x site = tt
 
-line_of_thread : (c : Script) (facts : Facts) (t : ℕ) (f : Frame) (x : BlockLine) → IsOfThread (line_action c facts t f x)
+line_of_thread : (c : Script) (facts : Facts) (t : ℕ) (f : Frame) (x : BlockLine)
+    → IsOfThread (line_action c facts t f x)
 line_of_thread c facts t f (begins v) = tt
 line_of_thread c facts t f (claims k v) = tt
 line_of_thread c facts t f (says x) = statement_of_thread x (site_in c f (says x))
@@ -72,12 +73,14 @@ phase_of_thread : (p : Phase) → IsOfThread (phase_action p)
 phase_of_thread (phases.Note a) = tt
 phase_of_thread p = tt
 
-demand_of_thread : (c : Script) (facts : Facts) (t : ℕ) (fs : List Frame) (d : Demand) → IsOfThread (action_in c facts t fs d)
+demand_of_thread : (c : Script) (facts : Facts) (t : ℕ) (fs : List Frame) (d : Demand)
+    → IsOfThread (action_in c facts t fs d)
 demand_of_thread c facts t fs (does x) = line_of_thread c facts t (top_frame fs) x
 demand_of_thread c facts t fs (enters p) = phase_of_thread p
 demand_of_thread c facts t fs d = tt
 
-pub next_uses : (c : Script) (st : State) (t : ℕ) (a : Action) → FitsByBlock c → IsSound c st → Next c st t ≡ Some a → MayUseAll st t (owners_of a) (action_uses a)
+pub next_uses : (c : Script) (st : State) (t : ℕ) (a : Action) → FitsByBlock c → IsSound c st → Next c st t ≡ Some a
+    → MayUseAll st t (owners_of a) (action_uses a)
 next_uses c st t a own h e =
     let acts = next_is c st t a e in
     subst (λ (b : Action). MayUseAll st t (owners_of b) (action_uses b)) acts.action (demand_may c t st h own acts.demand acts.demands)
@@ -110,7 +113,9 @@ module _ (c : Script) (t v o : ℕ) (st : State) (own : FitsByBlock c) (h : IsSo
   abbrev Taken : List Frame → Type 0
   Taken fs = own_reference t (variable t (depth_of fs) v) o st.edges ≡ Some (held_by (variable t (depth_of fs) v) o)
 
-  by_frame : (f : Frame) (fs : List Frame) (s : Stand) (d : Demand) → line_of d ≡ Some x → look v f.bindings ≡ Some o → OwnHeld c t st.edges (stand f fs s.work s.is_done) → Owns (lines_done c f) f.bindings → ((q : ℕ) → owed_in q s.work ≡ 0) → FrameView c (facts_of st) t f d → Taken (f ∷ fs)
+  by_frame : (f : Frame) (fs : List Frame) (s : Stand) (d : Demand) → line_of d ≡ Some x → look v f.bindings ≡ Some o
+      → OwnHeld c t st.edges (stand f fs s.work s.is_done) → Owns (lines_done c f) f.bindings
+      → ((q : ℕ) → owed_in q s.work ≡ 0) → FrameView c (facts_of st) t f d → Taken (f ∷ fs)
   by_frame f fs s _ e is held owns idle (is_line y at) =
       let fit : FitLine (lines_done c f) x = fit_line c f x own (at ∙ e) in
       release_own c t st f fs s.work s.is_done held owns idle v o is fit.ownership
@@ -120,19 +125,22 @@ module _ (c : Script) (t v o : ℕ) (st : State) (own : FitsByBlock c) (h : IsSo
   by_frame f fs s _ e is held owns idle (is_phase r p q) = absurd cc
   by_frame f fs s _ e is held owns idle (is_close r q) = absurd cc
 
-  by_work : (facts : Facts) (fs : List Frame) (work : List Work) (d : Demand) → line_of d ≡ Some x → WorkView facts work d → Taken fs
+  by_work : (facts : Facts) (fs : List Frame) (work : List Work) (d : Demand) → line_of d ≡ Some x
+      → WorkView facts work d → Taken fs
   by_work facts fs work _ e (first_owes p first) = absurd cc
   by_work facts fs work _ e (first_spends i first) = absurd cc
   by_work facts fs work _ e (first_drops b k p left first) = absurd cc
 
-  by_stand : (s : Stand) (d : Demand) → line_of d ≡ Some x → look v (bindings_of s.frames) ≡ Some o → OwnHeld c t st.edges s → FramesFit c s.frames → StandView c (facts_of st) t s d → Taken s.frames
+  by_stand : (s : Stand) (d : Demand) → line_of d ≡ Some x → look v (bindings_of s.frames) ≡ Some o
+      → OwnHeld c t st.edges s → FramesFit c s.frames → StandView c (facts_of st) t s d → Taken s.frames
   by_stand s d e is held fits (of_work w view) = by_work (facts_of st) s.frames s.work d e view
   by_stand s d e is held fits (of_frame f fs idle q view) =
       let held_top = subst (λ (gs : List Frame). OwnHeld c t st.edges (record { frames = gs; work = s.work; is_done = s.is_done })) q held in
       let fits_top = subst (FramesFit c) q fits in
       subst Taken (sym q) (by_frame f fs s d e (sym (ap (λ (gs : List Frame). look v (bindings_of gs)) q) ∙ is) held_top fits_top.0 (λ p. idle_owed (facts_of st) s.work p idle) view)
 
-  pub release_takes : demanded c st t ≡ Some (does x) → look v (bindings_of (frames_at t st)) ≡ Some o → flow_if c t st (demanded c st t) ≡ shrinks (held_by (variable t (depth_of (frames_at t st)) v) o)
+  pub release_takes : demanded c st t ≡ Some (does x) → look v (bindings_of (frames_at t st)) ≡ Some o
+      → flow_if c t st (demanded c st t) ≡ shrinks (held_by (variable t (depth_of (frames_at t st)) v) o)
   release_takes e is =
       let s = stand_at t st.stands in
       let taken = by_stand s (does x) refl is (own_held c st t h.held) (h.frames t) (stand_view c (facts_of st) t s (does x) e) in
@@ -153,7 +161,8 @@ one_below t d v o e = by (same (held_by (variable t d v) o) e) refl
     by false q = omega arith
 
 -- the first has a reference
-first_own : (c : Script) (t o : ℕ) (os : List ℕ) (st : State) → FitsByBlock c → IsSound c st → First c (facts_of st) t (stand_at t st.stands) o os → 0 < weigh (from_thread t o) st.edges
+first_own : (c : Script) (t o : ℕ) (os : List ℕ) (st : State) → FitsByBlock c → IsSound c st
+    → First c (facts_of st) t (stand_at t st.stands) o os → 0 < weigh (from_thread t o) st.edges
 first_own c t o os st own h f =
     let s = stand_at t st.stands in
     let held = subst (λ (fs : List Frame). OwnHeld c t st.edges (record { frames = fs; work = s.work; is_done = s.is_done })) f.frames (own_held c st t h.held) in
@@ -163,7 +172,8 @@ first_own c t o os st own h f =
     omega (arith, there, weigh-le (one (held_by (variable t (length f.below) f.var) o)) (from_thread t o) st.edges (one_below t (length f.below) f.var o))
 
 -- a retain adds to its own object's references alone
-retained_other : (t o q : ℕ) (k : Holder) (st : State) (object : Option ℕ) → object ≡ Some o → (o ≡ q → ⊥) → weigh (from_thread t q) (flowed (retain_step k st object).flow st.edges) ≡ weigh (from_thread t q) st.edges
+retained_other : (t o q : ℕ) (k : Holder) (st : State) (object : Option ℕ) → object ≡ Some o → (o ≡ q → ⊥)
+    → weigh (from_thread t q) (flowed (retain_step k st object).flow st.edges) ≡ weigh (from_thread t q) st.edges
 retained_other t o q k st None e apart = absurd cc
 retained_other t o q k st (Some p) e apart = omega (arith, none (is_thread t (owner_of k)))
   where
@@ -179,14 +189,16 @@ retained_other t o q k st (Some p) e apart = omega (arith, none (is_thread t (ow
         by : (b : Bool) → eqb p q ≡ false → counted ((eqb p q) && b) ≡ 0
         by b e = rw e refl
 
-retain_own : (c : Script) (t o q : ℕ) (os : List ℕ) (st : State) → (f : First c (facts_of st) t (stand_at t st.stands) o os) → (o ≡ q → ⊥)
+retain_own : (c : Script) (t o q : ℕ) (os : List ℕ) (st : State)
+    → (f : First c (facts_of st) t (stand_at t st.stands) o os) → (o ≡ q → ⊥)
     → weigh (from_thread t q) (done_by c t st (does (says (forms.Retain f.var)))).edges ≡ weigh (from_thread t q) st.edges
 retain_own c t o q os st f apart =
     let object = first_of (used_objects (bindings_of (frames_at t st)) (says (forms.Retain f.var))) in
     let is : object ≡ Some o = ap (λ (fs : List Frame). look f.var (bindings_of fs)) f.frames ∙ f.bound in
     retained_other t o q (variable t (depth_of (frames_at t st)) f.var) st object is apart
 
-pub coming_had : (c : Script) (t q : ℕ) (xs : List ℕ) (st : State) → FitsByBlock c → IsSound c st → ahead c (facts_of st) t (stand_at t st.stands) ≡ xs → 0 < times q xs → 0 < weigh (from_thread t q) st.edges
+pub coming_had : (c : Script) (t q : ℕ) (xs : List ℕ) (st : State) → FitsByBlock c → IsSound c st
+    → ahead c (facts_of st) t (stand_at t st.stands) ≡ xs → 0 < times q xs → 0 < weigh (from_thread t q) st.edges
 coming_had c t q [] st own h e has = absurd (omega arith)
 coming_had c t q (o ∷ os) st own h e has =
     let f = first_comes c (facts_of st) t (stand_at t st.stands) o os e in
@@ -202,7 +214,8 @@ gate_has : (b : Bool) (xs : List ℕ) (q : ℕ) → 0 < times q (cond b xs []) �
 gate_has true xs q h = h
 gate_has false xs q h = absurd (omega arith)
 
-pub coming_is_had : (c : Script) (t q : ℕ) (st : State) → FitsByBlock c → IsSound c st → 0 < times q (next_retains c st t) → 0 < weigh (from_thread t q) st.edges
+pub coming_is_had : (c : Script) (t q : ℕ) (st : State) → FitsByBlock c → IsSound c st
+    → 0 < times q (next_retains c st t) → 0 < weigh (from_thread t q) st.edges
 coming_is_had c t q st own h has =
     let xs = ahead c (facts_of st) t (stand_at t st.stands) in
     coming_had c t q xs st own h refl (gate_has (can_go st t) xs q has)

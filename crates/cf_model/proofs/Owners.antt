@@ -50,23 +50,27 @@ all_none : (t u o : ℕ) (rs : List Reference) → AllOwn u rs → (t ≡ u → 
 all_none t u o [] own apart = refl
 all_none t u o (r ∷ rs) own apart = omega (arith, none_from t u o r own.0 apart, all_none t u o rs own.1 apart)
 
-moves_none : (t u o : ℕ) (ms : List Move) → MovesOwn u ms → (t ≡ u → ⊥) → (won_by_moves (from_thread t o) ms ≡ 0) × (lost_by_moves (from_thread t o) ms ≡ 0)
+moves_none : (t u o : ℕ) (ms : List Move) → MovesOwn u ms → (t ≡ u → ⊥)
+    → (won_by_moves (from_thread t o) ms ≡ 0) × (lost_by_moves (from_thread t o) ms ≡ 0)
 moves_none t u o [] own apart = (refl, refl)
 moves_none t u o (m ∷ ms) own apart =
     let rest = moves_none t u o ms own.2 apart in
     (omega (arith, none_from t u o (moved m.from m.to) own.1 apart, rest.0), omega (arith, none_from t u o m.from own.0 apart, rest.1))
 
-flow_none : (t u o : ℕ) (f : Flow) → FlowOwn u f → (t ≡ u → ⊥) → (flow_won (from_thread t o) f ≡ 0) × (flow_lost (from_thread t o) f ≡ 0)
+flow_none : (t u o : ℕ) (f : Flow) → FlowOwn u f → (t ≡ u → ⊥)
+    → (flow_won (from_thread t o) f ≡ 0) × (flow_lost (from_thread t o) f ≡ 0)
 flow_none t u o (grows es ms) own apart = let m = moves_none t u o ms own.1 apart in (omega (arith, all_none t u o es own.0 apart, m.0), m.1)
 flow_none t u o (shrinks r) own apart = (refl, none_from t u o r own apart)
 
 -- a legal entry of another thread
-others_own : (t u o : ℕ) (st : State) (step : Step) → StepFits u st step → (t ≡ u → ⊥) → weigh (from_thread t o) (flowed step.flow st.edges) ≡ weigh (from_thread t o) st.edges
+others_own : (t u o : ℕ) (st : State) (step : Step) → StepFits u st step → (t ≡ u → ⊥)
+    → weigh (from_thread t o) (flowed step.flow st.edges) ≡ weigh (from_thread t o) st.edges
 others_own t u o st step fits apart =
     let none = flow_none t u o step.flow fits.own apart in
     omega (arith, weigh-flow (from_thread t o) step.flow st.edges fits.there, none.0, none.1)
 
-entry_own : (s : Script) (st : State) (u : ℕ) (a : Action) (x : Answer) (t o : ℕ) → IsSteady st → ActionView a → IsLegalAs s st (record { thread = u; action = a; answer = x }) a → (t ≡ u → ⊥)
+entry_own : (s : Script) (st : State) (u : ℕ) (a : Action) (x : Answer) (t o : ℕ) → IsSteady st → ActionView a
+    → IsLegalAs s st (record { thread = u; action = a; answer = x }) a → (t ≡ u → ⊥)
     → weigh (from_thread t o) (after_action s u st a).edges ≡ weigh (from_thread t o) st.edges
 entry_own s st u _ x t o h (is_tick n) legal apart = refl
 entry_own s st u _ x t o h is_stall legal apart = refl
@@ -75,17 +79,20 @@ entry_own s st u a x t o h (is_step _ step) legal apart =
     let done = legal_done s st e h (step.legal s st e legal) in
     ap (λ (y : State). weigh (from_thread t o) y.edges) (step_after s st e step done) ∙ others_own t u o st (step_of s u st (frames_at u st) done.acts.demand) done.fits apart
 
-own_from : (s : Script) (st : State) (more : List Entry) (t o : ℕ) → IsSteady st → IsLegalPart s st more → NoneBy t more → weigh (from_thread t o) (state_from s st more).edges ≡ weigh (from_thread t o) st.edges
+own_from : (s : Script) (st : State) (more : List Entry) (t o : ℕ) → IsSteady st → IsLegalPart s st more → NoneBy t more
+    → weigh (from_thread t o) (state_from s st more).edges ≡ weigh (from_thread t o) st.edges
 own_from s st [] t o h legal none = refl
 own_from s st (e ∷ more) t o h legal none =
     own_from s (after_action s e.thread st e.action) more t o (legal_keeps s st e h legal.0).steady legal.1 none.1
     ∙ entry_own s st e.thread e.action e.answer t o h (action_view e.action) legal.0 none.0
 
-pub split_part : (s : Script) (st : State) (es more : List Entry) → IsLegalPart s st (es ++ more) → IsLegalPart s st es × IsLegalPart s (state_from s st es) more
+pub split_part : (s : Script) (st : State) (es more : List Entry) → IsLegalPart s st (es ++ more)
+    → IsLegalPart s st es × IsLegalPart s (state_from s st es) more
 split_part s st [] more h = (tt, h)
 split_part s st (e ∷ es) more h = let r = split_part s (after_action s e.thread st e.action) es more h.1 in ((h.0, r.0), r.1)
 
-pub own_stays : (s : Script) (journal more : List Entry) (t : ℕ) → IsLegal s (journal ++ more) → OwnStays s journal more t
+pub own_stays : (s : Script) (journal more : List Entry) (t : ℕ) → IsLegal s (journal ++ more)
+    → OwnStays s journal more t
 own_stays s journal more t legal o none =
     let parts = split_part s (start s) journal more (part_of_legal s (start s) (journal ++ more) legal) in
     let steady = (kept_part s (start s) journal (start_steady s) parts.0).steady in
@@ -97,7 +104,8 @@ flow_one_way : (f : Flow) (es : List Reference) → IsThere f es → OneWay es (
 flow_one_way (grows ins ms) es can = rises (λ o. omega (arith, degree-flow o (grows ins ms) es can))
 flow_one_way (shrinks r) es can = falls (λ o. omega (arith, degree-flow o (shrinks r) es can))
 
-entry_one_way : (s : Script) (st : State) (u : ℕ) (a : Action) (x : Answer) → IsSteady st → ActionView a → IsLegalAs s st (record { thread = u; action = a; answer = x }) a
+entry_one_way : (s : Script) (st : State) (u : ℕ) (a : Action) (x : Answer) → IsSteady st → ActionView a
+    → IsLegalAs s st (record { thread = u; action = a; answer = x }) a
     → OneWay st.edges (after_action s u st a).edges
 entry_one_way s st u _ x h (is_tick n) legal = rises (λ o. omega arith)
 entry_one_way s st u _ x h is_stall legal = rises (λ o. omega arith)
@@ -106,7 +114,8 @@ entry_one_way s st u a x h (is_step _ step) legal =
     let done = legal_done s st e h (step.legal s st e legal) in
     subst (λ (y : State). OneWay st.edges y.edges) (sym (step_after s st e step done)) (flow_one_way (step_of s u st (frames_at u st) done.acts.demand).flow st.edges done.fits.there)
 
-pub one_way : (s : Script) (journal more : List Entry) (e : Entry) → IsLegal s (journal ++ e ∷ more) → IsOneWay s journal e
+pub one_way : (s : Script) (journal more : List Entry) (e : Entry) → IsLegal s (journal ++ e ∷ more)
+    → IsOneWay s journal e
 one_way s journal more e legal =
     let parts = split_part s (start s) journal (e ∷ more) (part_of_legal s (start s) (journal ++ e ∷ more) legal) in
     let steady = (kept_part s (start s) journal (start_steady s) parts.0).steady in

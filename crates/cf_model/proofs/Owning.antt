@@ -14,7 +14,8 @@ use Rattle.cf_next.specs.Advance.{bindings_by}
 use Rattle.cf_next.specs.Stands.{Binding, look}
 use Rattle.cf_model.specs.Tokens.{one_if}
 
-sum_more : (f : Ownership → ℕ) (xs : List BlockLine) (x : BlockLine) (ownership : Ownership) → line_ownership x ≡ ownership → total f (xs ++ x ∷ []) ≡ total f xs + f ownership
+sum_more : (f : Ownership → ℕ) (xs : List BlockLine) (x : BlockLine) (ownership : Ownership)
+    → line_ownership x ≡ ownership → total f (xs ++ x ∷ []) ≡ total f xs + f ownership
 sum_more f xs x ownership e = total_push f xs x ∙ ap (λ (u : Ownership). total f xs + f u) e
 
 -- a variable is bound, and owns a reference
@@ -48,10 +49,12 @@ one_if-none (Some p) o = by (eqb p o)
     by false = refl
 
 -- references of a variable to an object, where there is one
-apart_variables : (t d v w o : ℕ) (x : ℕ) → (v ≡ w → ⊥) → one (held_by (variable t d v) o) (held_by (variable t d w) x) ≡ 0
+apart_variables : (t d v w o : ℕ) (x : ℕ) → (v ≡ w → ⊥)
+    → one (held_by (variable t d v) o) (held_by (variable t d w) x) ≡ 0
 apart_variables t d v w o x h = holders_apart (held_by (variable t d v) o) (held_by (variable t d w) x) (λ q. h (ap (λ k. (code_of k).third) q))
 
-pub variable_weigh : (t d v w o : ℕ) (object : Option ℕ) → weigh (one (held_by (variable t d v) o)) (held_if (variable t d w) object) ≡ one_if object o (one_of v w)
+pub variable_weigh : (t d v w o : ℕ) (object : Option ℕ)
+    → weigh (one (held_by (variable t d v) o)) (held_if (variable t d w) object) ≡ one_if object o (one_of v w)
 variable_weigh t d v w o None = refl
 variable_weigh t d v w o (Some x) = elim (eqb_tells v w) [
   | inl e ↦
@@ -87,7 +90,8 @@ loses bs _ v o = 0
 -- after a line that binds, gives or takes so: what the variables own by the lines that are then done
 pub record OwnsAfter (earlier later : List BlockLine) (bs : List Binding) (ownership : Ownership) (object : Option ℕ) : Type 0 where
   pub owns : Owns later (bindings_by ownership object ++ bs)
-  pub count : (v o : ℕ) → count_of later (bindings_by ownership object ++ bs) v o + loses bs ownership v o ≡ count_of earlier bs v o + wins bs ownership object v o
+  pub count : (v o : ℕ)
+      → count_of later (bindings_by ownership object ++ bs) v o + loses bs ownership v o ≡ count_of earlier bs v o + wins bs ownership object v o
 
 -- ---- the lines after a line
 
@@ -98,10 +102,12 @@ pub record Follows (earlier : List BlockLine) (x : BlockLine) (later : List Bloc
   pub is : later ≡ (earlier ++ x ∷ []) ++ passed
   pub even : (v : ℕ) → given v passed ≡ released v passed
 
-pub none_passed : (earlier : List BlockLine) (x : BlockLine) (later : List BlockLine) → later ≡ earlier ++ x ∷ [] → Follows earlier x later
+pub none_passed : (earlier : List BlockLine) (x : BlockLine) (later : List BlockLine) → later ≡ earlier ++ x ∷ []
+    → Follows earlier x later
 none_passed earlier x later e = record { passed = []; is = e ∙ sym (append-nil (earlier ++ x ∷ [])); even = λ v. refl }
 
-passed_owns : (earlier passed : List BlockLine) (bs : List Binding) → ((v : ℕ) → given v passed ≡ released v passed) → Owns earlier bs → Owns (earlier ++ passed) bs
+passed_owns : (earlier passed : List BlockLine) (bs : List Binding) → ((v : ℕ) → given v passed ≡ released v passed)
+    → Owns earlier bs → Owns (earlier ++ passed) bs
 passed_owns earlier passed bs even h = record {
   unbound = λ v none.
       let u = h.unbound v (omega (arith, none, total_append (bound_by v) earlier passed)) in
@@ -109,12 +115,16 @@ passed_owns earlier passed bs even h = record {
   most = λ v. omega (arith, h.most v, even v, total_append (given_by v) earlier passed, total_append (released_by v) earlier passed);
 }
 
-passed_count : (earlier passed : List BlockLine) (bs : List Binding) → ((v : ℕ) → given v passed ≡ released v passed) → (v o : ℕ) → count_of (earlier ++ passed) bs v o ≡ count_of earlier bs v o
+passed_count : (earlier passed : List BlockLine) (bs : List Binding) → ((v : ℕ) → given v passed ≡ released v passed)
+    → (v o : ℕ) → count_of (earlier ++ passed) bs v o ≡ count_of earlier bs v o
 passed_count earlier passed bs even v o =
     let g : given v (earlier ++ passed) - released v (earlier ++ passed) ≡ given v earlier - released v earlier = omega (arith, even v, total_append (given_by v) earlier passed, total_append (released_by v) earlier passed) in
     rw g refl
 
-passed_after : (earlier next later : List BlockLine) (passed : List BlockLine) (bs : List Binding) (ownership : Ownership) (object : Option ℕ) → later ≡ next ++ passed → ((v : ℕ) → given v passed ≡ released v passed) → OwnsAfter earlier next bs ownership object → OwnsAfter earlier later bs ownership object
+passed_after : (earlier next later : List BlockLine) (passed : List BlockLine) (bs : List Binding)
+    (ownership : Ownership) (object : Option ℕ)
+    → later ≡ next ++ passed → ((v : ℕ) → given v passed ≡ released v passed)
+    → OwnsAfter earlier next bs ownership object → OwnsAfter earlier later bs ownership object
 passed_after earlier next later passed bs ownership object e even h =
     subst (λ (ls : List BlockLine). OwnsAfter earlier ls bs ownership object) (sym e) (record {
       owns = passed_owns next passed (bindings_by ownership object ++ bs) even h.owns;
@@ -131,7 +141,8 @@ module _ (x : BlockLine) (earlier : List BlockLine) (bs : List Binding) (h : Own
       let k : released v later ≡ released v earlier = omega (arith, sum_more (released_by v) earlier x Keeps t) in
       rw (g, k) refl
 
-  binds_owned : (w : ℕ) (object : Option ℕ) → line_ownership x ≡ Binds w → bound w earlier ≡ 0 → (v o : ℕ) → count_of later (bindings_by (Binds w) object ++ bs) v o ≡ count_of earlier bs v o + one_if object o (one_of v w)
+  binds_owned : (w : ℕ) (object : Option ℕ) → line_ownership x ≡ Binds w → bound w earlier ≡ 0 → (v o : ℕ)
+      → count_of later (bindings_by (Binds w) object ++ bs) v o ≡ count_of earlier bs v o + one_if object o (one_of v w)
   binds_owned w object t new v o = elim (eqb_tells w v) [
     | inl e ↦
         let one_here : one_of v w ≡ 1 = subst (λ (n : ℕ). one_of n w ≡ 1) e.1 (ap (λ (b : Bool). cond b 1 0) (eq-eqb w w refl)) in
@@ -145,7 +156,8 @@ module _ (x : BlockLine) (earlier : List BlockLine) (bs : List Binding) (h : Own
         rw (e.0, g, k, none_here, one_if-none object o) (omega arith)
   ]
 
-  retains_owned : (w : ℕ) → line_ownership x ≡ Retains w → (v o : ℕ) → count_of later bs v o ≡ count_of earlier bs v o + one_if (look w bs) o (one_of v w)
+  retains_owned : (w : ℕ) → line_ownership x ≡ Retains w → (v o : ℕ)
+      → count_of later bs v o ≡ count_of earlier bs v o + one_if (look w bs) o (one_of v w)
   retains_owned w t v o = elim (eqb_tells v w) [
     | inl e ↦
         let one_here : one_of v w ≡ 1 = ap (λ (b : Bool). cond b 1 0) e.0 in
@@ -157,7 +169,8 @@ module _ (x : BlockLine) (earlier : List BlockLine) (bs : List Binding) (h : Own
         rw (g, none_here, one_if-none (look w bs) o) (omega arith)
   ]
 
-  releases_owned : (w : ℕ) → line_ownership x ≡ Releases w → released w earlier < given w earlier → (v o : ℕ) → count_of later bs v o + one_if (look w bs) o (one_of v w) ≡ count_of earlier bs v o
+  releases_owned : (w : ℕ) → line_ownership x ≡ Releases w → released w earlier < given w earlier → (v o : ℕ)
+      → count_of later bs v o + one_if (look w bs) o (one_of v w) ≡ count_of earlier bs v o
   releases_owned w t some v o = elim (eqb_tells v w) [
     | inl e ↦
         let one_here : one_of v w ≡ 1 = ap (λ (b : Bool). cond b 1 0) e.0 in
@@ -172,7 +185,8 @@ module _ (x : BlockLine) (earlier : List BlockLine) (bs : List Binding) (h : Own
 
   -- ---- the variables stay in order
 
-  before : (ownership : Ownership) (v : ℕ) → line_ownership x ≡ ownership → bound_by v ownership ≡ 0 → bound v later ≡ 0 → bound v earlier ≡ 0
+  before : (ownership : Ownership) (v : ℕ) → line_ownership x ≡ ownership → bound_by v ownership ≡ 0 → bound v later ≡ 0
+      → bound v earlier ≡ 0
   before ownership v t none some = omega (arith, none, some, sum_more (bound_by v) earlier x ownership t)
 
   keeps_owns : line_ownership x ≡ Keeps → Owns later bs
@@ -183,7 +197,8 @@ module _ (x : BlockLine) (earlier : List BlockLine) (bs : List Binding) (h : Own
     most = λ v. omega (arith, h.most v, sum_more (given_by v) earlier x Keeps t, sum_more (released_by v) earlier x Keeps t);
   }
 
-  binds_owns : (w : ℕ) (object : Option ℕ) → line_ownership x ≡ Binds w → Owns later (bindings_by (Binds w) object ++ bs)
+  binds_owns : (w : ℕ) (object : Option ℕ) → line_ownership x ≡ Binds w
+      → Owns later (bindings_by (Binds w) object ++ bs)
   binds_owns w object t = record {
     unbound = λ v none.
         let none_here : one_of v w ≡ 0 = omega (arith, none, sum_more (bound_by v) earlier x (Binds w) t) in
@@ -210,7 +225,8 @@ module _ (x : BlockLine) (earlier : List BlockLine) (bs : List Binding) (h : Own
     most = λ v. omega (arith, h.most v, sum_more (given_by v) earlier x (Retains w) t, sum_more (released_by v) earlier x (Retains w) t);
   }
 
-  releases_owns : (w : ℕ) → line_ownership x ≡ Releases w → 0 < bound w earlier → released w earlier < given w earlier → Owns later bs
+  releases_owns : (w : ℕ) → line_ownership x ≡ Releases w → 0 < bound w earlier → released w earlier < given w earlier
+      → Owns later bs
   releases_owns w t some more = record {
     unbound = λ v none.
         let b = before (Releases w) v t refl none in
@@ -227,7 +243,8 @@ module _ (x : BlockLine) (earlier : List BlockLine) (bs : List Binding) (h : Own
     ];
   }
 
-  owns_next : (ownership : Ownership) (object : Option ℕ) → line_ownership x ≡ ownership → FitsOwnership earlier ownership → OwnsAfter earlier later bs ownership object
+  owns_next : (ownership : Ownership) (object : Option ℕ) → line_ownership x ≡ ownership
+      → FitsOwnership earlier ownership → OwnsAfter earlier later bs ownership object
   owns_next Keeps object t fit = record { owns = keeps_owns t; count = λ v o. omega (arith, keeps_owned t v o) }
   owns_next (Binds w) object t fit = record {
     owns = binds_owns w object t;
@@ -237,5 +254,6 @@ module _ (x : BlockLine) (earlier : List BlockLine) (bs : List Binding) (h : Own
   owns_next (Releases w) object t fit = record { owns = releases_owns w t fit.is_bound fit.more; count = λ v o. omega (arith, releases_owned w t fit.more v o) }
 
   -- after the line, and those that are passed over
-  pub owns_after : (all : List BlockLine) → Follows earlier x all → (ownership : Ownership) (object : Option ℕ) → line_ownership x ≡ ownership → FitsOwnership earlier ownership → OwnsAfter earlier all bs ownership object
+  pub owns_after : (all : List BlockLine) → Follows earlier x all → (ownership : Ownership) (object : Option ℕ)
+      → line_ownership x ≡ ownership → FitsOwnership earlier ownership → OwnsAfter earlier all bs ownership object
   owns_after all after ownership object t fit = passed_after earlier later all after.passed bs ownership object after.is after.even (owns_next ownership object t fit)

@@ -24,7 +24,8 @@ packed_append h (x ∷ xs) ys = omega (arith, packed_append h xs ys)
 line_is : (x y : BlockLine) → ◌≡◌ {A = Option BlockLine} (Some x) (Some y) → x ≡ y
 line_is x y e = cc
 
-pub packed_next : (h : Holder) (xs : List BlockLine) (n : ℕ) (x : BlockLine) → slice_get xs n ≡ Some x → packed h (take (n + 1) xs) ≡ packed h (take n xs) + packed_line h x
+pub packed_next : (h : Holder) (xs : List BlockLine) (n : ℕ) (x : BlockLine) → slice_get xs n ≡ Some x
+    → packed h (take (n + 1) xs) ≡ packed h (take n xs) + packed_line h x
 packed_next h [] n x e = absurd cc
 packed_next h (y ∷ xs) zero x e = omega (arith, ap (packed_line h) (line_is y x e))
 packed_next h (y ∷ xs) (suc n) x e =

@@ -51,11 +51,13 @@ module _ (s : Script) (t : ℕ) (st : State) where
   enters_either true x y h k = h
   enters_either false x y h k = k
 
-  enters_used : (used : Option ℕ) (deal : ℕ → Deal) → ((o : ℕ) → Enters (deal o)) → Enters (with_used st.parts used deal)
+  enters_used : (used : Option ℕ) (deal : ℕ → Deal) → ((o : ℕ) → Enters (deal o))
+      → Enters (with_used st.parts used deal)
   enters_used None deal h = tt
   enters_used (Some o) deal h = h o
 
-  enters_thing : (used : Option ℕ) (deal : ℕ → Thing → Deal) → ((i : ℕ) (x : Thing) → Enters (deal i x)) → Enters (with_thing st.parts used deal)
+  enters_thing : (used : Option ℕ) (deal : ℕ → Thing → Deal) → ((i : ℕ) (x : Thing) → Enters (deal i x))
+      → Enters (with_thing st.parts used deal)
   enters_thing None deal h = tt
   enters_thing (Some i) deal h = by (thing_at st.parts i)
     where
@@ -63,7 +65,8 @@ module _ (s : Script) (t : ℕ) (st : State) where
       by None = tt
       by (Some x) = h i x
 
-  enters_filter : (v object : Option ℕ) (deal : Option ℕ → Deal) → ((o : Option ℕ) → Enters (deal o)) → Enters (with_filter st.parts v object deal)
+  enters_filter : (v object : Option ℕ) (deal : Option ℕ → Deal) → ((o : Option ℕ) → Enters (deal o))
+      → Enters (with_filter st.parts v object deal)
   enters_filter None object deal h = h None
   enters_filter (Some v) object deal h = enters_used object (λ o. deal (Some o)) (λ o. h (Some o))
 
@@ -153,7 +156,8 @@ module _ (s : Script) (t : ℕ) (st : State) where
   release_goes k None = (tt, tt)
   release_goes k (Some o) = cut_goes k o
 
-  statement_goes : (d : ℕ) (x : Statement) (used : List (Option ℕ)) (ownership : Ownership) → Goes (statement_step s t d st x used ownership)
+  statement_goes : (d : ℕ) (x : Statement) (used : List (Option ℕ)) (ownership : Ownership)
+      → Goes (statement_step s t d st x used ownership)
   statement_goes d x used Keeps = deal_goes (deal_of s t st x used) (posts_of st.parts x used) (deal_enters x used)
   statement_goes d x used (Binds v) = bind_goes d v (bound_of s st.parts x used)
   statement_goes d x used (Retains v) = retain_goes (variable t d v) (first_of used) tt
@@ -189,15 +193,18 @@ module _ (s : Script) (t : ℕ) (st : State) where
     wins_nothing step h =
         let none = flow_wins_none NoParcel weight (λ q p. ap counted (parcel_other u k q.holder p)) step.flow h in omega (arith, none)
 
-    pack_wins : (from : Holder) (o : Option ℕ) (w m : ℕ) → flow_won weight (pack_step t st from o (parcel w m)).flow ≤ counted (same_holder (parcel u k) (parcel w m))
+    pack_wins : (from : Holder) (o : Option ℕ) (w m : ℕ)
+        → flow_won weight (pack_step t st from o (parcel w m)).flow ≤ counted (same_holder (parcel u k) (parcel w m))
     pack_wins from None w m = omega arith
     pack_wins from (Some o) w m = by (own_reference t from o st.edges)
       where
-        by : (q : Option Reference) → flow_won weight (grows [] (moves_to (parcel w m) (option_to_list q ++ []))) ≤ counted (same_holder (parcel u k) (parcel w m))
+        by : (q : Option Reference)
+            → flow_won weight (grows [] (moves_to (parcel w m) (option_to_list q ++ []))) ≤ counted (same_holder (parcel u k) (parcel w m))
         by None = omega arith
         by (Some r) = omega arith
 
-    line_wins : (fs : List Frame) (x : BlockLine) → flow_won weight (step_of s t st fs (does x)).flow ≤ packed_line (parcel u k) x
+    line_wins : (fs : List Frame) (x : BlockLine)
+        → flow_won weight (step_of s t st fs (does x)).flow ≤ packed_line (parcel u k) x
     line_wins fs (begins v) = omega arith
     line_wins fs (claims m v) =
         wins_nothing (claim_step st (parcel t m) (first_held (parcel t m) st.edges) (variable t (depth_of fs) v)) (claim_goes (parcel t m) (variable t (depth_of fs) v) (first_held (parcel t m) st.edges) tt)
@@ -205,7 +212,8 @@ module _ (s : Script) (t : ℕ) (st : State) where
         wins_nothing (step_of s t st fs (does (says x))) (statement_goes (depth_of fs) x (used_objects (bindings_of fs) (says x)) (ownership_of x))
     line_wins fs (packs w m v) = pack_wins (packed_holder t (depth_of fs) v) (object_at (bindings_of fs) v) w m
 
-    pub demand_wins : (fs : List Frame) (d : Demand) → flow_won weight (step_of s t st fs d).flow ≤ packed_by (parcel u k) d
+    pub demand_wins : (fs : List Frame) (d : Demand)
+        → flow_won weight (step_of s t st fs d).flow ≤ packed_by (parcel u k) d
     demand_wins fs (does x) = line_wins fs x
     demand_wins fs ends = omega arith
     demand_wins fs returns = wins_nothing (step_of s t st fs returns) (tt, moves_go NoParcel (owed t) _ tt)

@@ -63,7 +63,8 @@ record FramesGo (s : Script) (t : ℕ) (d : Demand) (fs gs : List Frame) : Type 
   setup : t ≡ 0 → (h : Holder) → packed_so_far s h fs + packed_by h d ≤ packed_so_far s h gs
   other : (t ≡ 0 → ⊥) → (h : Holder) → packed_by h d ≡ 0
 
-quiet_go : (s : Script) (t : ℕ) (d : Demand) (fs gs : List Frame) → OwnBlocks t gs → ((h : Holder) → packed_by h d ≡ 0) → base_number gs ≡ base_number fs → FramesGo s t d fs gs
+quiet_go : (s : Script) (t : ℕ) (d : Demand) (fs gs : List Frame) → OwnBlocks t gs → ((h : Holder) → packed_by h d ≡ 0)
+    → base_number gs ≡ base_number fs → FramesGo s t d fs gs
 quiet_go s t d fs gs blocks none same = record {
   blocks = blocks;
   setup = λ e h. omega (arith, none h, ap (λ (n : ℕ). packed h (take n (setup_lines s))) same);
@@ -71,16 +72,19 @@ quiet_go s t d fs gs blocks none same = record {
 }
 
 module _ (s : Script) (facts : Facts) (t : ℕ) (answer : Answer) (list : List ℕ) where
-  run_blocks : (x : BlockLine) (b : Bool) (gs : List Frame) → OwnBlocks t gs → OwnBlocks t (run_frames facts.time x b ++ gs)
+  run_blocks : (x : BlockLine) (b : Bool) (gs : List Frame) → OwnBlocks t gs
+      → OwnBlocks t (run_frames facts.time x b ++ gs)
   run_blocks (says (forms.Run m limit once)) true gs h = (tt, h)
   run_blocks x b gs h = h
 
-  run_number : (x : BlockLine) (b : Bool) (gs : List Frame) → base_number (run_frames facts.time x b ++ gs) ≡ base_number gs
+  run_number : (x : BlockLine) (b : Bool) (gs : List Frame)
+      → base_number (run_frames facts.time x b ++ gs) ≡ base_number gs
   run_number (says (forms.Run m limit once)) true gs = refl
   run_number x b gs = refl
 
   -- a line of the innermost frame
-  line_number : (x : BlockLine) (k : Kind) (b n : ℕ) (bs : List Binding) (cs : List Callee) (fs : List Frame) → OwnBlocks t (frame k b n bs cs ∷ fs) → slice_get (frame_lines s k b) n ≡ Some x
+  line_number : (x : BlockLine) (k : Kind) (b n : ℕ) (bs : List Binding) (cs : List Callee) (fs : List Frame)
+      → OwnBlocks t (frame k b n bs cs ∷ fs) → slice_get (frame_lines s k b) n ≡ Some x
       → FramesGo s t (does x) (frame k b n bs cs ∷ fs) (line_done facts t x answer list (frame k b n bs cs) ∷ fs)
   line_number x of_block b n bs cs fs own at = record {
     blocks = own;
@@ -95,7 +99,8 @@ module _ (s : Script) (facts : Facts) (t : ℕ) (answer : Answer) (list : List �
       quiet_go s t (does x) (frame (of_handler k) b n bs cs ∷ fs) (line_done facts t x answer list (frame (of_handler k) b n bs cs) ∷ fs) own (λ h. no_pack_line h x (handlers_pack_nothing s b n x at)) refl
   line_number x (of_run r) b n bs cs fs own at = absurd cc
 
-  line_go : (x : BlockLine) (f : Frame) (fs : List Frame) → OwnBlocks t (f ∷ fs) → slice_get (frame_lines s f.kind f.block) f.number ≡ Some x
+  line_go : (x : BlockLine) (f : Frame) (fs : List Frame) → OwnBlocks t (f ∷ fs)
+      → slice_get (frame_lines s f.kind f.block) f.number ≡ Some x
       → FramesGo s t (does x) (f ∷ fs) (frames_after facts t (does x) answer list (f ∷ fs))
   line_go x f fs own at =
       let go = line_number x f.kind f.block f.number f.bindings f.collected fs own at in
@@ -118,7 +123,8 @@ module _ (s : Script) (facts : Facts) (t : ℕ) (answer : Answer) (list : List �
   called_number role (of_handler k) n below = refl
   called_number role (of_run r) n below = refl
 
-  call_go : (k : Callee) (c : Callout) (f : Frame) (fs : List Frame) → OwnBlocks t (f ∷ fs) → FramesGo s t (calls k c) (f ∷ fs) (frames_after facts t (calls k c) answer list (f ∷ fs))
+  call_go : (k : Callee) (c : Callout) (f : Frame) (fs : List Frame) → OwnBlocks t (f ∷ fs)
+      → FramesGo s t (calls k c) (f ∷ fs) (frames_after facts t (calls k c) answer list (f ∷ fs))
   call_go k c f fs own =
       quiet_go s t (calls k c) (f ∷ fs) (frames_after facts t (calls k c) answer list (f ∷ fs)) (tt, (called_blocks k.role f.kind f.block own.0, own.1)) (λ h. refl)
       (called_number k.role f.kind f.number (base_number fs))
@@ -133,7 +139,8 @@ module _ (s : Script) (facts : Facts) (t : ℕ) (answer : Answer) (list : List �
   phase_number p (of_handler k) n below = refl
   phase_number p (of_run r) n below = refl
 
-  phase_go : (p : Phase) (f : Frame) (fs : List Frame) → OwnBlocks t (f ∷ fs) → FramesGo s t (enters p) (f ∷ fs) (frames_after facts t (enters p) answer list (f ∷ fs))
+  phase_go : (p : Phase) (f : Frame) (fs : List Frame) → OwnBlocks t (f ∷ fs)
+      → FramesGo s t (enters p) (f ∷ fs) (frames_after facts t (enters p) answer list (f ∷ fs))
   phase_go p f fs own =
       quiet_go s t (enters p) (f ∷ fs) (frames_after facts t (enters p) answer list (f ∷ fs)) (phase_blocks p f.kind f.block own.0, own.1) (λ h. refl)
       (phase_number p f.kind f.number (base_number fs))
@@ -150,7 +157,8 @@ module _ (s : Script) (facts : Facts) (t : ℕ) (answer : Answer) (list : List �
   run_no_block : (k : Kind) (r : Turn) → k ≡ of_run r → k ≡ of_block → ⊥
   run_no_block k r e p = cc
 
-  frame_go : (d : Demand) (f : Frame) (fs : List Frame) → OwnBlocks t (f ∷ fs) → FrameView s facts t f d → FramesGo s t d (f ∷ fs) (frames_after facts t d answer list (f ∷ fs))
+  frame_go : (d : Demand) (f : Frame) (fs : List Frame) → OwnBlocks t (f ∷ fs) → FrameView s facts t f d
+      → FramesGo s t d (f ∷ fs) (frames_after facts t d answer list (f ∷ fs))
   frame_go _ f fs own (is_call k called found) = call_go k called f fs own
   frame_go _ f fs own (is_line x at) = line_go x f fs own at
   frame_go _ f fs own (is_end e) = quiet_go s t ends (f ∷ fs) (f ∷ fs) own (λ h. refl) refl
@@ -160,19 +168,23 @@ module _ (s : Script) (facts : Facts) (t : ℕ) (answer : Answer) (list : List �
   frame_go _ f fs own (is_close r e) =
       quiet_go s t closes (f ∷ fs) fs own.1 (λ h. refl) (gone_number f.kind f.number (base_number fs) (run_no_block f.kind r e))
 
-  work_go : (d : Demand) (fs : List Frame) (stand : Stand) → OwnBlocks t fs → WorkView facts stand.work d → FramesGo s t d fs (frames_after facts t d answer list fs)
+  work_go : (d : Demand) (fs : List Frame) (stand : Stand) → OwnBlocks t fs → WorkView facts stand.work d
+      → FramesGo s t d fs (frames_after facts t d answer list fs)
   work_go _ fs stand own (first_owes o first) = quiet_go s t (owes o) fs fs own (λ h. refl) refl
   work_go _ fs stand own (first_spends i first) = quiet_go s t (spends i) fs fs own (λ h. refl) refl
   work_go _ fs stand own (first_drops b k o left first) = quiet_go s t (drops b k o) fs fs own (λ h. refl) refl
 
-  stand_go : (d : Demand) (stand : Stand) → OwnBlocks t stand.frames → StandView s facts t stand d → FramesGo s t d stand.frames (frames_after facts t d answer list stand.frames)
+  stand_go : (d : Demand) (stand : Stand) → OwnBlocks t stand.frames → StandView s facts t stand d
+      → FramesGo s t d stand.frames (frames_after facts t d answer list stand.frames)
   stand_go d stand own (of_work w view) = work_go d stand.frames stand own view
   stand_go d stand own (of_frame f fs no_work e view) =
       subst (λ (gs : List Frame). FramesGo s t d gs (frames_after facts t d answer list gs)) (sym e) (frame_go d f fs (subst (OwnBlocks t) e own) view)
 
 -- ---- a run that is told to stop
 
-stop_blocks_by : (t : ℕ) (k : Kind) (b n : ℕ) (bs : List Binding) (cs : List Callee) (fs : List Frame) → OwnBlocks t (frame k b n bs cs ∷ fs) → OwnBlocks t (stop_frames fs) → OwnBlocks t (stop_frames (frame k b n bs cs ∷ fs))
+stop_blocks_by : (t : ℕ) (k : Kind) (b n : ℕ) (bs : List Binding) (cs : List Callee) (fs : List Frame)
+    → OwnBlocks t (frame k b n bs cs ∷ fs) → OwnBlocks t (stop_frames fs)
+    → OwnBlocks t (stop_frames (frame k b n bs cs ∷ fs))
 stop_blocks_by t of_block b n bs cs fs own rest = (own.0, rest)
 stop_blocks_by t (of_handler k) b n bs cs fs own rest = (own.0, rest)
 stop_blocks_by t (of_run r) b n bs cs fs own rest = (tt, own.1)
@@ -181,7 +193,9 @@ stop_blocks : (t : ℕ) (fs : List Frame) → OwnBlocks t fs → OwnBlocks t (st
 stop_blocks t [] own = tt
 stop_blocks t (f ∷ fs) own = stop_blocks_by t f.kind f.block f.number f.bindings f.collected fs own (stop_blocks t fs own.1)
 
-stop_number_by : (k : Kind) (b n : ℕ) (bs : List Binding) (cs : List Callee) (fs : List Frame) → base_number (stop_frames fs) ≡ base_number fs → base_number (stop_frames (frame k b n bs cs ∷ fs)) ≡ base_number (frame k b n bs cs ∷ fs)
+stop_number_by : (k : Kind) (b n : ℕ) (bs : List Binding) (cs : List Callee) (fs : List Frame)
+    → base_number (stop_frames fs) ≡ base_number fs
+    → base_number (stop_frames (frame k b n bs cs ∷ fs)) ≡ base_number (frame k b n bs cs ∷ fs)
 stop_number_by of_block b n bs cs fs rest = refl
 stop_number_by (of_handler k) b n bs cs fs rest = rest
 stop_number_by (of_run r) b n bs cs fs rest = refl
@@ -198,7 +212,8 @@ record AreAs (t : ℕ) (fs gs : List Frame) : Type 0 where
 as_is : (t : ℕ) (fs gs : List Frame) → OwnBlocks t fs → gs ≡ fs → AreAs t fs gs
 as_is t fs gs own e = record { blocks = subst (OwnBlocks t) (sym e) own; number = ap base_number e }
 
-stopped_as : (stops : Option ℕ) (u : ℕ) (ss : List Stand) → OwnBlocks u (stand_at u ss).frames → AreAs u (stand_at u ss).frames (stand_at u (stopped_at stops ss)).frames
+stopped_as : (stops : Option ℕ) (u : ℕ) (ss : List Stand) → OwnBlocks u (stand_at u ss).frames
+    → AreAs u (stand_at u ss).frames (stand_at u (stopped_at stops ss)).frames
 stopped_as None u ss own = as_is u (stand_at u ss).frames (stand_at u ss).frames own refl
 stopped_as (Some w) u ss own = elim (eqb_tells u w) [
   | inl e ↦ subst (λ (n : ℕ). AreAs u (stand_at u ss).frames (stand_at u (stopped_at (Some n) ss)).frames) e.1
@@ -250,7 +265,8 @@ module _ (s : Script) (st : State) (t : ℕ) (d : Demand) (h : ParcelsFit s st) 
   stopped : (u : ℕ) → AreAs u (stand_at u moved_stands).frames (frames_at u (done_by s t st d))
   stopped u = stopped_as the_step.stops u moved_stands (moved_blocks u)
 
-  so_far : (k : Holder) → packed_so_far s k (frames_at 0 st) + packed_by k d ≤ packed_so_far s k (stand_at 0 moved_stands).frames
+  so_far : (k : Holder)
+      → packed_so_far s k (frames_at 0 st) + packed_by k d ≤ packed_so_far s k (stand_at 0 moved_stands).frames
   so_far k = elim (eqb_tells 0 t) [
     | inl q ↦ subst (λ (w : ℕ). packed_so_far s k (frames_at w st) + packed_by k d ≤ packed_so_far s k (stand_at w moved_stands).frames) (sym q.1)
         (subst (λ (gs : List Frame). packed_so_far s k (frames_at t st) + packed_by k d ≤ packed_so_far s k gs) (sym own_frames) (go.setup (sym q.1) k))
@@ -273,16 +289,19 @@ module _ (s : Script) (st : State) (t : ℕ) (d : Demand) (h : ParcelsFit s st) 
 
 -- ---- entries
 
-acted_fits : (s : Script) (st : State) (t : ℕ) (d : Option Demand) → ParcelsFit s st → demanded s st t ≡ d → ParcelsFit s (acted s t st d)
+acted_fits : (s : Script) (st : State) (t : ℕ) (d : Option Demand) → ParcelsFit s st → demanded s st t ≡ d
+    → ParcelsFit s (acted s t st d)
 acted_fits s st t None h e = h
 acted_fits s st t (Some d) h e = done_fits s st t d h e
 
-entry_fits : (s : Script) (st : State) (t : ℕ) (a : Action) → ParcelsFit s st → ActionView a → ParcelsFit s (after_action s t st a)
+entry_fits : (s : Script) (st : State) (t : ℕ) (a : Action) → ParcelsFit s st → ActionView a
+    → ParcelsFit s (after_action s t st a)
 entry_fits s st t _ h (is_tick n) = record { blocks = h.blocks; few = h.few }
 entry_fits s st t _ h is_stall = h
 entry_fits s st t a h (is_step _ step) = subst (ParcelsFit s) (sym (step.after s t st)) (acted_fits s st t (demanded s st t) h refl)
 
-pub parcels_after_action : (s : Script) (st : State) (t : ℕ) (a : Action) → ParcelsFit s st → ParcelsFit s (after_action s t st a)
+pub parcels_after_action : (s : Script) (st : State) (t : ℕ) (a : Action) → ParcelsFit s st
+    → ParcelsFit s (after_action s t st a)
 parcels_after_action s st t a h = entry_fits s st t a h (action_view a)
 
 parcels_from : (s : Script) (st : State) (es : List Entry) → ParcelsFit s st → ParcelsFit s (state_from s st es)

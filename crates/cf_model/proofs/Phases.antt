@@ -33,7 +33,8 @@ turn_case P st t r phases.Sleep h = sleep_case P st t r h
 turn_case P st t r phases.Test h = h.tests (test_result (facts_of st) t r)
 turn_case P st t r p h = h.collects (collected_of st.parts p (items_in st t r.mode))
 
-pub phase_case : (P : Step → Type 0) (st : State) (t : ℕ) (p : Phase) (k : Kind) → PhaseCases P st t → P (phase_step st t p k)
+pub phase_case : (P : Step → Type 0) (st : State) (t : ℕ) (p : Phase) (k : Kind) → PhaseCases P st t
+    → P (phase_step st t p k)
 phase_case P st t p (of_run r) h = turn_case P st t r p h
 phase_case P st t p of_block h = h.collects []
 phase_case P st t p (of_handler k) h = h.collects []

@@ -58,11 +58,13 @@ moves_lost k g (r ∷ rs) = omega (arith, moves_lost k g rs)
 abbrev pub objects_in : List Reference → List ℕ
 objects_in rs = map (λ r. r.object) rs
 
-pub moves_won : (k : Holder) (o : ℕ) (rs : List Reference) → won_by_moves (one (held_by k o)) (moves_to k rs) ≡ times o (objects_in rs)
+pub moves_won : (k : Holder) (o : ℕ) (rs : List Reference)
+    → won_by_moves (one (held_by k o)) (moves_to k rs) ≡ times o (objects_in rs)
 moves_won k o [] = refl
 moves_won k o (r ∷ rs) = omega (arith, one_own k o r.object, moves_won k o rs)
 
-pub moves_other : (k : Holder) (q : Reference) (rs : List Reference) → (q.holder ≡ k → ⊥) → won_by_moves (one q) (moves_to k rs) ≡ 0
+pub moves_other : (k : Holder) (q : Reference) (rs : List Reference) → (q.holder ≡ k → ⊥)
+    → won_by_moves (one q) (moves_to k rs) ≡ 0
 moves_other k q [] h = refl
 moves_other k q (r ∷ rs) h = omega (arith, holders_apart q (held_by k r.object) h, moves_other k q rs h)
 
@@ -118,7 +120,8 @@ pub items_loop : (u m : ℕ) (is : List ℕ) → AllLoop (map (held_by (in_mode 
 items_loop u m [] = tt
 items_loop u m (i ∷ is) = (tt, items_loop u m is)
 
-threads_loop : (s : Script) (i : ℕ) (es : List Reference) (us : List ℕ) → AllLoop (flat_map (λ u. held_at u i (loop_places s u i es)) us)
+threads_loop : (s : Script) (i : ℕ) (es : List Reference) (us : List ℕ)
+    → AllLoop (flat_map (λ u. held_at u i (loop_places s u i es)) us)
 threads_loop s i es [] = tt
 threads_loop s i es (u ∷ us) =
     loop_append (held_at u i (loop_places s u i es)) (flat_map (λ w. held_at w i (loop_places s w i es)) us)

@@ -31,14 +31,16 @@ skipped_alike : (a : Answer) (change : Change) → SkipsAll a change → change_
 skipped_alike answers.Skip change h = sym h
 skipped_alike _ change h = refl
 
-pub deed_fits : (s : Script) (st : State) (x : Statement) (used : List (Option ℕ)) → (change_unless_skipped (deed_in s st x used).answer (deed_in s st x used).change ≡ (deed_in s st x used).change) × MakesNoItem (deed_in s st x used).origin
+pub deed_fits : (s : Script) (st : State) (x : Statement) (used : List (Option ℕ))
+    → (change_unless_skipped (deed_in s st x used).answer (deed_in s st x used).change ≡ (deed_in s st x used).change) × MakesNoItem (deed_in s st x used).origin
 deed_fits s st x used =
     let fits = form_fits s.classes x (numbered st.parts.objects (used_at used 0)) (numbered st.parts.objects (used_at used 1)) (numbered st.parts.objects (used_at used 2)) in
     (skipped_alike (deed_in s st x used).answer (deed_in s st x used).change fits.skips, fits.items)
 
 -- ---- the deal of a statement
 
-plain_deal : (s : Script) (t : ℕ) (st : State) (x : Statement) (used : List (Option ℕ)) → is_of_stage x ≡ true → deal_of s t st x used ≡ deed_deal st.parts (deed_in s st x used) used
+plain_deal : (s : Script) (t : ℕ) (st : State) (x : Statement) (used : List (Option ℕ)) → is_of_stage x ≡ true
+    → deal_of s t st x used ≡ deed_deal st.parts (deed_in s st x used) used
 plain_deal s t st (forms.Add item thread mode) used of = absurd cc
 plain_deal s t st (forms.Drop item thread mode) used of = absurd cc
 plain_deal s t st (forms.Common thread mode) used of = absurd cc
@@ -66,12 +68,14 @@ plain_post : (x : Statement) → is_of_stage x ≡ true → is_post (says x) ≡
 plain_post (forms.Post name info) of = absurd cc
 plain_post x of = refl
 
-plain_runs : (x : Statement) → is_of_stage x ≡ true → (time : ℕ) (entered : Bool) → run_frames time (says x) entered ≡ []
+plain_runs : (x : Statement) → is_of_stage x ≡ true → (time : ℕ) (entered : Bool)
+    → run_frames time (says x) entered ≡ []
 plain_runs (forms.Run mode limit once) of time entered = absurd cc
 plain_runs x of time true = refl
 plain_runs x of time false = refl
 
-pub deals_plainly : (s : Script) (t : ℕ) (st : State) (x : Statement) (used : List (Option ℕ)) → is_of_stage x ≡ true → DealsPlainly s t st x used
+pub deals_plainly : (s : Script) (t : ℕ) (st : State) (x : Statement) (used : List (Option ℕ)) → is_of_stage x ≡ true
+    → DealsPlainly s t st x used
 deals_plainly s t st x used of = record {
   deal = plain_deal s t st x used of;
   skips = (deed_fits s st x used).0;
@@ -124,7 +128,8 @@ thing-least : (c : Content) → thing_in (least_after c) ≡ thing_in c
 thing-least (heap_content plain adds rows) = refl
 thing-least _ = refl
 
-no_item_stays : (valid : Bool) (item : Item) (c : Content) → thing_in c ≡ None → thing_in (item_after valid item c) ≡ None
+no_item_stays : (valid : Bool) (item : Item) (c : Content) → thing_in c ≡ None
+    → thing_in (item_after valid item c) ≡ None
 no_item_stays valid item (item_content handler info v i) h = absurd cc
 no_item_stays valid item _ h = refl
 
@@ -145,7 +150,8 @@ no_thing_after (in_item valid item) c h = no_item_stays valid item c h
 abbrev pub NoThings : List Object → Type 0
 NoThings obs = (i : ℕ) → thing_of (slice_get obs i) ≡ None
 
-pub changed_no_things : (b : ℕ) (change : Change) (obs : List Object) → NoThings obs → NoThings (with_change b change obs)
+pub changed_no_things : (b : ℕ) (change : Change) (obs : List Object) → NoThings obs
+    → NoThings (with_change b change obs)
 changed_no_things b change [] h i = h i
 changed_no_things zero change (ob ∷ obs) h zero = no_thing_after change ob.content (h zero)
 changed_no_things zero change (ob ∷ obs) h (suc i) = h (suc i)

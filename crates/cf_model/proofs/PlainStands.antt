@@ -53,11 +53,14 @@ module _ (s : Script) (facts : Facts) (t : ℕ) (answer : Answer) (finals list :
   work_after_plain _ (is_owed o) = left_spends_nothing facts stand.work h.work
   work_after_plain _ (is_slot b k o) = left_spends_nothing facts stand.work h.work
 
-  all_work_plain : (d : Demand) → IsPlainDemand d → SpendsNothing (bodies_of finals ++ work_after facts stand.frames d list stand.work)
+  all_work_plain : (d : Demand) → IsPlainDemand d
+      → SpendsNothing (bodies_of finals ++ work_after facts stand.frames d list stand.work)
   all_work_plain d p = both_spend_nothing (bodies_of finals) (work_after facts stand.frames d list stand.work) (bodies_spend_nothing finals) (work_after_plain d p)
 
   -- a line that calls nobody and begins no run
-  line_stand : (x : BlockLine) → IsPlainDemand (does x) → is_post x ≡ false → run_frames facts.time x (is_entered answer) ≡ [] → IsPlainStand t (advanced facts t (does x) answer finals list stand)
+  line_stand : (x : BlockLine) → IsPlainDemand (does x) → is_post x ≡ false
+      → run_frames facts.time x (is_entered answer) ≡ []
+      → IsPlainStand t (advanced facts t (does x) answer finals list stand)
   line_stand x p post runs = record {
     top = line_done facts t x answer list h.top;
     frames = ap (λ (fs : List Frame). fs ++ on_top (line_done facts t x answer list) stand.frames) runs ∙ ap (on_top (line_done facts t x answer list)) h.frames;
@@ -67,7 +70,8 @@ module _ (s : Script) (facts : Facts) (t : ℕ) (answer : Answer) (finals list :
     work = all_work_plain (does x) p;
   }
 
-  same_frames : (d : Demand) → IsPlainDemand d → frames_after facts t d answer list stand.frames ≡ stand.frames → IsPlainStand t (advanced facts t d answer finals list stand)
+  same_frames : (d : Demand) → IsPlainDemand d → frames_after facts t d answer list stand.frames ≡ stand.frames
+      → IsPlainStand t (advanced facts t d answer finals list stand)
   same_frames d p same = record {
     top = h.top;
     frames = same ∙ h.frames;
@@ -77,7 +81,10 @@ module _ (s : Script) (facts : Facts) (t : ℕ) (answer : Answer) (finals list :
     work = all_work_plain d p;
   }
 
-  pub advanced_plain : (d : Demand) → IsPlainDemand d → ((x : Statement) → is_of_stage x ≡ true → is_post (says x) ≡ false) → ((x : Statement) → is_of_stage x ≡ true → run_frames facts.time (says x) (is_entered answer) ≡ []) → IsPlainStand t (advanced facts t d answer finals list stand)
+  pub advanced_plain : (d : Demand) → IsPlainDemand d
+      → ((x : Statement) → is_of_stage x ≡ true → is_post (says x) ≡ false)
+      → ((x : Statement) → is_of_stage x ≡ true → run_frames facts.time (says x) (is_entered answer) ≡ [])
+      → IsPlainStand t (advanced facts t d answer finals list stand)
   advanced_plain _ (is_claim k v) posts runs = line_stand (claims k v) (is_claim k v) refl refl
   advanced_plain _ (is_statement x of) posts runs = line_stand (says x) (is_statement x of) (posts x of) (runs x of)
   advanced_plain _ (is_pack u k v) posts runs = line_stand (packs u k v) (is_pack u k v) refl refl

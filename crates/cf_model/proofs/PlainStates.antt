@@ -38,18 +38,22 @@ use Rattle.cf_model.proofs.PlainStands.{advanced_plain}
 demand_is : (a b : Demand) → ◌≡◌ {A = Option Demand} (Some a) (Some b) → a ≡ b
 demand_is a b e = cc
 
-line_plain : (s : Script) (t n : ℕ) → IsOfStage s → (line : Option BlockLine) → slice_get (thread_lines s t) n ≡ line → IsPlainDemand (line_or line ends)
+line_plain : (s : Script) (t n : ℕ) → IsOfStage s → (line : Option BlockLine) → slice_get (thread_lines s t) n ≡ line
+    → IsPlainDemand (line_or line ends)
 line_plain s t n of None e = is_over
 line_plain s t n of (Some (begins v)) e = absurd (thread_line s t of n (begins v) e)
 line_plain s t n of (Some (claims k v)) e = is_claim k v
 line_plain s t n of (Some (says x)) e = is_statement x (thread_line s t of n (says x) e)
 line_plain s t n of (Some (packs u k v)) e = is_pack u k v
 
-slot_plain : (facts : Facts) (b k : ℕ) (work : List Work) (d : Demand) (left : Option ℕ) → slot_if b k left (work_demand facts work) ≡ Some d → (work_demand facts work ≡ Some d → IsPlainDemand d) → IsPlainDemand d
+slot_plain : (facts : Facts) (b k : ℕ) (work : List Work) (d : Demand) (left : Option ℕ)
+    → slot_if b k left (work_demand facts work) ≡ Some d → (work_demand facts work ≡ Some d → IsPlainDemand d)
+    → IsPlainDemand d
 slot_plain facts b k work d None e rest = rest e
 slot_plain facts b k work d (Some o) e rest = subst IsPlainDemand (demand_is (drops b k o) d e) (is_slot b k o)
 
-work_plain : (facts : Facts) (work : List Work) (d : Demand) → SpendsNothing work → work_demand facts work ≡ Some d → IsPlainDemand d
+work_plain : (facts : Facts) (work : List Work) (d : Demand) → SpendsNothing work → work_demand facts work ≡ Some d
+    → IsPlainDemand d
 work_plain facts [] d h e = absurd cc
 work_plain facts (release_of o ∷ work) d h e = subst IsPlainDemand (demand_is (owes o) d e) (is_owed o)
 work_plain facts (spend_of i ∷ work) d h e = absurd h
@@ -59,19 +63,23 @@ work_plain facts (slots_of b k ∷ work) d h e = slot_plain facts b k work d (fa
 abbrev pub plain_frame : ℕ → ℕ → List Binding → Frame
 plain_frame t n bs = frame of_block t n bs []
 
-pub plain_top : (t : ℕ) (f : Frame) → f.kind ≡ of_block → f.block ≡ t → f.collected ≡ [] → f ≡ plain_frame t f.number f.bindings
+pub plain_top : (t : ℕ) (f : Frame) → f.kind ≡ of_block → f.block ≡ t → f.collected ≡ []
+    → f ≡ plain_frame t f.number f.bindings
 plain_top t f kind block collected =
     ap (λ (k : Kind). frame k f.block f.number f.bindings f.collected) kind
     ∙ ap (λ (b : ℕ). frame of_block b f.number f.bindings f.collected) block
     ∙ ap (λ (cs : List Callee). frame of_block t f.number f.bindings cs) collected
 
-pub plain_frames : (t : ℕ) (stand : Stand) → (h : IsPlainStand t stand) → stand.frames ≡ plain_frame t h.top.number h.top.bindings ∷ []
+pub plain_frames : (t : ℕ) (stand : Stand) → (h : IsPlainStand t stand)
+    → stand.frames ≡ plain_frame t h.top.number h.top.bindings ∷ []
 plain_frames t stand h = h.frames ∙ ap (λ (f : Frame). f ∷ []) (plain_top t h.top h.kind h.block h.collected)
 
-stand_plain : (s : Script) (facts : Facts) (t : ℕ) (stand : Stand) (d : Demand) → IsOfStage s → IsPlainStand t stand → demand s facts t stand ≡ Some d → IsPlainDemand d
+stand_plain : (s : Script) (facts : Facts) (t : ℕ) (stand : Stand) (d : Demand) → IsOfStage s → IsPlainStand t stand
+    → demand s facts t stand ≡ Some d → IsPlainDemand d
 stand_plain s facts t stand d of h e = by stand.is_done (work_demand facts stand.work) refl e
   where
-    by : (b : Bool) (first : Option Demand) → work_demand facts stand.work ≡ first → cond b None (or_else first (frame_demand s facts t stand.frames)) ≡ Some d → IsPlainDemand d
+    by : (b : Bool) (first : Option Demand) → work_demand facts stand.work ≡ first
+        → cond b None (or_else first (frame_demand s facts t stand.frames)) ≡ Some d → IsPlainDemand d
     by true first w q = absurd cc
     by false (Some a) w q = work_plain facts stand.work d h.work (w ∙ q)
     by false None w q =
@@ -93,18 +101,21 @@ none_is_none : (d : Demand) → ◌≡◌ {A = Option Demand} None (Some d) → 
 none_is_none d e = cc
 
 -- what a thread demands, it has
-pub demands_within : (s : Script) (st : State) (t : ℕ) (d : Demand) → IsPlainState s st → demanded s st t ≡ Some d → t < s.thread_count
+pub demands_within : (s : Script) (st : State) (t : ℕ) (d : Demand) → IsPlainState s st → demanded s st t ≡ Some d
+    → t < s.thread_count
 demands_within s st t d h e = elim (cases_lt t s.thread_count) [
   | inl within ↦ within
   | inr past ↦ absurd (none_is_none d (sym (none_demanded s st t h past) ∙ e))
 ]
 
-pub plain_demand : (s : Script) (st : State) (t : ℕ) (d : Demand) → IsOfStage s → IsPlainState s st → demanded s st t ≡ Some d → IsPlainDemand d
+pub plain_demand : (s : Script) (st : State) (t : ℕ) (d : Demand) → IsOfStage s → IsPlainState s st
+    → demanded s st t ≡ Some d → IsPlainDemand d
 plain_demand s st t d of h e = stand_plain s (facts_of st) t (stand_at t st.stands) d of (h.stands t (demands_within s st t d h e)) e
 
 -- ---- states
 
-length-with_at : {A : Type 0} (a : A) (n : ℕ) (y : A) (xs : List A) → n < length xs → length (with_at a n y xs) ≡ length xs
+length-with_at : {A : Type 0} (a : A) (n : ℕ) (y : A) (xs : List A) → n < length xs
+    → length (with_at a n y xs) ≡ length xs
 length-with_at a n y [] h = absurd (omega (arith, h))
 length-with_at a zero y (x ∷ xs) h = refl
 length-with_at a (suc n) y (x ∷ xs) h = ap suc (length-with_at a n y xs (omega (arith, h)))
@@ -131,18 +142,21 @@ module _ (s : Script) (st : State) (t : ℕ) (d : Demand) (of : IsOfStage s) (h 
   post_free : (x : Statement) → is_of_stage x ≡ true → is_post (says x) ≡ false
   post_free x stage = (deals_plainly s t st x [] stage).post
 
-  run_free : (answer : Answer) (x : Statement) → is_of_stage x ≡ true → run_frames (facts_of st).time (says x) (is_entered answer) ≡ []
+  run_free : (answer : Answer) (x : Statement) → is_of_stage x ≡ true
+      → run_frames (facts_of st).time (says x) (is_entered answer) ≡ []
   run_free answer x stage = (deals_plainly s t st x [] stage).runs (facts_of st).time (is_entered answer)
 
   new_stand : IsPlainStand t (stand_after t d the_step st)
   new_stand =
       advanced_plain s (facts_of st) t (step_answer the_step st) (step_finals the_step st) the_step.list (stand_at t st.stands) (h.stands t within) d plain post_free (run_free (step_answer the_step st))
 
-  loop_none : (k : Holder) (i : ℕ) → (NotLoop k → ⊥) → weigh (one (held_by k i)) st.edges ≡ 0 → weigh (one (held_by k i)) (done_by s t st d).edges ≡ 0
+  loop_none : (k : Holder) (i : ℕ) → (NotLoop k → ⊥) → weigh (one (held_by k i)) st.edges ≡ 0
+      → weigh (one (held_by k i)) (done_by s t st d).edges ≡ 0
   loop_none k i loop none =
       no_more _ (weigh (one (held_by k i)) st.edges) (flow_brings_none NotLoop (held_by k i) loop the_step.flow st.edges step_is.flow) none
 
-  stand_is : (u : ℕ) → u < s.thread_count → IsPlainStand u (stand_at u (with_stand t (stand_after t d the_step st) st.stands))
+  stand_is : (u : ℕ) → u < s.thread_count
+      → IsPlainStand u (stand_at u (with_stand t (stand_after t d the_step st) st.stands))
   stand_is u within_u = elim (eqb_tells u t) [
     | inl q ↦ subst (λ (w : ℕ). IsPlainStand w (stand_at w (with_stand t (stand_after t d the_step st) st.stands))) (sym q.1)
         (subst (IsPlainStand t) (sym (at_own blank t (stand_after t d the_step st) st.stands)) new_stand)
@@ -175,13 +189,15 @@ module _ (s : Script) (st : State) (t : ℕ) (d : Demand) (of : IsOfStage s) (h 
 
 -- ---- entries
 
-tick_awake : (n : ℕ) (fs : List Flags) (u : ℕ) → ((w : ℕ) → (flags_at w fs).sleep ≡ awake) → (flags_at u (map (tick_flags n) fs)).sleep ≡ awake
+tick_awake : (n : ℕ) (fs : List Flags) (u : ℕ) → ((w : ℕ) → (flags_at w fs).sleep ≡ awake)
+    → (flags_at u (map (tick_flags n) fs)).sleep ≡ awake
 tick_awake n [] zero a = refl
 tick_awake n [] (suc u) a = refl
 tick_awake n (f ∷ fs) zero a = ap (wake_at n) (a zero)
 tick_awake n (f ∷ fs) (suc u) a = tick_awake n fs u (λ w. a (suc w))
 
-tick_unwoken : (n : ℕ) (fs : List Flags) (u : ℕ) → ((w : ℕ) → (flags_at w fs).is_woken ≡ false) → (flags_at u (map (tick_flags n) fs)).is_woken ≡ false
+tick_unwoken : (n : ℕ) (fs : List Flags) (u : ℕ) → ((w : ℕ) → (flags_at w fs).is_woken ≡ false)
+    → (flags_at u (map (tick_flags n) fs)).is_woken ≡ false
 tick_unwoken n [] zero a = refl
 tick_unwoken n [] (suc u) a = refl
 tick_unwoken n (f ∷ fs) zero a = a zero
@@ -209,26 +225,31 @@ ticked_plain s n st h = record {
   no_common_has = h.no_common_has;
 }
 
-acted_plain : (s : Script) (st : State) (t : ℕ) (d : Option Demand) → IsOfStage s → IsPlainState s st → demanded s st t ≡ d → IsPlainState s (acted s t st d)
+acted_plain : (s : Script) (st : State) (t : ℕ) (d : Option Demand) → IsOfStage s → IsPlainState s st
+    → demanded s st t ≡ d → IsPlainState s (acted s t st d)
 acted_plain s st t None of h e = h
 acted_plain s st t (Some d) of h e = done_plain s st t d of h e
 
-entry_plain : (s : Script) (st : State) (t : ℕ) (a : Action) → IsOfStage s → IsPlainState s st → ActionView a → IsPlainState s (after_action s t st a)
+entry_plain : (s : Script) (st : State) (t : ℕ) (a : Action) → IsOfStage s → IsPlainState s st → ActionView a
+    → IsPlainState s (after_action s t st a)
 entry_plain s st t _ of h (is_tick n) = ticked_plain s n st h
 entry_plain s st t _ of h is_stall = h
 entry_plain s st t a of h (is_step _ step) =
     subst (IsPlainState s) (sym (step.after s t st)) (acted_plain s st t (demanded s st t) of h refl)
 
-pub plain_after_action : (s : Script) (st : State) (t : ℕ) (a : Action) → IsOfStage s → IsPlainState s st → IsPlainState s (after_action s t st a)
+pub plain_after_action : (s : Script) (st : State) (t : ℕ) (a : Action) → IsOfStage s → IsPlainState s st
+    → IsPlainState s (after_action s t st a)
 plain_after_action s st t a of h = entry_plain s st t a of h (action_view a)
 
-pub plain_from : (s : Script) (st : State) (es : List Entry) → IsOfStage s → IsPlainState s st → IsPlainState s (state_from s st es)
+pub plain_from : (s : Script) (st : State) (es : List Entry) → IsOfStage s → IsPlainState s st
+    → IsPlainState s (state_from s st es)
 plain_from s st [] of h = h
 plain_from s st (e ∷ es) of h = plain_from s (after_action s e.thread st e.action) es of (plain_after_action s st e.thread e.action of h)
 
 -- ---- no loop sleeps, so no tick and no stall is legal
 
-going_awake : (going asleep : ℕ → Bool) (ts : List ℕ) → ((t : ℕ) → asleep t ≡ false) → (list_any going ts && list_all (λ t. not (going t) || asleep t) ts) ≡ false
+going_awake : (going asleep : ℕ → Bool) (ts : List ℕ) → ((t : ℕ) → asleep t ≡ false)
+    → (list_any going ts && list_all (λ t. not (going t) || asleep t) ts) ≡ false
 going_awake going asleep [] h = refl
 going_awake going asleep (t ∷ ts) h = by (going t) (asleep t) (h t) (going_awake going asleep ts h)
   where
@@ -255,17 +276,20 @@ no_tick s st n h allowed = not_allowed (all_sleep s st) (has_come (due_date s st
 pub no_stall : (s : Script) (st : State) → IsPlainState s st → AllowsStall s st → ⊥
 no_stall s st h allowed = not_allowed (all_sleep s st) (is_none (due_date s st)) (none_sleeps s st h) allowed
 
-acted_time : (s : Script) (st : State) (t : ℕ) (d : Option Demand) → IsOfStage s → IsPlainState s st → demanded s st t ≡ d → (acted s t st d).parts.time ≡ st.parts.time
+acted_time : (s : Script) (st : State) (t : ℕ) (d : Option Demand) → IsOfStage s → IsPlainState s st
+    → demanded s st t ≡ d → (acted s t st d).parts.time ≡ st.parts.time
 acted_time s st t None of h e = refl
 acted_time s st t (Some d) of h e = (step_is s st t d of h e).time
 
-entry_time : (s : Script) (st : State) (e : Entry) (a : Action) → IsOfStage s → IsPlainState s st → ActionView a → IsLegalAs s st e a → (after_action s e.thread st a).parts.time ≡ st.parts.time
+entry_time : (s : Script) (st : State) (e : Entry) (a : Action) → IsOfStage s → IsPlainState s st → ActionView a
+    → IsLegalAs s st e a → (after_action s e.thread st a).parts.time ≡ st.parts.time
 entry_time s st e _ of h (is_tick n) legal = absurd (no_tick s st n h legal.2)
 entry_time s st e _ of h is_stall legal = absurd (no_stall s st h legal.2)
 entry_time s st e a of h (is_step _ step) legal =
     ap (λ (x : State). x.parts.time) (step.after s e.thread st) ∙ acted_time s st e.thread (demanded s st e.thread) of h refl
 
-time_from : (s : Script) (st : State) (es : List Entry) → IsOfStage s → IsPlainState s st → IsLegalFrom s st es → (state_from s st es).parts.time ≡ st.parts.time
+time_from : (s : Script) (st : State) (es : List Entry) → IsOfStage s → IsPlainState s st → IsLegalFrom s st es
+    → (state_from s st es).parts.time ≡ st.parts.time
 time_from s st [] of h legal = refl
 time_from s st (e ∷ es) of h legal =
     time_from s (after_action s e.thread st e.action) es of (plain_after_action s st e.thread e.action of h) legal.2
@@ -335,7 +359,8 @@ plain_after s es of = plain_from s (start s) es of (start_plain s)
 
 -- ---- lines
 
-pub line_of_stage : (s : Script) (k : Kind) (b n : ℕ) (x : Statement) → IsOfStage s → slice_get (frame_lines s k b) n ≡ Some (says x) → is_of_stage x ≡ true
+pub line_of_stage : (s : Script) (k : Kind) (b n : ℕ) (x : Statement) → IsOfStage s
+    → slice_get (frame_lines s k b) n ≡ Some (says x) → is_of_stage x ≡ true
 line_of_stage s of_block b n x of e = thread_line s b of n (says x) e
 line_of_stage s (of_handler k) h n x of e = handler_line s h of n (says x) e
 line_of_stage s (of_run r) b n x of e = absurd cc

@@ -43,7 +43,8 @@ module _ (s : Script) (t : ℕ) (st : State) (h : IsPlainParts s st.parts) where
   quiet : (step : Step) → step.parts ≡ st.parts → step.stops ≡ None → FlowGoes NotLoop step.flow → StepPlain s st step
   quiet step parts stops flow = record { parts = subst (IsPlainParts s) (sym parts) h; time = ap (λ (p : Parts). p.time) parts; stops = stops; flow = flow }
 
-  with_objects : (p : Parts) → p.registrations ≡ st.parts.registrations → p.commons ≡ st.parts.commons → p.flags ≡ st.parts.flags → ((i : ℕ) → thing_at p i ≡ None) → IsPlainParts s p
+  with_objects : (p : Parts) → p.registrations ≡ st.parts.registrations → p.commons ≡ st.parts.commons
+      → p.flags ≡ st.parts.flags → ((i : ℕ) → thing_at p i ≡ None) → IsPlainParts s p
   with_objects p registrations commons flags things = record {
     things = things;
     registrations = registrations ∙ h.registrations;
@@ -53,7 +54,8 @@ module _ (s : Script) (t : ℕ) (st : State) (h : IsPlainParts s st.parts) where
     flag_count = ap (λ (fs : List Flags). length fs) flags ∙ h.flag_count;
   }
 
-  change_plain : (a : Answer) (b : Option ℕ) (change : Change) (posts : List ℕ) → StepPlain s st (deal_step t (change_deal st.parts a b change) posts)
+  change_plain : (a : Answer) (b : Option ℕ) (change : Change) (posts : List ℕ)
+      → StepPlain s st (deal_step t (change_deal st.parts a b change) posts)
   change_plain a None change posts = quiet (deal_step t (change_deal st.parts a None change) posts) refl refl (tt, tt)
   change_plain a (Some b) change posts =
       let deal = change_deal st.parts a (Some b) change in
@@ -69,7 +71,8 @@ module _ (s : Script) (t : ℕ) (st : State) (h : IsPlainParts s st.parts) where
   slots_plain n (fresh ob) = held_all NotLoop (slot n) (slots_in ob.content) tt
   slots_plain n (there o) = tt
 
-  bind_plain : (d v : ℕ) (x : Statement) (used : List (Option ℕ)) → StepPlain s st (bind_step (variable t d v) st.parts (bound_if s st.parts x used None))
+  bind_plain : (d v : ℕ) (x : Statement) (used : List (Option ℕ))
+      → StepPlain s st (bind_step (variable t d v) st.parts (bound_if s st.parts x used None))
   bind_plain d v x used =
       let origin = (deed_in s st x used).origin in
       let step = bind_step (variable t d v) st.parts (bound_if s st.parts x used None) in
@@ -95,7 +98,8 @@ module _ (s : Script) (t : ℕ) (st : State) (h : IsPlainParts s st.parts) where
   release_plain k None = quiet (release_step t k st None) refl refl (tt, tt)
   release_plain k (Some o) = cut_plain k o
 
-  statement_plain : (d : ℕ) (x : Statement) (used : List (Option ℕ)) (ownership : Ownership) → is_of_stage x ≡ true → StepPlain s st (statement_step s t d st x used ownership)
+  statement_plain : (d : ℕ) (x : Statement) (used : List (Option ℕ)) (ownership : Ownership) → is_of_stage x ≡ true
+      → StepPlain s st (statement_step s t d st x used ownership)
   statement_plain d x used Keeps of =
       let deed = deed_in s st x used in
       subst (λ (deal : Deal). StepPlain s st (deal_step t deal (posts_of st.parts x used))) (sym (deals_plainly s t st x used of).deal)
@@ -115,13 +119,15 @@ module _ (s : Script) (t : ℕ) (st : State) (h : IsPlainParts s st.parts) where
   pack_plain k l (Some o) not =
       quiet (pack_step t st k (Some o) l) refl refl (tt, moves_go NotLoop l (own_references t (held_by k o ∷ []) st.edges) not)
 
-  started_awake : (fs : List Flags) (u : ℕ) → ((w : ℕ) → (flags_at w fs).sleep ≡ awake) → (flags_at u (start_all fs)).sleep ≡ awake
+  started_awake : (fs : List Flags) (u : ℕ) → ((w : ℕ) → (flags_at w fs).sleep ≡ awake)
+      → (flags_at u (start_all fs)).sleep ≡ awake
   started_awake [] zero a = refl
   started_awake [] (suc u) a = refl
   started_awake (f ∷ fs) zero a = a zero
   started_awake (f ∷ fs) (suc u) a = started_awake fs u (λ w. a (suc w))
 
-  started_unwoken : (fs : List Flags) (u : ℕ) → ((w : ℕ) → (flags_at w fs).is_woken ≡ false) → (flags_at u (start_all fs)).is_woken ≡ false
+  started_unwoken : (fs : List Flags) (u : ℕ) → ((w : ℕ) → (flags_at w fs).is_woken ≡ false)
+      → (flags_at u (start_all fs)).is_woken ≡ false
   started_unwoken [] zero a = refl
   started_unwoken [] (suc u) a = refl
   started_unwoken (f ∷ fs) zero a = a zero

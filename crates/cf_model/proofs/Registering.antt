@@ -26,12 +26,14 @@ pub record RegistrationsGo (IsNew : Registration → Type 0) (rs ss : List (Opti
 
 -- ---- lists
 
-more_at : (rs : List (Option Registration)) (x : Option Registration) (n : ℕ) → n < length rs → at_number (rs ++ x ∷ []) n ≡ at_number rs n
+more_at : (rs : List (Option Registration)) (x : Option Registration) (n : ℕ) → n < length rs
+    → at_number (rs ++ x ∷ []) n ≡ at_number rs n
 more_at [] x n near = absurd (omega arith)
 more_at (r ∷ rs) x zero near = refl
 more_at (r ∷ rs) x (suc n) near = more_at rs x n (omega arith)
 
-more_from : (rs : List (Option Registration)) (x r : Registration) (n : ℕ) → at_number (rs ++ Some x ∷ []) n ≡ Some r → (at_number rs n ≡ Some r) ⊎ (x ≡ r)
+more_from : (rs : List (Option Registration)) (x r : Registration) (n : ℕ) → at_number (rs ++ Some x ∷ []) n ≡ Some r
+    → (at_number rs n ≡ Some r) ⊎ (x ≡ r)
 more_from [] x r zero e = inr (some_is x r e)
   where
     some_is : (a b : Registration) → ◌≡◌ {A = Option Registration} (Some a) (Some b) → a ≡ b
@@ -43,7 +45,8 @@ more_from (q ∷ rs) x r (suc n) e = more_from rs x r n e
 abbrev forget_if : (Registration → Bool) → Option Registration → Option Registration
 forget_if gone r = cond (is_there_and gone r) None r
 
-fewer_at : (gone : Registration → Bool) (rs : List (Option Registration)) (n : ℕ) → n < length rs → (at_number (map (forget_if gone) rs) n ≡ at_number rs n) ⊎ (at_number (map (forget_if gone) rs) n ≡ None)
+fewer_at : (gone : Registration → Bool) (rs : List (Option Registration)) (n : ℕ) → n < length rs
+    → (at_number (map (forget_if gone) rs) n ≡ at_number rs n) ⊎ (at_number (map (forget_if gone) rs) n ≡ None)
 fewer_at gone [] n near = absurd (omega arith)
 fewer_at gone (r ∷ rs) zero near = by (is_there_and gone r)
   where
@@ -52,7 +55,8 @@ fewer_at gone (r ∷ rs) zero near = by (is_there_and gone r)
     by false = inl refl
 fewer_at gone (r ∷ rs) (suc n) near = fewer_at gone rs n (omega arith)
 
-fewer_from : (gone : Registration → Bool) (rs : List (Option Registration)) (r : Registration) (n : ℕ) → at_number (map (forget_if gone) rs) n ≡ Some r → at_number rs n ≡ Some r
+fewer_from : (gone : Registration → Bool) (rs : List (Option Registration)) (r : Registration) (n : ℕ)
+    → at_number (map (forget_if gone) rs) n ≡ Some r → at_number rs n ≡ Some r
 fewer_from gone [] r n e = e
 fewer_from gone (q ∷ rs) r zero e = by (is_there_and gone q) e
   where
@@ -61,7 +65,8 @@ fewer_from gone (q ∷ rs) r zero e = by (is_there_and gone q) e
     by false e = e
 fewer_from gone (q ∷ rs) r (suc n) e = fewer_from gone rs r n e
 
-fewer_size : (gone : Registration → Bool) (rs : List (Option Registration)) → length (map (forget_if gone) rs) ≡ length rs
+fewer_size : (gone : Registration → Bool) (rs : List (Option Registration))
+    → length (map (forget_if gone) rs) ≡ length rs
 fewer_size gone [] = refl
 fewer_size gone (r ∷ rs) = ap suc (fewer_size gone rs)
 
@@ -84,7 +89,9 @@ module _ (IsNew : Registration → Type 0) (st : State) where
     from = λ n r is. inl (ap (λ (rs : List (Option Registration)). at_number rs n) (sym e) ∙ is);
   }
 
-  observe_go : (h : ℕ) (name : Option ℕ) (o : ℕ) (object : Option ℕ) → IsNew (record { observer = o; handler = h; name = name; filter = object }) → Go (observe_deal st.parts h name o object)
+  observe_go : (h : ℕ) (name : Option ℕ) (o : ℕ) (object : Option ℕ)
+      → IsNew (record { observer = o; handler = h; name = name; filter = object })
+      → Go (observe_deal st.parts h name o object)
   observe_go h name o object new =
       let x : Registration = record { observer = o; handler = h; name = name; filter = object } in
       record {
@@ -106,11 +113,13 @@ module _ (IsNew : Registration → Type 0) (st : State) where
   either_go true x y h k = h
   either_go false x y h k = k
 
-  used_go : (used : Option ℕ) (deal : ℕ → Deal) → ((o : ℕ) → used ≡ Some o → Go (deal o)) → Go (with_used st.parts used deal)
+  used_go : (used : Option ℕ) (deal : ℕ → Deal) → ((o : ℕ) → used ≡ Some o → Go (deal o))
+      → Go (with_used st.parts used deal)
   used_go None deal h = same_go before refl
   used_go (Some o) deal h = h o refl
 
-  thing_go : (used : Option ℕ) (deal : ℕ → Thing → Deal) → ((i : ℕ) (x : Thing) → Go (deal i x)) → Go (with_thing st.parts used deal)
+  thing_go : (used : Option ℕ) (deal : ℕ → Thing → Deal) → ((i : ℕ) (x : Thing) → Go (deal i x))
+      → Go (with_thing st.parts used deal)
   thing_go None deal h = same_go before refl
   thing_go (Some i) deal h = by (thing_at st.parts i)
     where
@@ -118,7 +127,9 @@ module _ (IsNew : Registration → Type 0) (st : State) where
       by None = same_go before refl
       by (Some x) = h i x
 
-  filter_go : (v object : Option ℕ) (deal : Option ℕ → Deal) → ((f : Option ℕ) → ((o : ℕ) → f ≡ Some o → object ≡ Some o) → Go (deal f)) → Go (with_filter st.parts v object deal)
+  filter_go : (v object : Option ℕ) (deal : Option ℕ → Deal)
+      → ((f : Option ℕ) → ((o : ℕ) → f ≡ Some o → object ≡ Some o) → Go (deal f))
+      → Go (with_filter st.parts v object deal)
   filter_go None object deal h = h None (λ o e. absurd cc)
   filter_go (Some v) object deal h = used_go object (λ o. deal (Some o)) (λ o e. h (Some o) (λ p q. e ∙ q))
 

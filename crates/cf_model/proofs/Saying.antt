@@ -57,7 +57,8 @@ names_none : (a : Answer) → NamesNone a → object_in a ≡ None
 names_none (answers.Object o) h = absurd h
 names_none _ h = refl
 
-bound_names : (c : Script) (p : Parts) (x : Statement) (used : List (Option ℕ)) → object_in (bound_of c p x used).answer ≡ None
+bound_names : (c : Script) (p : Parts) (x : Statement) (used : List (Option ℕ))
+    → object_in (bound_of c p x used).answer ≡ None
 bound_names c p x used = by (item_made x)
   where
     by : (made : Option Made) → object_in (bound_if c p x used made).answer ≡ None
@@ -75,7 +76,8 @@ object_is (Some o) a h = refl
 given_list : (o : ℕ) (outs : List ℕ) → owed_in o (map release_of (outs ++ [])) ≡ times o outs
 given_list o outs = ap (λ (xs : List ℕ). owed_in o (map release_of xs)) (append-nil outs) ∙ ap (owed_in o) (sym (append-nil (map release_of outs))) ∙ owed-releases o outs [] ∙ omega arith
 
-gives_out : (c : Script) (t : ℕ) (st : State) (x : Statement) (used : List (Option ℕ)) (o : ℕ) → owed_in o (owed_by (says x) (objects_in (deal_of c t st x used).leaves ++ posts_of st.parts x used)) ≡ times o (objects_in (deal_of c t st x used).leaves)
+gives_out : (c : Script) (t : ℕ) (st : State) (x : Statement) (used : List (Option ℕ)) (o : ℕ)
+    → owed_in o (owed_by (says x) (objects_in (deal_of c t st x used).leaves ++ posts_of st.parts x used)) ≡ times o (objects_in (deal_of c t st x used).leaves)
 gives_out c t st (forms.Post name info) used o = refl
 gives_out c t st x used o = given_list o (objects_in (deal_of c t st x used).leaves)
 
@@ -125,7 +127,8 @@ release_is (forms.Release w) v k = inr (ap forms.Release (same_released w v k))
 release_is (forms.Retain w) v k = absurd cc
 release_is x v k = absurd (no_release (mentions_of x) v k)
 
-none_live : (st : State) (bs : List Binding) (k i o : ℕ) → used_at (map (object_at bs) (replicate k None)) i ≡ Some o → IsLive st o
+none_live : (st : State) (bs : List Binding) (k i o : ℕ) → used_at (map (object_at bs) (replicate k None)) i ≡ Some o
+    → IsLive st o
 none_live st bs zero i o e = absurd cc
 none_live st bs (suc k) zero o e = absurd cc
 none_live st bs (suc k) (suc i) o e = none_live st bs k i o e
@@ -138,24 +141,28 @@ module _ (c : Script) (t : ℕ) (st : State) (f : Frame) (fs : List Frame) (work
   depth = length fs
 
   -- what a variable of the frame on top has is there, where it owns a reference
-  pub variable_there : (v o : ℕ) → look v bs ≡ Some o → released v (lines_done c f) < given v (lines_done c f) → 0 < weigh (one (held_by (variable t depth v) o)) st.edges
+  pub variable_there : (v o : ℕ) → look v bs ≡ Some o → released v (lines_done c f) < given v (lines_done c f)
+      → 0 < weigh (one (held_by (variable t depth v) o)) st.edges
   variable_there v o is more =
       let top : frames_hold c (f ∷ fs) depth v o ≡ frame_holds c f v o = ap (λ (b : Bool). cond b (frame_holds c f v o) (frames_hold c fs depth v o)) (eq-eqb depth depth refl) in
       let here : frame_holds c f v o ≡ given v (lines_done c f) - released v (lines_done c f) = rw is (ap (λ (b : Bool). cond b (given v (lines_done c f) - released v (lines_done c f)) 0) (eq-eqb o o refl)) in
       omega (arith, held.variables depth v o, top, here, more)
 
-  has_variable : (v o : ℕ) → look v bs ≡ Some o → released v (lines_done c f) < given v (lines_done c f) → has (variable t depth v) o st.edges ≡ true
+  has_variable : (v o : ℕ) → look v bs ≡ Some o → released v (lines_done c f) < given v (lines_done c f)
+      → has (variable t depth v) o st.edges ≡ true
   has_variable v o is more = some_has (weigh (one (held_by (variable t depth v) o)) st.edges) (variable_there v o is more)
     where
       some_has : (n : ℕ) → 0 < n → ltb 0 n ≡ true
       some_has n h = grind (arith, nat_tests)
 
   -- so a release takes the variable's own reference
-  pub release_own : (v o : ℕ) → look v bs ≡ Some o → HasOwn (lines_done c f) v → own_reference t (variable t depth v) o st.edges ≡ Some (held_by (variable t depth v) o)
+  pub release_own : (v o : ℕ) → look v bs ≡ Some o → HasOwn (lines_done c f) v
+      → own_reference t (variable t depth v) o st.edges ≡ Some (held_by (variable t depth v) o)
   release_own v o is own = own_has t (variable t depth v) o st.edges (has_variable v o is own.more)
 
   -- what lines use is live
-  pub used_live : IsBalanced st → (vs : List ℕ) (k : ℕ) → HaveOwn (lines_done c f) vs → (i o : ℕ) → used_at (map (object_at bs) (map Some vs ++ replicate k None)) i ≡ Some o → IsLive st o
+  pub used_live : IsBalanced st → (vs : List ℕ) (k : ℕ) → HaveOwn (lines_done c f) vs → (i o : ℕ)
+      → used_at (map (object_at bs) (map Some vs ++ replicate k None)) i ≡ Some o → IsLive st o
   used_live b [] k own i o e = none_live st bs k i o e
   used_live b (v ∷ vs) k own zero o e = live_there st (held_by (variable t depth v) o) b (variable_there v o e own.0.more)
   used_live b (v ∷ vs) k own (suc i) o e = used_live b vs k own.1 i o e
@@ -164,11 +171,13 @@ module _ (c : Script) (t : ℕ) (st : State) (f : Frame) (fs : List Frame) (work
   LineKept x step = KeepsOwn c t (stand f fs work done) step.flow (advanced (facts_of st) t (does x) (step_answer step st) (step_finals step st) step.list (stand f fs work done))
 
   module _ (x : BlockLine) (fit : FitLine (lines_done c f) x) (after : MovesOn c f x) where
-    after_line : (answer : Answer) (ownership : Ownership) (object : Option ℕ) → line_ownership x ≡ ownership → OwnsAfter (lines_done c f) (lines_then c f x answer) bs ownership object
+    after_line : (answer : Answer) (ownership : Ownership) (object : Option ℕ) → line_ownership x ≡ ownership
+        → OwnsAfter (lines_done c f) (lines_then c f x answer) bs ownership object
     after_line answer ownership object k = owns_after x (lines_done c f) bs owns (lines_then c f x answer) (after answer) ownership object k (subst (FitsOwnership (lines_done c f)) k fit.ownership)
 
     -- a line by its flow
-    by_flow : (step : Step) (ownership : Ownership) (object : Option ℕ) → line_ownership x ≡ ownership → bound_object (facts_of st) t (step_answer step st) x ≡ object
+    by_flow : (step : Step) (ownership : Ownership) (object : Option ℕ) → line_ownership x ≡ ownership
+        → bound_object (facts_of st) t (step_answer step st) x ≡ object
         → LineFlow t depth bs ownership object step.flow
         → ((o : ℕ) → owed_in o (owed_by x step.list) + flow_lost (one (held_by (owed t) o)) step.flow ≡ flow_won (one (held_by (owed t) o)) step.flow)
         → LineKept x step
@@ -189,14 +198,16 @@ module _ (c : Script) (t : ℕ) (st : State) (f : Frame) (fs : List Frame) (work
         (bind_flow t depth v n bs object b.origin)
         (λ o. omega (arith, owed_none (says x) o, weigh-append (one (held_by (owed t) o)) (held_if (variable t depth v) object) (new_slots n b.origin), held_if_apart (held_by (owed t) o) (variable t depth v) object (kinds_apart (owed t) (variable t depth v) refl), no_slots_owed t o n b.origin))
 
-    retain_by : (v : ℕ) (object : Option ℕ) → ownership_of x ≡ Retains v → look v bs ≡ object → LineKept (says x) (retain_step (variable t depth v) st object)
+    retain_by : (v : ℕ) (object : Option ℕ) → ownership_of x ≡ Retains v → look v bs ≡ object
+        → LineKept (says x) (retain_step (variable t depth v) st object)
     retain_by v None k is =
         by_flow (says x) fit after (retain_step (variable t depth v) st None) (Retains v) None k refl (retain_flow t depth v bs None None is) (λ o. omega (arith, owed_none (says x) o))
     retain_by v (Some p) k is =
         by_flow (says x) fit after (retain_step (variable t depth v) st (Some p)) (Retains v) None k refl (retain_flow t depth v bs (Some p) None is)
         (λ o. omega (arith, owed_none (says x) o, held_if_apart (held_by (owed t) o) (variable t depth v) (Some p) (kinds_apart (owed t) (variable t depth v) refl)))
 
-    release_by : (v : ℕ) (object : Option ℕ) → ownership_of x ≡ Releases v → look v bs ≡ object → LineKept (says x) (release_step t (variable t depth v) st object)
+    release_by : (v : ℕ) (object : Option ℕ) → ownership_of x ≡ Releases v → look v bs ≡ object
+        → LineKept (says x) (release_step t (variable t depth v) st object)
     release_by v None k is =
         by_flow (says x) fit after (release_step t (variable t depth v) st None) (Releases v) None k refl (skip_flow t depth v bs None is) (λ o. omega (arith, owed_none (says x) o))
     release_by v (Some p) k is =
@@ -206,7 +217,9 @@ module _ (c : Script) (t : ℕ) (st : State) (f : Frame) (fs : List Frame) (work
         (by_flow (says x) fit after cut (Releases v) (object_in (step_answer cut st)) k refl (release_flow t depth v p bs (object_in (step_answer cut st)) is)
         (λ o. omega (arith, owed_none (says x) o, holders_apart (held_by (owed t) o) (held_by (variable t depth v) p) (kinds_apart (owed t) (variable t depth v) refl))))
 
-    deal_by : (deal : Deal) (posts : List ℕ) → ((o : ℕ) → owed_in o (owed_by (says x) (objects_in deal.leaves ++ posts)) ≡ times o (objects_in deal.leaves)) → FitsDeal st deal → ownership_of x ≡ Keeps → LineKept (says x) (deal_step t deal posts)
+    deal_by : (deal : Deal) (posts : List ℕ)
+        → ((o : ℕ) → owed_in o (owed_by (says x) (objects_in deal.leaves ++ posts)) ≡ times o (objects_in deal.leaves))
+        → FitsDeal st deal → ownership_of x ≡ Keeps → LineKept (says x) (deal_step t deal posts)
     deal_by deal posts gives fits k =
         let step = deal_step t deal posts in
         by_flow (says x) fit after step Keeps (object_in (step_answer step st)) k refl (deal_flow t depth bs (object_in (step_answer step st)) deal.enters deal.leaves fits.ins fits.outs)
@@ -217,31 +230,37 @@ module _ (c : Script) (t : ℕ) (st : State) (f : Frame) (fs : List Frame) (work
     first_looked w (inl e) = ap (λ (y : Statement). first_of (used_objects bs (says y))) e
     first_looked w (inr e) = ap (λ (y : Statement). first_of (used_objects bs (says y))) e
 
-    pub statement_keeps : (ownership : Ownership) → ownership_of x ≡ ownership → FitsDeal st (deal_of c t st x used) → LineKept (says x) (statement_step c t depth st x used ownership)
+    pub statement_keeps : (ownership : Ownership) → ownership_of x ≡ ownership → FitsDeal st (deal_of c t st x used)
+        → LineKept (says x) (statement_step c t depth st x used ownership)
     statement_keeps Keeps k fits = deal_by (deal_of c t st x used) (posts_of st.parts x used) (gives_out c t st x used) fits k
     statement_keeps (Binds v) k fits = bind_keeps v k
     statement_keeps (Retains v) k fits = retain_by v (first_of used) k (first_looked v (retain_is x v k))
     statement_keeps (Releases v) k fits = release_by v (first_of used) k (first_looked v (release_is x v k))
 
-  pub begin_keeps : (v : ℕ) → FitLine (lines_done c f) (begins v) → MovesOn c f (begins v) → LineKept (begins v) (idle st answers.Ok)
+  pub begin_keeps : (v : ℕ) → FitLine (lines_done c f) (begins v) → MovesOn c f (begins v)
+      → LineKept (begins v) (idle st answers.Ok)
   begin_keeps v fit after = by_flow (begins v) fit after (idle st answers.Ok) (Binds v) None refl refl (bind_flow t depth v 0 bs None nowhere) (λ o. refl)
 
   -- a claim, and a pack
-  pub claim_keeps : (k v : ℕ) → FitLine (lines_done c f) (claims k v) → MovesOn c f (claims k v) → LineKept (claims k v) (line_step c t depth st bs (claims k v))
+  pub claim_keeps : (k v : ℕ) → FitLine (lines_done c f) (claims k v) → MovesOn c f (claims k v)
+      → LineKept (claims k v) (line_step c t depth st bs (claims k v))
   claim_keeps k v fit after = by (first_held (parcel t k) st.edges) refl
     where
-      by : (object : Option ℕ) → first_held (parcel t k) st.edges ≡ object → LineKept (claims k v) (claim_step st (parcel t k) object (variable t depth v))
+      by : (object : Option ℕ) → first_held (parcel t k) st.edges ≡ object
+          → LineKept (claims k v) (claim_step st (parcel t k) object (variable t depth v))
       by None is = by_flow (claims k v) fit after (claim_step st (parcel t k) None (variable t depth v)) (Binds v) None refl is (claim_flow t depth v k bs None) (λ o. refl)
       by (Some p) is =
           by_flow (claims k v) fit after (claim_step st (parcel t k) (Some p) (variable t depth v)) (Binds v) (Some p) refl is (claim_flow t depth v k bs (Some p))
           (λ o. omega (arith, holders_apart (held_by (owed t) o) (held_by (variable t depth v) p) (kinds_apart (owed t) (variable t depth v) refl), holders_apart (held_by (owed t) o) (held_by (parcel t k) p) (kinds_apart (owed t) (parcel t k) refl)))
 
-  pub pack_keeps : (u k : ℕ) (v : Option ℕ) → FitLine (lines_done c f) (packs u k v) → MovesOn c f (packs u k v) → LineKept (packs u k v) (line_step c t depth st bs (packs u k v))
+  pub pack_keeps : (u k : ℕ) (v : Option ℕ) → FitLine (lines_done c f) (packs u k v) → MovesOn c f (packs u k v)
+      → LineKept (packs u k v) (line_step c t depth st bs (packs u k v))
   pack_keeps u k None fit after =
       by_flow (packs u k None) fit after (line_step c t depth st bs (packs u k None)) Keeps None refl refl (deal_flow t depth bs None [] [] tt tt) (λ o. refl)
   pack_keeps u k (Some v) fit after = by (look v bs) refl
     where
-      by : (object : Option ℕ) → look v bs ≡ object → LineKept (packs u k (Some v)) (pack_step t st (variable t depth v) object (parcel u k))
+      by : (object : Option ℕ) → look v bs ≡ object
+          → LineKept (packs u k (Some v)) (pack_step t st (variable t depth v) object (parcel u k))
       by None is = by_flow (packs u k (Some v)) fit after (pack_step t st (variable t depth v) None (parcel u k)) (Releases v) None refl refl (skip_flow t depth v bs None is) (λ o. refl)
       by (Some p) is =
           let r = held_by (variable t depth v) p in

@@ -37,7 +37,8 @@ either_way : (x : Bool) → counted x + counted (not x) ≡ 1
 either_way true = refl
 either_way false = refl
 
-one_in_view : (ts : List ℕ) (o : ℕ) (h : Holder) (p : ℕ) → leading_to o (held_by h p) ≡ held_with ts o (held_by h p) + from_others ts o (held_by h p)
+one_in_view : (ts : List ℕ) (o : ℕ) (h : Holder) (p : ℕ)
+    → leading_to o (held_by h p) ≡ held_with ts o (held_by h p) + from_others ts o (held_by h p)
 one_in_view ts o (variable t d v) p = of_object (eqb p o) (list_any (λ u. eqb u t) ts) (not (list_any (λ u. eqb u t) ts)) (either_way (list_any (λ u. eqb u t) ts))
 one_in_view ts o (callout t d) p = of_object (eqb p o) (list_any (λ u. eqb u t) ts) (not (list_any (λ u. eqb u t) ts)) (either_way (list_any (λ u. eqb u t) ts))
 one_in_view ts o (owed t) p = of_object (eqb p o) (list_any (λ u. eqb u t) ts) (not (list_any (λ u. eqb u t) ts)) (either_way (list_any (λ u. eqb u t) ts))
@@ -46,7 +47,8 @@ one_in_view ts o (slot b) p = of_object (eqb p o) true false refl
 one_in_view ts o (in_mode t m) p = of_object (eqb p o) true false refl
 one_in_view ts o (in_common t) p = of_object (eqb p o) true false refl
 
-pub all_in_view : (ts : List ℕ) (o : ℕ) (es : List Reference) → degree o es ≡ weigh (held_with ts o) es + weigh (from_others ts o) es
+pub all_in_view : (ts : List ℕ) (o : ℕ) (es : List Reference)
+    → degree o es ≡ weigh (held_with ts o) es + weigh (from_others ts o) es
 all_in_view ts o [] = refl
 all_in_view ts o (e ∷ es) = omega (arith, one_in_view ts o e.holder e.object, all_in_view ts o es)
 
@@ -65,7 +67,8 @@ pub flow_size : (st : State) (p : Parts) (fl : Flow) → FlowFits st p fl → le
 flow_size st p (grows ins ms) fits = elim fits.sizes [ inl e ↦ omega (arith, e) | inr e ↦ omega (arith, e) ]
 flow_size st p (shrinks r) fits = omega (arith, fits)
 
-flow_new : (st : State) (p : Parts) (fl : Flow) → IsThere fl st.edges → FlowFits st p fl → (o : ℕ) → length st.parts.objects ≤ o → o < length p.objects → 0 < degree o (flowed fl st.edges)
+flow_new : (st : State) (p : Parts) (fl : Flow) → IsThere fl st.edges → FlowFits st p fl → (o : ℕ)
+    → length st.parts.objects ≤ o → o < length p.objects → 0 < degree o (flowed fl st.edges)
 flow_new st p (grows ins ms) can fits o least most = elim fits.sizes [
   | inl e ↦ absurd (omega (arith, e, least, most))
   | inr e ↦
@@ -75,7 +78,8 @@ flow_new st p (grows ins ms) can fits o least most = elim fits.sizes [
 ]
 flow_new st p (shrinks r) can fits o least most = absurd (omega (arith, fits, least, most))
 
-done_makes : (s : Script) (st : State) (e : Entry) → IsSteady st → IsStep e.action → IsLegalStep s st e → Makes st (after_action s e.thread st e.action)
+done_makes : (s : Script) (st : State) (e : Entry) → IsSteady st → IsStep e.action → IsLegalStep s st e
+    → Makes st (after_action s e.thread st e.action)
 done_makes s st e h is legal =
     let t = e.thread in
     let done = legal_done s st e h legal in
@@ -87,23 +91,27 @@ done_makes s st e h is legal =
       new = flow_new st step.parts step.flow done.fits.there done.fits.flow;
     })
 
-entry_makes : (s : Script) (st : State) (t : ℕ) (a : Action) (x : Answer) → IsSteady st → ActionView a → IsLegalAs s st (record { thread = t; action = a; answer = x }) a → Makes st (after_action s t st a)
+entry_makes : (s : Script) (st : State) (t : ℕ) (a : Action) (x : Answer) → IsSteady st → ActionView a
+    → IsLegalAs s st (record { thread = t; action = a; answer = x }) a → Makes st (after_action s t st a)
 entry_makes s st t _ x h (is_tick n) legal = record { steady = ticked_steady n st h; size = omega arith; new = λ o least most. absurd (omega (arith, least, most)) }
 entry_makes s st t _ x h is_stall legal = record { steady = h; size = omega arith; new = λ o least most. absurd (omega (arith, least, most)) }
 entry_makes s st t a x h (is_step _ step) legal =
     let e : Entry = record { thread = t; action = a; answer = x } in
     done_makes s st e h step (step.legal s st e legal)
 
-legal_makes : (s : Script) (st : State) (e : Entry) → IsSteady st → IsLegalEntry s st e → Makes st (after_action s e.thread st e.action)
+legal_makes : (s : Script) (st : State) (e : Entry) → IsSteady st → IsLegalEntry s st e
+    → Makes st (after_action s e.thread st e.action)
 legal_makes s st e h legal = entry_makes s st e.thread e.action e.answer h (action_view e.action) legal
 
-size_stays : (s : Script) (st : State) (es : List Entry) → IsSteady st → IsLegalPart s st es → made_of st ≤ made_of (state_from s st es)
+size_stays : (s : Script) (st : State) (es : List Entry) → IsSteady st → IsLegalPart s st es
+    → made_of st ≤ made_of (state_from s st es)
 size_stays s st [] h legal = omega arith
 size_stays s st (e ∷ es) h legal =
     let one = legal_makes s st e h legal.0 in
     omega (arith, one.size, size_stays s (after_action s e.thread st e.action) es one.steady legal.1)
 
-changed_made : (s : Script) (st : State) (o : ℕ) (es : List Entry) → IsSteady st → IsLegalPart s st es → 0 < changes_from s st o es → o < made_of (state_from s st es)
+changed_made : (s : Script) (st : State) (o : ℕ) (es : List Entry) → IsSteady st → IsLegalPart s st es
+    → 0 < changes_from s st o es → o < made_of (state_from s st es)
 changed_made s st o [] h legal some = absurd (omega arith)
 changed_made s st o (e ∷ es) h legal some =
     let next = after_action s e.thread st e.action in
@@ -122,7 +130,8 @@ none_unmade st o h unmade = elim (cases_lt 0 (degree o st.edges)) [
   | inr none ↦ omega (arith, none)
 ]
 
-made_changed : (s : Script) (st : State) (o : ℕ) (es : List Entry) → IsSteady st → IsLegalPart s st es → made_of st ≤ o → o < made_of (state_from s st es) → 0 < changes_from s st o es
+made_changed : (s : Script) (st : State) (o : ℕ) (es : List Entry) → IsSteady st → IsLegalPart s st es → made_of st ≤ o
+    → o < made_of (state_from s st es) → 0 < changes_from s st o es
 made_changed s st o [] h legal unmade made = absurd (omega (arith, unmade, made))
 made_changed s st o (e ∷ es) h legal unmade made =
     let next = after_action s e.thread st e.action in
@@ -132,7 +141,8 @@ made_changed s st o (e ∷ es) h legal unmade made =
       | inr later ↦ omega (arith, made_changed s next o es one.steady legal.1 (omega (arith, later)) made)
     ]
 
-pub made_where_changed : (s : Script) (es : List Entry) (o : ℕ) → IsLegal s es → (ltb o (made_of (After s es)) ≡ true) ↔ (0 < changes s o es)
+pub made_where_changed : (s : Script) (es : List Entry) (o : ℕ) → IsLegal s es
+    → (ltb o (made_of (After s es)) ≡ true) ↔ (0 < changes s o es)
 made_where_changed s es o legal =
     let part = part_of_legal s (start s) es legal in (
       λ made. made_changed s (start s) o es (start_steady s) part (omega arith) (ltb-true o (made_of (After s es)) made),
@@ -144,7 +154,8 @@ made_where_changed s es o legal =
 
 -- ---- the times of the lead
 
-no_times : (s : Script) (st : State) (e : Entry) (a : Action) → (e.thread ≡ lead → ⊥) → IsLegalAs s st e a → times_in a ≡ []
+no_times : (s : Script) (st : State) (e : Entry) (a : Action) → (e.thread ≡ lead → ⊥) → IsLegalAs s st e a
+    → times_in a ≡ []
 no_times s st e (actions.Tick time) apart legal = absurd (apart legal.0)
 no_times s st e a apart legal = refl
 
@@ -152,7 +163,8 @@ times_from : (s : Script) (st : State) (es : List Entry) → IsLegalPart s st es
 times_from s st [] legal = refl
 times_from s st (e ∷ es) legal = by (eqb_tells e.thread lead) (times_from s (after_action s e.thread st e.action) es legal.1)
   where
-    by : ((eqb e.thread lead ≡ true) × (e.thread ≡ lead)) ⊎ ((eqb e.thread lead ≡ false) × (e.thread ≡ lead → ⊥)) → tick_times es ≡ tick_times (by_lead es) → tick_times (e ∷ es) ≡ tick_times (by_lead (e ∷ es))
+    by : ((eqb e.thread lead ≡ true) × (e.thread ≡ lead)) ⊎ ((eqb e.thread lead ≡ false) × (e.thread ≡ lead → ⊥))
+        → tick_times es ≡ tick_times (by_lead es) → tick_times (e ∷ es) ≡ tick_times (by_lead (e ∷ es))
     by (inl q) rest = rw q.0 (ap (λ (ts : List ℕ). times_in e.action ++ ts) rest)
     by (inr q) rest = rw (q.0, no_times s st e e.action q.1 legal.0) rest
 

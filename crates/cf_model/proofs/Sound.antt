@@ -51,12 +51,17 @@ use Rattle.cf_model.specs.declared.entry.Entry.{Entry}
 
 -- ---- frames stay in order
 
-line_fit : (c : Script) (facts : Facts) (t : ℕ) (x : BlockLine) (answer : Answer) (list : List ℕ) (f : Frame) → FitsByBlock c → slice_get (frame_lines c f.kind f.block) f.number ≡ Some x → Owns (lines_done c f) f.bindings → Owns (lines_done c (line_done facts t x answer list f)) (line_done facts t x answer list f).bindings
+line_fit : (c : Script) (facts : Facts) (t : ℕ) (x : BlockLine) (answer : Answer) (list : List ℕ) (f : Frame)
+    → FitsByBlock c → slice_get (frame_lines c f.kind f.block) f.number ≡ Some x → Owns (lines_done c f) f.bindings
+    → Owns (lines_done c (line_done facts t x answer list f)) (line_done facts t x answer list f).bindings
 line_fit c facts t x answer list f own at owns =
     (owns_after x (lines_done c f) f.bindings owns (lines_then c f x answer) (moves_on c f x own at answer) (line_ownership x) (bound_object facts t answer x) refl (fit_line c f x own at).ownership).owns
 
 -- the frames after a demand
-demand_fit : (c : Script) (facts : Facts) (t : ℕ) (d : Demand) (answer : Answer) (list : List ℕ) (f : Frame) (fs : List Frame) → FitsByBlock c → FramesFit c (f ∷ fs) → FrameView c facts t f d → FramesFit c (frames_after facts t d answer list (f ∷ fs))
+demand_fit : (c : Script) (facts : Facts) (t : ℕ) (d : Demand) (answer : Answer) (list : List ℕ) (f : Frame)
+    (fs : List Frame)
+    → FitsByBlock c → FramesFit c (f ∷ fs) → FrameView c facts t f d
+    → FramesFit c (frames_after facts t d answer list (f ∷ fs))
 demand_fit c facts t _ answer list f fs own fits (is_call k called found) = (handler_fit c k called, (called_fit c facts t k.role f fits.0, fits.1))
 demand_fit c facts t _ answer list f fs own fits (is_line x at) =
     run_frames_fit c facts.time x (is_entered answer) (line_done facts t x answer list f ∷ fs) (line_fit c facts t x answer list f own at fits.0, fits.1)
@@ -65,24 +70,30 @@ demand_fit c facts t _ answer list f fs own fits (is_return k e end) = fits.1
 demand_fit c facts t _ answer list f fs own fits (is_phase r p e) = (phase_fit c facts t p list f fits.0, fits.1)
 demand_fit c facts t _ answer list f fs own fits (is_close r e) = fits.1
 
-work_fit : (c : Script) (facts : Facts) (t : ℕ) (d : Demand) (answer : Answer) (list : List ℕ) (work : List Work) (fs : List Frame) → FramesFit c fs → WorkView facts work d → FramesFit c (frames_after facts t d answer list fs)
+work_fit : (c : Script) (facts : Facts) (t : ℕ) (d : Demand) (answer : Answer) (list : List ℕ) (work : List Work)
+    (fs : List Frame)
+    → FramesFit c fs → WorkView facts work d → FramesFit c (frames_after facts t d answer list fs)
 work_fit c facts t _ answer list work fs fits (first_owes o first) = fits
 work_fit c facts t _ answer list work fs fits (first_spends i first) = fits
 work_fit c facts t _ answer list work fs fits (first_drops b k o left first) = fits
 
-frames_fit : (c : Script) (facts : Facts) (t : ℕ) (d : Demand) (answer : Answer) (list : List ℕ) (s : Stand) → FitsByBlock c → FramesFit c s.frames → StandView c facts t s d → FramesFit c (frames_after facts t d answer list s.frames)
+frames_fit : (c : Script) (facts : Facts) (t : ℕ) (d : Demand) (answer : Answer) (list : List ℕ) (s : Stand)
+    → FitsByBlock c → FramesFit c s.frames → StandView c facts t s d
+    → FramesFit c (frames_after facts t d answer list s.frames)
 frames_fit c facts t d answer list s own fits (of_work w view) = work_fit c facts t d answer list s.work s.frames fits view
 frames_fit c facts t d answer list s own fits (of_frame f fs idle e view) =
     subst (λ (gs : List Frame). FramesFit c (frames_after facts t d answer list gs)) (sym e) (demand_fit c facts t d answer list f fs own (subst (FramesFit c) e fits) view)
 
-stopped_fit : (c : Script) (stops : Option ℕ) (ss : List Stand) → ((u : ℕ) → FramesFit c (stand_at u ss).frames) → (u : ℕ) → FramesFit c (stand_at u (stopped_at stops ss)).frames
+stopped_fit : (c : Script) (stops : Option ℕ) (ss : List Stand) → ((u : ℕ) → FramesFit c (stand_at u ss).frames)
+    → (u : ℕ) → FramesFit c (stand_at u (stopped_at stops ss)).frames
 stopped_fit c None ss h u = h u
 stopped_fit c (Some w) ss h u = elim (eqb_tells u w) [
   | inl e ↦ subst (λ (n : ℕ). FramesFit c (stand_at n (stopped_at (Some w) ss)).frames) (sym e.1) (subst (λ (s : Stand). FramesFit c s.frames) (sym (at_own blank w (stop_stand (stand_at w ss)) ss)) (stop_fit c (stand_at w ss).frames (h w)))
   | inr e ↦ subst (λ (s : Stand). FramesFit c s.frames) (sym (at_other blank u w (stop_stand (stand_at w ss)) ss e.1)) (h u)
 ]
 
-all_fit : (c : Script) (t : ℕ) (new : Stand) (ss : List Stand) → FramesFit c new.frames → ((u : ℕ) → FramesFit c (stand_at u ss).frames) → (u : ℕ) → FramesFit c (stand_at u (with_stand t new ss)).frames
+all_fit : (c : Script) (t : ℕ) (new : Stand) (ss : List Stand) → FramesFit c new.frames
+    → ((u : ℕ) → FramesFit c (stand_at u ss).frames) → (u : ℕ) → FramesFit c (stand_at u (with_stand t new ss)).frames
 all_fit c t new ss mine h u = elim (eqb_tells u t) [
   | inl e ↦ subst (λ (n : ℕ). FramesFit c (stand_at n (with_stand t new ss)).frames) (sym e.1) (subst (λ (s : Stand). FramesFit c s.frames) (sym (at_own blank t new ss)) mine)
   | inr e ↦ subst (λ (s : Stand). FramesFit c s.frames) (sym (at_other blank u t new ss e.1)) (h u)
@@ -118,10 +129,12 @@ DemandKept c t st work done d fs =
     KeepsOwn c t old step.flow (advanced (facts_of st) t d (step_answer step st) (step_finals step st) step.list old)
 
 module _ (c : Script) (t : ℕ) (st : State) (own : FitsByBlock c) (h : IsSteady st) where
-  still_flow : (old new : Stand) (step : Step) → step.flow ≡ still → KeepsOwn c t old still new → KeepsOwn c t old step.flow new
+  still_flow : (old new : Stand) (step : Step) → step.flow ≡ still → KeepsOwn c t old still new
+      → KeepsOwn c t old step.flow new
   still_flow old new step e k = subst (λ (fl : Flow). KeepsOwn c t old fl new) (sym e) k
 
-  work_kept : (s : Stand) (d : Demand) → OwnHeld c t st.edges s → WorkView (facts_of st) s.work d → DemandKept c t st s.work s.is_done d s.frames
+  work_kept : (s : Stand) (d : Demand) → OwnHeld c t st.edges s → WorkView (facts_of st) s.work d
+      → DemandKept c t st s.work s.is_done d s.frames
   work_kept s _ held (first_owes o first) =
       let here : own_reference t (owed t) o st.edges ≡ Some (held_by (owed t) o) = own_has t (owed t) o st.edges (some_has (weigh (one (held_by (owed t) o)) st.edges) (let one_here : counted (eqb o o) ≡ 1 = ap counted (eq-eqb o o refl) in omega (arith, one_here, held.owed o, first o))) in
       let cut = flowing st answers.Ok (shrinks (held_by (owed t) o)) in
@@ -139,7 +152,9 @@ module _ (c : Script) (t : ℕ) (st : State) (own : FitsByBlock c) (h : IsSteady
       let step = step_of c t st s.frames (drops b k o) in
       drops_keeps c (facts_of st) t s b k o (step_answer step st) (step_finals step st) [] first
 
-  line_kept : (f : Frame) (fs : List Frame) (work : List Work) (done : Bool) (x : BlockLine) → OwnHeld c t st.edges (stand f fs work done) → Owns (lines_done c f) f.bindings → ((o : ℕ) → owed_in o work ≡ 0) → slice_get (frame_lines c f.kind f.block) f.number ≡ Some x → DemandKept c t st work done (does x) (f ∷ fs)
+  line_kept : (f : Frame) (fs : List Frame) (work : List Work) (done : Bool) (x : BlockLine)
+      → OwnHeld c t st.edges (stand f fs work done) → Owns (lines_done c f) f.bindings → ((o : ℕ) → owed_in o work ≡ 0)
+      → slice_get (frame_lines c f.kind f.block) f.number ≡ Some x → DemandKept c t st work done (does x) (f ∷ fs)
   line_kept f fs work done (says x) held owns idle at =
       let fit = fit_line c f (says x) own at in
       let used = used_objects f.bindings (says x) in
@@ -153,7 +168,9 @@ module _ (c : Script) (t : ℕ) (st : State) (own : FitsByBlock c) (h : IsSteady
   line_kept f fs work done (begins v) held owns idle at =
       begin_keeps c t st f fs work done held owns idle v (fit_line c f (begins v) own at) (moves_on c f (begins v) own at)
 
-  frame_kept : (f : Frame) (fs : List Frame) (work : List Work) (done : Bool) (d : Demand) → OwnHeld c t st.edges (stand f fs work done) → Owns (lines_done c f) f.bindings → ((o : ℕ) → owed_in o work ≡ 0) → FrameView c (facts_of st) t f d → DemandKept c t st work done d (f ∷ fs)
+  frame_kept : (f : Frame) (fs : List Frame) (work : List Work) (done : Bool) (d : Demand)
+      → OwnHeld c t st.edges (stand f fs work done) → Owns (lines_done c f) f.bindings → ((o : ℕ) → owed_in o work ≡ 0)
+      → FrameView c (facts_of st) t f d → DemandKept c t st work done d (f ∷ fs)
   frame_kept f fs work done _ held owns idle (is_call k called found) =
       let step = step_of c t st (f ∷ fs) (calls k called) in
       calls_keeps c (facts_of st) t f fs work done k called (step_answer step st) (step_finals step st) [] idle
@@ -175,7 +192,8 @@ module _ (c : Script) (t : ℕ) (st : State) (own : FitsByBlock c) (h : IsSteady
       still_flow s (advanced (facts_of st) t closes (step_answer step st) (step_finals step st) step.list s) step (close_still st f.kind)
       (close_keeps c (facts_of st) t f fs work done idle r (step_answer step st) (step_finals step st) step.list e)
 
-  pub demand_kept : (s : Stand) (d : Demand) → OwnHeld c t st.edges s → FramesFit c s.frames → StandView c (facts_of st) t s d → DemandKept c t st s.work s.is_done d s.frames
+  pub demand_kept : (s : Stand) (d : Demand) → OwnHeld c t st.edges s → FramesFit c s.frames
+      → StandView c (facts_of st) t s d → DemandKept c t st s.work s.is_done d s.frames
   demand_kept s d held fits (of_work w view) = work_kept s d held view
   demand_kept s d held fits (of_frame f fs idle e view) =
       let held_top = subst (λ (gs : List Frame). OwnHeld c t st.edges (record { frames = gs; work = s.work; is_done = s.is_done })) e held in
@@ -185,11 +203,13 @@ module _ (c : Script) (t : ℕ) (st : State) (own : FitsByBlock c) (h : IsSteady
 -- ---- a step
 
 -- an entry that is skipped uses nothing
-pub uses_at_most : (st : State) (t : ℕ) (owners : List Owner) (a : Action) (answer : Answer) → MayUseAll st t owners (action_uses a) → MayUseAll st t owners (uses_of a answer)
+pub uses_at_most : (st : State) (t : ℕ) (owners : List Owner) (a : Action) (answer : Answer)
+    → MayUseAll st t owners (action_uses a) → MayUseAll st t owners (uses_of a answer)
 uses_at_most st t owners a answers.Skip h = tt
 uses_at_most st t owners a answer h = h
 
-pub demand_sound : (c : Script) (t : ℕ) (st : State) (d : Demand) → FitsByBlock c → IsSound c st → demanded c st t ≡ Some d → IsSound c (done_by c t st d)
+pub demand_sound : (c : Script) (t : ℕ) (st : State) (d : Demand) → FitsByBlock c → IsSound c st
+    → demanded c st t ≡ Some d → IsSound c (done_by c t st d)
 demand_sound c t st d own h e =
     let s = stand_at t st.stands in
     let step = step_of c t st s.frames d in
@@ -207,7 +227,8 @@ demand_sound c t st d own h e =
 
 -- ---- along a journal
 
-acted_sound : (c : Script) (t : ℕ) (st : State) (d : Option Demand) → FitsByBlock c → IsSound c st → demanded c st t ≡ d → IsSound c (acted c t st d)
+acted_sound : (c : Script) (t : ℕ) (st : State) (d : Option Demand) → FitsByBlock c → IsSound c st → demanded c st t ≡ d
+    → IsSound c (acted c t st d)
 acted_sound c t st None own h e = h
 acted_sound c t st (Some d) own h e = demand_sound c t st d own h e
 
@@ -224,12 +245,14 @@ ticked_sound c n st h = record { held = held; frames = h.frames; steady = ticked
     held (in_common t) o = refl
 
 -- what an action does keeps all: no legality is asked for, since what is done is what the thread demands
-pub entry_sound : (c : Script) (t : ℕ) (st : State) (a : Action) → FitsByBlock c → IsSound c st → IsSound c (after_action c t st a)
+pub entry_sound : (c : Script) (t : ℕ) (st : State) (a : Action) → FitsByBlock c → IsSound c st
+    → IsSound c (after_action c t st a)
 entry_sound c t st (actions.Tick n) own h = ticked_sound c n st h
 entry_sound c t st actions.Stall own h = h
 entry_sound c t st a own h = acted_sound c t st (demanded c st t) own h refl
 
-pub sound_from : (c : Script) (st : State) (es : List Entry) → FitsByBlock c → IsSound c st → IsSound c (state_from c st es)
+pub sound_from : (c : Script) (st : State) (es : List Entry) → FitsByBlock c → IsSound c st
+    → IsSound c (state_from c st es)
 sound_from c st [] own h = h
 sound_from c st (e ∷ es) own h = sound_from c (after_action c e.thread st e.action) es own (entry_sound c e.thread st e.action own h)
 
@@ -245,7 +268,8 @@ either_none : (b : Bool) → ◌≡◌ {A = ℕ} (cond b 0 0) 0
 either_none true = refl
 either_none false = refl
 
-opening_holds_none : (c : Script) (ts : List ℕ) (u d v o : ℕ) → frames_hold c (at_or blank u (map opening_stand ts)).frames d v o ≡ 0
+opening_holds_none : (c : Script) (ts : List ℕ) (u d v o : ℕ)
+    → frames_hold c (at_or blank u (map opening_stand ts)).frames d v o ≡ 0
 opening_holds_none c [] zero d v o = refl
 opening_holds_none c [] (suc u) d v o = refl
 opening_holds_none c (t ∷ ts) zero d v o = either_none (eqb 0 d)

@@ -60,7 +60,8 @@ released_one None = tt
 released_one (Some o) = tt
 
 -- an item that is spent is the one that was called
-spent_owed : (facts : Facts) (role : Role) (n : ℕ) → is_spent facts role n ≡ true → 0 < owed_in n (releases_of (item_in role n))
+spent_owed : (facts : Facts) (role : Role) (n : ℕ) → is_spent facts role n ≡ true
+    → 0 < owed_in n (releases_of (item_in role n))
 spent_owed facts as_observer n e = let here : counted (eqb n n) ≡ 1 = ap counted (eq-eqb n n refl) in omega (arith, here)
 spent_owed facts as_timer n e = let here : counted (eqb n n) ≡ 1 = ap counted (eq-eqb n n refl) in omega (arith, here)
 spent_owed facts as_source n e = absurd cc
@@ -71,20 +72,23 @@ kind_spends facts of_block = tt
 kind_spends facts (of_run r) = tt
 kind_spends facts (of_handler q) = by (is_spent facts q.role q.number) refl
   where
-    by : (t : Bool) → is_spent facts q.role q.number ≡ t → Spends (cond t (spend_of q.number ∷ []) [] ++ releases_of (item_in q.role q.number))
+    by : (t : Bool) → is_spent facts q.role q.number ≡ t
+        → Spends (cond t (spend_of q.number ∷ []) [] ++ releases_of (item_in q.role q.number))
     by true e = (spent_owed facts q.role q.number e, released_one (item_in q.role q.number))
     by false e = released_one (item_in q.role q.number)
 
 return_spends : (facts : Facts) (fs : List Frame) → Spends (return_work facts fs)
 return_spends facts fs = by (top_info fs)
   where
-    by : (info : Option ℕ) → Spends (releases_of info ++ (spend_work facts (top_kind fs) ++ releases_of (kind_item (top_kind fs))))
+    by : (info : Option ℕ)
+        → Spends (releases_of info ++ (spend_work facts (top_kind fs) ++ releases_of (kind_item (top_kind fs))))
     by None = kind_spends facts (top_kind fs)
     by (Some o) = kind_spends facts (top_kind fs)
 
 -- ---- after an entry
 
-work_spends : (facts : Facts) (fs : List Frame) (d : Demand) (list : List ℕ) (work : List Work) → Spends work → Spends (work_after facts fs d list work)
+work_spends : (facts : Facts) (fs : List Frame) (d : Demand) (list : List ℕ) (work : List Work) → Spends work
+    → Spends (work_after facts fs d list work)
 work_spends facts fs (does x) list work h = given_spends x list
 work_spends facts fs ends list work h = tt
 work_spends facts fs returns list work h = return_spends facts fs
@@ -95,7 +99,8 @@ work_spends facts fs (calls k c) list work h = tt
 work_spends facts fs (enters p) list work h = tt
 work_spends facts fs closes list work h = tt
 
-pub stopped_work : (stops : Option ℕ) (u : ℕ) (ss : List Stand) → (stand_at u (stopped_at stops ss)).work ≡ (stand_at u ss).work
+pub stopped_work : (stops : Option ℕ) (u : ℕ) (ss : List Stand)
+    → (stand_at u (stopped_at stops ss)).work ≡ (stand_at u ss).work
 stopped_work None u ss = refl
 stopped_work (Some w) u ss = elim (eqb_tells u w) [
   | inl e ↦ subst (λ (n : ℕ). (stand_at n (stopped_at (Some w) ss)).work ≡ (stand_at n ss).work) (sym e.1) (ap (λ (s : Stand). s.work) (at_own blank w (stop_stand (stand_at w ss)) ss))
@@ -126,7 +131,8 @@ start_spends s t = subst Spends (sym (opening_work (threads_of s) t)) tt
 
 -- ---- what is spent first
 
-pub spend_first : (facts : Facts) (work : List Work) (i : ℕ) → work_demand facts work ≡ Some (spends i) → Spends work → 0 < owed_in i work
+pub spend_first : (facts : Facts) (work : List Work) (i : ℕ) → work_demand facts work ≡ Some (spends i) → Spends work
+    → 0 < owed_in i work
 spend_first facts [] i e h = absurd cc
 spend_first facts (release_of o ∷ work) i e h = absurd cc
 spend_first facts (spend_of j ∷ work) i e h = subst (λ (n : ℕ). 0 < owed_in n work) (same j i e) h.0
@@ -139,6 +145,7 @@ spend_first facts (spend_of j ∷ work) i e h = subst (λ (n : ℕ). 0 < owed_in
     same a b e = ap of_spend e
 spend_first facts (slots_of b k ∷ work) i e h = by (facts.slot b k) e (λ q. spend_first facts work i q h)
   where
-    by : (left : Option ℕ) → slot_if b k left (work_demand facts work) ≡ Some (spends i) → (work_demand facts work ≡ Some (spends i) → 0 < owed_in i work) → 0 < owed_in i work
+    by : (left : Option ℕ) → slot_if b k left (work_demand facts work) ≡ Some (spends i)
+        → (work_demand facts work ≡ Some (spends i) → 0 < owed_in i work) → 0 < owed_in i work
     by None q rest = rest q
     by (Some o) q rest = absurd cc

@@ -22,14 +22,16 @@ pub record IsSteady (st : State) : Type 0 where
   pub slotted : AreSlotted st
   pub undropped : (b : ℕ) → times b st.parts.finalised ≡ 0 → times b st.parts.dropped ≡ 0
 
-undropped_after : (finals finalised dropped after : List ℕ) → ((a : ℕ) → times a finalised ≡ 0 → times a after ≡ times a dropped)
+undropped_after : (finals finalised dropped after : List ℕ)
+    → ((a : ℕ) → times a finalised ≡ 0 → times a after ≡ times a dropped)
     → ((b : ℕ) → times b finalised ≡ 0 → times b dropped ≡ 0) → (b : ℕ) → times b (finals ++ finalised) ≡ 0 → times b after ≡ 0
 undropped_after finals finalised dropped after same h b none =
     let before : times b finalised ≡ 0 = omega (arith, none, times-append b finals finalised) in
     omega (arith, same b before, h b before)
 
 -- a step that fits keeps all
-pub step_steady : (t : ℕ) (d : Demand) (st : State) (step : Step) → IsSteady st → StepFits t st step → IsSteady (state_after t d step st)
+pub step_steady : (t : ℕ) (d : Demand) (st : State) (step : Step) → IsSteady st → StepFits t st step
+    → IsSteady (state_after t d step st)
 step_steady t d st step h fits = record {
   balance = step_balance t d st step fits.finalised fits.there fits.flow h.balance;
   slotted = λ b o. omega (arith, weigh-flow (one (held_by (slot b) o)) step.flow st.edges fits.there, h.slotted b o, fits.slots b o);

@@ -24,7 +24,8 @@ use Rattle.cf_model.proofs.Balance.{IsLive}
 use Rattle.cf_model.proofs.DealLaws.{FitsDeal, same_bodies, quiet_fits, used_fits, thing_fits, filter_fits, change_fits, add_fits, drop_fits, common_fits, signal_fits, invalidate_fits, wake_fits, stop_fits}
 use Rattle.cf_model.proofs.Steady.{IsSteady}
 
-number_is : (objects : List Object) (used : Option ℕ) (o : ℕ) → number_of (numbered objects used) ≡ Some o → used ≡ Some o
+number_is : (objects : List Object) (used : Option ℕ) (o : ℕ) → number_of (numbered objects used) ≡ Some o
+    → used ≡ Some o
 number_is objects None o e = absurd cc
 number_is objects (Some p) o e = by (slice_get objects p) e
   where
@@ -58,14 +59,16 @@ module _ (s : Script) (t : ℕ) (st : State) (h : IsSteady st) where
       none_out None = refl
       none_out (Some ob) = refl
 
-  deed_fits : (x : Statement) (used : List (Option ℕ)) (answer : Answer) → ((answer ≡ answers.Skip → ⊥) → (i o : ℕ) → used_at used i ≡ Some o → IsLive st o)
+  deed_fits : (x : Statement) (used : List (Option ℕ)) (answer : Answer)
+      → ((answer ≡ answers.Skip → ⊥) → (i o : ℕ) → used_at used i ≡ Some o → IsLive st o)
       → FitsDeal st (change_deal st.parts answer (first_of used) (change_unless_skipped answer (deed_at s.classes st.parts.objects x used).change))
   deed_fits x used answers.Skip live = skipped_quiet (first_of used)
   deed_fits x used answer live = change_fits st answer (first_of used) _ h.slotted
       (λ b is. let l = live (λ q. absurd cc) 0 b is in (l.0, h.undropped b l.0))
       (λ b o is some. elim (taken_used s st x used b o some) [ inl a ↦ live (λ q. absurd cc) 1 o a | inr a ↦ live (λ q. absurd cc) 2 o a ])
 
-  change_answer : (answer : Answer) (b : Option ℕ) (change : Change) → (change_deal st.parts answer b change).answer ≡ answer
+  change_answer : (answer : Answer) (b : Option ℕ) (change : Change)
+      → (change_deal st.parts answer b change).answer ≡ answer
   change_answer answer None change = refl
   change_answer answer (Some b) change = refl
 
@@ -73,7 +76,8 @@ module _ (s : Script) (t : ℕ) (st : State) (h : IsSteady st) where
   abbrev LiveIf : List (Option ℕ) → Deal → Type 0
   LiveIf used deal = (deal.answer ≡ answers.Skip → ⊥) → (i o : ℕ) → used_at used i ≡ Some o → IsLive st o
 
-  no_skip : (b : Bool) (x y : Deal) → (x.answer ≡ answers.Skip → ⊥) → (y.answer ≡ answers.Skip → ⊥) → (cond b x y).answer ≡ answers.Skip → ⊥
+  no_skip : (b : Bool) (x y : Deal) → (x.answer ≡ answers.Skip → ⊥) → (y.answer ≡ answers.Skip → ⊥)
+      → (cond b x y).answer ≡ answers.Skip → ⊥
   no_skip true x y h k = h
   no_skip false x y h k = k
 
@@ -89,17 +93,20 @@ module _ (s : Script) (t : ℕ) (st : State) (h : IsSteady st) where
   add_case used p None w e live = quiet_fits st (skipping st.parts) refl refl (same_bodies st)
   add_case used p (Some i) w e live = by (thing_at st.parts i) live
     where
-      in_loop : (x : Thing) (w : Option ℕ) → LiveIf used (with_used st.parts w (λ u. add_deal s st u p i x)) → FitsDeal st (with_used st.parts w (λ u. add_deal s st u p i x))
+      in_loop : (x : Thing) (w : Option ℕ) → LiveIf used (with_used st.parts w (λ u. add_deal s st u p i x))
+          → FitsDeal st (with_used st.parts w (λ u. add_deal s st u p i x))
       in_loop x None live = quiet_fits st (skipping st.parts) refl refl (same_bodies st)
       in_loop x (Some u) live = add_fits s st u p i x (live (add_answers u p i x) 0 i e)
 
-      by : (x : Option Thing) → LiveIf used (thing_deal st.parts i (λ i x. with_used st.parts w (λ u. add_deal s st u p i x)) x)
+      by : (x : Option Thing)
+          → LiveIf used (thing_deal st.parts i (λ i x. with_used st.parts w (λ u. add_deal s st u p i x)) x)
           → FitsDeal st (thing_deal st.parts i (λ i x. with_used st.parts w (λ u. add_deal s st u p i x)) x)
       by None live = quiet_fits st (skipping st.parts) refl refl (same_bodies st)
       by (Some x) live = in_loop x w live
 
   -- the deal of each statement fits
-  pub deal_of_fits : (x : Statement) (used : List (Option ℕ)) → LiveIf used (deal_of s t st x used) → FitsDeal st (deal_of s t st x used)
+  pub deal_of_fits : (x : Statement) (used : List (Option ℕ)) → LiveIf used (deal_of s t st x used)
+      → FitsDeal st (deal_of s t st x used)
   deal_of_fits (forms.Add v u m) used live = add_case used (place_in m) (first_of used) (thread_in t u) refl live
   deal_of_fits (forms.Drop v u m) used live = thing_fits st (first_of used) _ (λ i x e. used_fits st (thread_in t u) _ (λ w f. drop_fits s st w (place_in m) i))
   deal_of_fits (forms.Common u m) used live = used_fits st (thread_in t u) _ (λ w f. common_fits st w m h.balance)

@@ -19,7 +19,8 @@ at_own a (suc n) y [] = at_own a n y []
 at_own a zero y (x ∷ xs) = refl
 at_own a (suc n) y (x ∷ xs) = at_own a n y xs
 
-pub at_other : {A : Type 0} (a : A) (m n : ℕ) (y : A) (xs : List A) → (m ≡ n → ⊥) → at_or a m (with_at a n y xs) ≡ at_or a m xs
+pub at_other : {A : Type 0} (a : A) (m n : ℕ) (y : A) (xs : List A) → (m ≡ n → ⊥)
+    → at_or a m (with_at a n y xs) ≡ at_or a m xs
 at_other a zero zero y xs h = absurd (h refl)
 at_other a zero (suc n) y [] h = refl
 at_other a zero (suc n) y (x ∷ xs) h = refl
@@ -45,7 +46,8 @@ lines_then c f x answer = take (f.number + lines_passed x answer) (frame_lines c
 abbrev pub frame : Kind → (block number : ℕ) → List Binding → List Callee → Frame
 frame k b n bs cs = record { kind = k; block = b; number = n; bindings = bs; collected = cs }
 
-stop_length_by : (k : Kind) (b n : ℕ) (bs : List Binding) (cs : List Callee) (fs : List Frame) → length (stop_frames fs) ≡ length fs → length (stop_frames (frame k b n bs cs ∷ fs)) ≡ suc (length fs)
+stop_length_by : (k : Kind) (b n : ℕ) (bs : List Binding) (cs : List Callee) (fs : List Frame)
+    → length (stop_frames fs) ≡ length fs → length (stop_frames (frame k b n bs cs ∷ fs)) ≡ suc (length fs)
 stop_length_by of_block b n bs cs fs h = ap suc h
 stop_length_by (of_handler k) b n bs cs fs h = ap suc h
 stop_length_by (of_run r) b n bs cs fs h = refl
@@ -54,16 +56,21 @@ pub stop_length : (fs : List Frame) → length (stop_frames fs) ≡ length fs
 stop_length [] = refl
 stop_length (f ∷ fs) = stop_length_by f.kind f.block f.number f.bindings f.collected fs (stop_length fs)
 
-stop_holds_by : (c : Script) (k : Kind) (b n : ℕ) (bs : List Binding) (cs : List Callee) (fs : List Frame) (d v o : ℕ) → frames_hold c (stop_frames fs) d v o ≡ frames_hold c fs d v o → frames_hold c (stop_frames (frame k b n bs cs ∷ fs)) d v o ≡ frames_hold c (frame k b n bs cs ∷ fs) d v o
+stop_holds_by : (c : Script) (k : Kind) (b n : ℕ) (bs : List Binding) (cs : List Callee) (fs : List Frame) (d v o : ℕ)
+    → frames_hold c (stop_frames fs) d v o ≡ frames_hold c fs d v o
+    → frames_hold c (stop_frames (frame k b n bs cs ∷ fs)) d v o ≡ frames_hold c (frame k b n bs cs ∷ fs) d v o
 stop_holds_by c of_block b n bs cs fs d v o h = rw (stop_length fs, h) refl
 stop_holds_by c (of_handler k) b n bs cs fs d v o h = rw (stop_length fs, h) refl
 stop_holds_by c (of_run r) b n bs cs fs d v o h = refl
 
-pub stop_holds : (c : Script) (fs : List Frame) (d v o : ℕ) → frames_hold c (stop_frames fs) d v o ≡ frames_hold c fs d v o
+pub stop_holds : (c : Script) (fs : List Frame) (d v o : ℕ)
+    → frames_hold c (stop_frames fs) d v o ≡ frames_hold c fs d v o
 stop_holds c [] d v o = refl
 stop_holds c (f ∷ fs) d v o = stop_holds_by c f.kind f.block f.number f.bindings f.collected fs d v o (stop_holds c fs d v o)
 
-stop_callouts_by : (k : Kind) (b n : ℕ) (bs : List Binding) (cs : List Callee) (fs : List Frame) (d o : ℕ) → callouts_hold (stop_frames fs) d o ≡ callouts_hold fs d o → callouts_hold (stop_frames (frame k b n bs cs ∷ fs)) d o ≡ callouts_hold (frame k b n bs cs ∷ fs) d o
+stop_callouts_by : (k : Kind) (b n : ℕ) (bs : List Binding) (cs : List Callee) (fs : List Frame) (d o : ℕ)
+    → callouts_hold (stop_frames fs) d o ≡ callouts_hold fs d o
+    → callouts_hold (stop_frames (frame k b n bs cs ∷ fs)) d o ≡ callouts_hold (frame k b n bs cs ∷ fs) d o
 stop_callouts_by of_block b n bs cs fs d o h = rw (stop_length fs, h) refl
 stop_callouts_by (of_handler k) b n bs cs fs d o h = rw (stop_length fs, h) refl
 stop_callouts_by (of_run r) b n bs cs fs d o h = refl
@@ -81,7 +88,8 @@ pub record HoldsAs (c : Script) (a b : Stand) : Type 0 where
 holds_as_is : (c : Script) (a b : Stand) → a ≡ b → HoldsAs c a b
 holds_as_is c a b e = subst (HoldsAs c a) e (record { variables = λ d v o. refl; callouts = λ d o. refl; owed = λ o. refl })
 
-pub stopped_as : (c : Script) (stops : Option ℕ) (u : ℕ) (ss : List Stand) → HoldsAs c (stand_at u (stopped_at stops ss)) (stand_at u ss)
+pub stopped_as : (c : Script) (stops : Option ℕ) (u : ℕ) (ss : List Stand)
+    → HoldsAs c (stand_at u (stopped_at stops ss)) (stand_at u ss)
 stopped_as c None u ss = record { variables = λ d v o. refl; callouts = λ d o. refl; owed = λ o. refl }
 stopped_as c (Some w) u ss = elim (eqb_tells u w) [
   | inl e ↦ subst (λ (n : ℕ). HoldsAs c (stand_at n (stopped_at (Some w) ss)) (stand_at n ss)) (sym e.1)

@@ -50,7 +50,8 @@ use_live st t owners (reaches o) h = live_of_test st o h.live
 use_live st t owners (takes o) h = live_of_test st o h.live
 use_live st t owners (knows o) h = live_of_test st o h
 
-pub uses_none : (st : State) (t : ℕ) (owners : List Owner) (o : ℕ) (us : List Use) → 0 < times o st.parts.finalised → MayUseAll st t owners us → uses_among o us ≡ 0
+pub uses_none : (st : State) (t : ℕ) (owners : List Owner) (o : ℕ) (us : List Use) → 0 < times o st.parts.finalised
+    → MayUseAll st t owners us → uses_among o us ≡ 0
 uses_none st t owners o [] some h = refl
 uses_none st t owners o (u ∷ us) some h = omega (arith, counted_other st o (object_of_use u) some (use_live st t owners u h.0), uses_none st t owners o us some h.1)
 
@@ -63,7 +64,8 @@ names_unfinalised : (st : State) (a : Answer) → NamesNone a → BindsUnfinalis
 names_unfinalised st (answers.Object o) h = absurd h
 names_unfinalised st _ h = tt
 
-pub bound_none : (st : State) (o : ℕ) (a : Answer) → 0 < times o st.parts.finalised → BindsUnfinalised st a → one_at o (bound_in a) ≡ 0
+pub bound_none : (st : State) (o : ℕ) (a : Answer) → 0 < times o st.parts.finalised → BindsUnfinalised st a
+    → one_at o (bound_in a) ≡ 0
 bound_none st o (answers.Object p) some h = by (p == o) refl
   where
     by : (b : Bool) → (p == o) ≡ b → cond {A = ℕ} b 1 0 ≡ 0
@@ -77,12 +79,14 @@ made_unfinalised made m some h = let none : counted (ltb made made) ≡ 0 = grin
     by : (b : Bool) → m + counted b ≡ 0 → m ≡ 0
     by b e = omega arith
 
-object_answers : (st : State) (object : Option ℕ) (other : Answer) → ((o : ℕ) → object ≡ Some o → times o st.parts.finalised ≡ 0) → BindsUnfinalised st other
+object_answers : (st : State) (object : Option ℕ) (other : Answer)
+    → ((o : ℕ) → object ≡ Some o → times o st.parts.finalised ≡ 0) → BindsUnfinalised st other
     → BindsUnfinalised st (object_answer object other)
 object_answers st None other h rest = rest
 object_answers st (Some o) other h rest = h o refl
 
-found_unfinalised : (st : State) (origin : Origin) → IsBalanced st → (o : ℕ) → found st.parts origin ≡ Some o → times o st.parts.finalised ≡ 0
+found_unfinalised : (st : State) (origin : Origin) → IsBalanced st → (o : ℕ) → found st.parts origin ≡ Some o
+    → times o st.parts.finalised ≡ 0
 found_unfinalised st nowhere b o e = absurd cc
 found_unfinalised st (fresh ob) b o e =
     let is : length st.parts.objects ≡ o = cc in
@@ -93,7 +97,8 @@ found_unfinalised st (there p) b o e = by (is_live st.parts p) refl e
     by true test e = let is : p ≡ o = cc in subst (λ (n : ℕ). times n st.parts.finalised ≡ 0) is (live_of_test st p test).0
     by false test e = absurd cc
 
-pub cut_unfinalised : (st : State) (c : Option ℕ) (objects : List Object) (left : List Reference) (other : Answer) → BindsUnfinalised st other → BindsUnfinalised st (cut_answer c objects left other)
+pub cut_unfinalised : (st : State) (c : Option ℕ) (objects : List Object) (left : List Reference) (other : Answer)
+    → BindsUnfinalised st other → BindsUnfinalised st (cut_answer c objects left other)
 cut_unfinalised st None objects left other h = h
 cut_unfinalised st (Some o) objects left other h = by (degree o left == 0)
   where
@@ -107,11 +112,13 @@ names_either : (b : Bool) (x y : Deal) → NamesNone x.answer → NamesNone y.an
 names_either true x y h k = h
 names_either false x y h k = k
 
-names_used : (p : Parts) (used : Option ℕ) (deal : ℕ → Deal) → ((o : ℕ) → NamesNone (deal o).answer) → NamesNone (with_used p used deal).answer
+names_used : (p : Parts) (used : Option ℕ) (deal : ℕ → Deal) → ((o : ℕ) → NamesNone (deal o).answer)
+    → NamesNone (with_used p used deal).answer
 names_used p None deal h = tt
 names_used p (Some o) deal h = h o
 
-names_thing : (p : Parts) (used : Option ℕ) (deal : ℕ → Thing → Deal) → ((i : ℕ) (x : Thing) → NamesNone (deal i x).answer) → NamesNone (with_thing p used deal).answer
+names_thing : (p : Parts) (used : Option ℕ) (deal : ℕ → Thing → Deal)
+    → ((i : ℕ) (x : Thing) → NamesNone (deal i x).answer) → NamesNone (with_thing p used deal).answer
 names_thing p None deal h = tt
 names_thing p (Some i) deal h = by (thing_at p i)
   where
@@ -119,7 +126,8 @@ names_thing p (Some i) deal h = by (thing_at p i)
     by None = tt
     by (Some x) = h i x
 
-names_filter : (p : Parts) (v object : Option ℕ) (deal : Option ℕ → Deal) → ((o : Option ℕ) → NamesNone (deal o).answer) → NamesNone (with_filter p v object deal).answer
+names_filter : (p : Parts) (v object : Option ℕ) (deal : Option ℕ → Deal) → ((o : Option ℕ) → NamesNone (deal o).answer)
+    → NamesNone (with_filter p v object deal).answer
 names_filter p None object deal h = h None
 names_filter p (Some v) object deal h = names_used p object (λ o. deal (Some o)) (λ o. h (Some o))
 
@@ -128,7 +136,8 @@ names_signal p i true (source_item order on) = tt
 names_signal p i false (source_item order on) = tt
 names_signal p i valid _ = tt
 
-change_names : (p : Parts) (answer : Answer) (b : Option ℕ) (change : Change) → NamesNone answer → NamesNone (change_deal p answer b change).answer
+change_names : (p : Parts) (answer : Answer) (b : Option ℕ) (change : Change) → NamesNone answer
+    → NamesNone (change_deal p answer b change).answer
 change_names p answer None change h = h
 change_names p answer (Some b) change h = h
 
@@ -136,14 +145,16 @@ run_names : (b : Bool) → NamesNone (cond b (answers.Number (pos 1)) answers.En
 run_names true = tt
 run_names false = tt
 
-deed_names : (s : Script) (st : State) (x : Statement) (used : List (Option ℕ)) → NamesNone (deed_at s.classes st.parts.objects x used).answer
+deed_names : (s : Script) (st : State) (x : Statement) (used : List (Option ℕ))
+    → NamesNone (deed_at s.classes st.parts.objects x used).answer
 deed_names s st x used =
     (form_fits s.classes x (numbered st.parts.objects (used_at used 0)) (numbered st.parts.objects (used_at used 1)) (numbered st.parts.objects (used_at used 2))).names
 
 invalidate_names : (s : Script) (st : State) (i : ℕ) (x : Thing) → NamesNone (invalidate_deal s st i x).answer
 invalidate_names s st i x = by x.valid
   where
-    by : (b : Bool) → NamesNone (cond b (leaving (with_item st.parts i false x.item) (present_of (every_place s i st.edges) st.edges)) (answering st.parts answers.Invalid)).answer
+    by : (b : Bool)
+        → NamesNone (cond b (leaving (with_item st.parts i false x.item) (present_of (every_place s i st.edges) st.edges)) (answering st.parts answers.Invalid)).answer
     by true = tt
     by false = tt
 
@@ -154,19 +165,23 @@ add_names p false true c rs = tt
 add_names p false false true rs = tt
 add_names p false false false rs = tt
 
-leaving_names : (p q : Parts) (b : Bool) (rs : List Reference) (other : Answer) → NamesNone other → NamesNone (cond b (leaving q rs) (answering p other)).answer
+leaving_names : (p q : Parts) (b : Bool) (rs : List Reference) (other : Answer) → NamesNone other
+    → NamesNone (cond b (leaving q rs) (answering p other)).answer
 leaving_names p q true rs other h = tt
 leaving_names p q false rs other h = h
 
-common_names : (st : State) (u m : ℕ) (b : Bool) → is_common u st.parts.commons m ≡ b → NamesNone (common_deal st u m).answer
+common_names : (st : State) (u m : ℕ) (b : Bool) → is_common u st.parts.commons m ≡ b
+    → NamesNone (common_deal st u m).answer
 common_names st u m true e = rw e tt
 common_names st u m false e = rw e tt
 
-stop_names : (st : State) (u : ℕ) (b : Bool) → has_run (stand_at u st.stands).frames ≡ b → NamesNone (stop_deal st u).answer
+stop_names : (st : State) (u : ℕ) (b : Bool) → has_run (stand_at u st.stands).frames ≡ b
+    → NamesNone (stop_deal st u).answer
 stop_names st u true e = rw e tt
 stop_names st u false e = rw e tt
 
-pub deal_names : (s : Script) (t : ℕ) (st : State) (x : Statement) (used : List (Option ℕ)) → NamesNone (deal_of s t st x used).answer
+pub deal_names : (s : Script) (t : ℕ) (st : State) (x : Statement) (used : List (Option ℕ))
+    → NamesNone (deal_of s t st x used).answer
 deal_names s t st (forms.Add v u m) used =
     names_thing st.parts (first_of used) (λ i x. with_used st.parts (thread_in t u) (λ w. add_deal s st w (place_in m) i x)) (λ i x. names_used st.parts (thread_in t u) (λ w. add_deal s st w (place_in m) i x)
     (λ w. add_names st.parts (not x.valid) (stays_in_one (kind_of x.item) && is_elsewhere s w i st.edges) (holds_at w i st.edges (place_in m)) (held_at w i (places_added s w i st (place_in m)))))
@@ -190,7 +205,8 @@ deal_names s t st x used =
 
 -- ---- answers of steps bind nothing that is finalised
 
-bound_unfinalised : (s : Script) (st : State) (x : Statement) (used : List (Option ℕ)) (made : Option Made) → IsBalanced st
+bound_unfinalised : (s : Script) (st : State) (x : Statement) (used : List (Option ℕ)) (made : Option Made)
+    → IsBalanced st
     → BindsUnfinalised st (object_answer (found st.parts (bound_if s st.parts x used made).origin) (bound_if s st.parts x used made).answer)
 bound_unfinalised s st x used (Some m) b =
     let bound = bound_if s st.parts x used (Some m) in
@@ -199,7 +215,9 @@ bound_unfinalised s st x used None b =
     let bound = bound_if s st.parts x used None in
     object_answers st (found st.parts bound.origin) bound.answer (found_unfinalised st bound.origin b) (names_unfinalised st bound.answer (deed_names s st x used))
 
-statement_unfinalised : (s : Script) (t d : ℕ) (st : State) (x : Statement) (used : List (Option ℕ)) (ownership : Ownership) → IsBalanced st → BindsUnfinalised st (statement_step s t d st x used ownership).answer
+statement_unfinalised : (s : Script) (t d : ℕ) (st : State) (x : Statement) (used : List (Option ℕ))
+    (ownership : Ownership)
+    → IsBalanced st → BindsUnfinalised st (statement_step s t d st x used ownership).answer
 statement_unfinalised s t d st x used Keeps b = names_unfinalised st _ (deal_names s t st x used)
 statement_unfinalised s t d st x used (Binds v) b = bound_unfinalised s st x used (item_made x) b
 statement_unfinalised s t d st x used (Retains v) b = by (first_of used)
@@ -213,15 +231,18 @@ statement_unfinalised s t d st x used (Releases v) b = by (first_of used)
     by None = tt
     by (Some o) = tt
 
-claim_unfinalised : (st : State) (h : Holder) (o : Option ℕ) (k : Holder) → BindsUnfinalised st (claim_step st h o k).answer
+claim_unfinalised : (st : State) (h : Holder) (o : Option ℕ) (k : Holder)
+    → BindsUnfinalised st (claim_step st h o k).answer
 claim_unfinalised st h None k = tt
 claim_unfinalised st h (Some o) k = tt
 
-pack_unfinalised : (t : ℕ) (st : State) (h : Holder) (o : Option ℕ) (k : Holder) → BindsUnfinalised st (pack_step t st h o k).answer
+pack_unfinalised : (t : ℕ) (st : State) (h : Holder) (o : Option ℕ) (k : Holder)
+    → BindsUnfinalised st (pack_step t st h o k).answer
 pack_unfinalised t st h None k = tt
 pack_unfinalised t st h (Some o) k = tt
 
-line_unfinalised : (s : Script) (t : ℕ) (st : State) (fs : List Frame) (x : BlockLine) → IsBalanced st → BindsUnfinalised st (step_of s t st fs (does x)).answer
+line_unfinalised : (s : Script) (t : ℕ) (st : State) (fs : List Frame) (x : BlockLine) → IsBalanced st
+    → BindsUnfinalised st (step_of s t st fs (does x)).answer
 line_unfinalised s t st fs (begins v) b = tt
 line_unfinalised s t st fs (claims k v) b = claim_unfinalised st (parcel t k) (first_held (parcel t k) st.edges) (variable t (depth_of fs) v)
 line_unfinalised s t st fs (packs u k v) b = pack_unfinalised t st (packed_holder t (depth_of fs) v) (object_at (bindings_of fs) v) (parcel u k)
@@ -245,7 +266,8 @@ call_unfinalised st as_source a = tt
 call_unfinalised st as_timer a = tt
 call_unfinalised st as_receiver a = tt
 
-spend_unfinalised : (s : Script) (st : State) (i : ℕ) (x : Option Thing) → BindsUnfinalised st (spend_if s st i x).answer
+spend_unfinalised : (s : Script) (st : State) (i : ℕ) (x : Option Thing)
+    → BindsUnfinalised st (spend_if s st i x).answer
 spend_unfinalised s st i None = tt
 spend_unfinalised s st i (Some x) = by x.valid
   where
@@ -253,7 +275,8 @@ spend_unfinalised s st i (Some x) = by x.valid
     by true = names_unfinalised st (invalidate_deal s st i x).answer (invalidate_names s st i x)
     by false = tt
 
-pub demand_unfinalised : (s : Script) (t : ℕ) (st : State) (fs : List Frame) (d : Demand) → IsBalanced st → BindsUnfinalised st (step_of s t st fs d).answer
+pub demand_unfinalised : (s : Script) (t : ℕ) (st : State) (fs : List Frame) (d : Demand) → IsBalanced st
+    → BindsUnfinalised st (step_of s t st fs d).answer
 demand_unfinalised s t st fs (does x) b = line_unfinalised s t st fs x b
 demand_unfinalised s t st fs ends b = tt
 demand_unfinalised s t st fs returns b = tt

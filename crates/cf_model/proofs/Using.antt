@@ -58,7 +58,9 @@ one_within : (r e : Reference) (g : Reference → ℕ) (b : Bool) → same r e �
 one_within r e g true q whole = omega (arith, whole, ap g (same-equal r e q))
 one_within r e g false q whole = omega arith
 
-reach_by : (st : State) (t : ℕ) (owners : List Owner) (r : Reference) → IsBalanced st → (is_at_hand t (owner_of r.holder) || list_any (is_same_slot (owner_of r.holder)) owners) ≡ true → 0 < weigh (one r) st.edges → MayUse st t owners (reaches r.object)
+reach_by : (st : State) (t : ℕ) (owners : List Owner) (r : Reference) → IsBalanced st
+    → (is_at_hand t (owner_of r.holder) || list_any (is_same_slot (owner_of r.holder)) owners) ≡ true
+    → 0 < weigh (one r) st.edges → MayUse st t owners (reaches r.object)
 reach_by st t owners r b from here = record {
   live = live_test st r.object (live_there st r b here);
   edge =
@@ -66,7 +68,8 @@ reach_by st t owners r b from here = record {
       omega (arith, here, weigh-le (one r) (reaching t owners r.object) st.edges (λ e. one_within r e (reaching t owners r.object) (same r e) refl whole));
 }
 
-take_by : (st : State) (t : ℕ) (owners : List Owner) (r : Reference) → IsBalanced st → is_thread t (owner_of r.holder) ≡ true → 0 < weigh (one r) st.edges → MayUse st t owners (takes r.object)
+take_by : (st : State) (t : ℕ) (owners : List Owner) (r : Reference) → IsBalanced st
+    → is_thread t (owner_of r.holder) ≡ true → 0 < weigh (one r) st.edges → MayUse st t owners (takes r.object)
 take_by st t owners r b from here = record {
   live = live_test st r.object (live_there st r b here);
   edge =
@@ -80,15 +83,19 @@ own_thread t other = ap (λ (b : Bool). b || other) (eq-eqb t t refl)
 own_slot : (i : ℕ) → (false || (eqb i i || false)) ≡ true
 own_slot i = ap (λ (b : Bool). false || (b || false)) (eq-eqb i i refl)
 
-if_may : (st : State) (t : ℕ) (owners : List Owner) (how : ℕ → Use) (object : Option ℕ) → ((o : ℕ) → object ≡ Some o → MayUse st t owners (how o)) → MayUseAll st t owners (uses_if how object)
+if_may : (st : State) (t : ℕ) (owners : List Owner) (how : ℕ → Use) (object : Option ℕ)
+    → ((o : ℕ) → object ≡ Some o → MayUse st t owners (how o)) → MayUseAll st t owners (uses_if how object)
 if_may st t owners how None h = tt
 if_may st t owners how (Some o) h = (h o refl, tt)
 
-none_may : (st : State) (t : ℕ) (owners : List Owner) (bs : List Binding) (k : ℕ) → MayUseAll st t owners (reaches_all (map (object_at bs) (replicate k None)))
+none_may : (st : State) (t : ℕ) (owners : List Owner) (bs : List Binding) (k : ℕ)
+    → MayUseAll st t owners (reaches_all (map (object_at bs) (replicate k None)))
 none_may st t owners bs zero = tt
 none_may st t owners bs (suc k) = none_may st t owners bs k
 
-one_may : (st : State) (t : ℕ) (owners : List Owner) (object : Option ℕ) (os : List (Option ℕ)) → ((o : ℕ) → object ≡ Some o → MayUse st t owners (reaches o)) → MayUseAll st t owners (reaches_all os) → MayUseAll st t owners (reaches_all (object ∷ os))
+one_may : (st : State) (t : ℕ) (owners : List Owner) (object : Option ℕ) (os : List (Option ℕ))
+    → ((o : ℕ) → object ≡ Some o → MayUse st t owners (reaches o)) → MayUseAll st t owners (reaches_all os)
+    → MayUseAll st t owners (reaches_all (object ∷ os))
 one_may st t owners None os h rest = rest
 one_may st t owners (Some o) os h rest = (h o refl, rest)
 
@@ -97,14 +104,17 @@ one_may st t owners (Some o) os h rest = (h o refl, rest)
 -- an item is called from a mode that holds it, with the info that is its slot; and a notice with an observer that is
 -- live
 pub data CalledFrom (t : ℕ) (st : State) : Option ℕ → Option ℕ → Type 0 where
-  from_mode : (m i : ℕ) (info : Option ℕ) → 0 < weigh (one (held_by (in_mode t m) i)) st.edges → ((o : ℕ) → info ≡ Some o → 0 < weigh (one (held_by (slot i) o)) st.edges) → CalledFrom t st (Some i) info
+  from_mode : (m i : ℕ) (info : Option ℕ) → 0 < weigh (one (held_by (in_mode t m) i)) st.edges
+      → ((o : ℕ) → info ≡ Some o → 0 < weigh (one (held_by (slot i) o)) st.edges) → CalledFrom t st (Some i) info
   from_notice : (o : ℕ) → IsTrue (is_live st.parts o) → CalledFrom t st None (Some o)
 
 abbrev info_in : Option Callout → Option ℕ
 info_in None = None
 info_in (Some c) = c.info
 
-info_slot : (st : State) (i o : ℕ) (called : Callout) (ob : Option Object) → slice_get st.parts.objects i ≡ ob → callout_of_thing (thing_of ob) ≡ Some called → called.info ≡ Some o → times i st.parts.dropped ≡ 0 → 0 < times o (left_of st.parts.objects st.parts.dropped i)
+info_slot : (st : State) (i o : ℕ) (called : Callout) (ob : Option Object) → slice_get st.parts.objects i ≡ ob
+    → callout_of_thing (thing_of ob) ≡ Some called → called.info ≡ Some o → times i st.parts.dropped ≡ 0
+    → 0 < times o (left_of st.parts.objects st.parts.dropped i)
 info_slot st i o called None e q is whole = absurd cc
 info_slot st i o called (Some ob) e q is whole =
     let here : left_of st.parts.objects st.parts.dropped i ≡ slots_in ob.content = rw (e, whole) refl in
@@ -117,12 +127,14 @@ info_slot st i o called (Some ob) e q is whole =
     by _ q = absurd cc
 
 module _ (c : Script) (t : ℕ) (st : State) (h : IsSound c st) where
-  item_call : (k : Kind) (role : Role) (i : ℕ) (called : Callout) → item_callout (facts_of st) t k role i ≡ Some called → CalledFrom t st (Some i) called.info
+  item_call : (k : Kind) (role : Role) (i : ℕ) (called : Callout) → item_callout (facts_of st) t k role i ≡ Some called
+      → CalledFrom t st (Some i) called.info
   item_call of_block role i called e = absurd cc
   item_call (of_handler q) role i called e = absurd cc
   item_call (of_run r) role i called e = by (item_fits (facts_of st) t r role i) refl e
     where
-      by : (test : Bool) → item_fits (facts_of st) t r role i ≡ test → cond test (callout_of_thing (thing_at st.parts i)) None ≡ Some called → CalledFrom t st (Some i) called.info
+      by : (test : Bool) → item_fits (facts_of st) t r role i ≡ test
+          → cond test (callout_of_thing (thing_at st.parts i)) None ≡ Some called → CalledFrom t st (Some i) called.info
       by false e q = absurd cc
       by true e q =
           let p = and_parts (has (in_mode t r.mode) i st.edges) _ e in
@@ -131,15 +143,19 @@ module _ (c : Script) (t : ℕ) (st : State) (h : IsSound c st) where
           from_mode r.mode i called.info here (λ o is.
           omega (arith, h.steady.slotted i o, info_slot st i o called (slice_get st.parts.objects i) refl q is (h.steady.undropped i live.0)))
 
-  receiver_call : (found : Option Registration) (called : Callout) → receiver_in st.parts found ≡ Some called → CalledFrom t st None called.info
+  receiver_call : (found : Option Registration) (called : Callout) → receiver_in st.parts found ≡ Some called
+      → CalledFrom t st None called.info
   receiver_call None called e = absurd cc
   receiver_call (Some r) called e = by (may_receive st.parts r) refl e
     where
-      by : (test : Bool) → may_receive st.parts r ≡ test → cond test (Some (record { handler = r.handler; info = Some r.observer })) None ≡ Some called → CalledFrom t st None called.info
+      by : (test : Bool) → may_receive st.parts r ≡ test
+          → cond test (Some (record { handler = r.handler; info = Some r.observer })) None ≡ Some called
+          → CalledFrom t st None called.info
       by false e q = absurd cc
       by true e q = subst (CalledFrom t st None) (ap info_in q) (from_notice r.observer (and_parts (is_live st.parts r.observer) _ e).0)
 
-  pub called_from : (k : Kind) (role : Role) (n : ℕ) (called : Callout) → callout_of (facts_of st) t k role n ≡ Some called → CalledFrom t st (item_in role n) called.info
+  pub called_from : (k : Kind) (role : Role) (n : ℕ) (called : Callout)
+      → callout_of (facts_of st) t k role n ≡ Some called → CalledFrom t st (item_in role n) called.info
   called_from k as_observer n called e = item_call k as_observer n called e
   called_from k as_source n called e = item_call k as_source n called e
   called_from k as_timer n called e = item_call k as_timer n called e
@@ -150,7 +166,8 @@ module _ (c : Script) (t : ℕ) (st : State) (h : IsSound c st) where
   abbrev Used : List Frame → Demand → Type 0
   Used fs d = let a = action_in c (facts_of st) t fs d in MayUseAll st t (owners_of a) (action_uses a)
 
-  call_uses : (handler : ℕ) (item info : Option ℕ) → CalledFrom t st item info → MayUseAll st t (owners_of (actions.Call handler item info)) (action_uses (actions.Call handler item info))
+  call_uses : (handler : ℕ) (item info : Option ℕ) → CalledFrom t st item info
+      → MayUseAll st t (owners_of (actions.Call handler item info)) (action_uses (actions.Call handler item info))
   call_uses handler _ _ (from_mode m i info here slots) = (
     reach_by st t (Slot i ∷ []) (held_by (in_mode t m) i) h.steady.balance (own_thread t _) here,
     if_may st t (Slot i ∷ []) reaches info (λ o is. reach_by st t (Slot i ∷ []) (held_by (slot i) o) h.steady.balance (own_slot i) (slots o is)),
@@ -166,7 +183,8 @@ module _ (c : Script) (t : ℕ) (st : State) (h : IsSound c st) where
     variable_take v o is has_own =
         take_by st t [] (held_by (variable t (length fs) v) o) h.steady.balance (eq-eqb t t refl) (variable_there c t st f fs work done held owns idle v o is has_own.more)
 
-    variables_use : (vs : List ℕ) (k : ℕ) → HaveOwn (lines_done c f) vs → MayUseAll st t [] (reaches_all (map (object_at f.bindings) (map Some vs ++ replicate k None)))
+    variables_use : (vs : List ℕ) (k : ℕ) → HaveOwn (lines_done c f) vs
+        → MayUseAll st t [] (reaches_all (map (object_at f.bindings) (map Some vs ++ replicate k None)))
     variables_use [] k has_own = none_may st t [] f.bindings k
     variables_use (v ∷ vs) k has_own =
         one_may st t [] (look v f.bindings) (map (object_at f.bindings) (map Some vs ++ replicate k None)) (λ o is. variable_use v o is has_own.0) (variables_use vs k has_own.1)
@@ -200,7 +218,8 @@ module _ (c : Script) (t : ℕ) (st : State) (h : IsSound c st) where
     frame_may _ (is_phase r p e) = phase_may p
     frame_may _ (is_close r e) = tt
 
-  work_may : (s : Stand) (d : Demand) → ((o : ℕ) → weigh (one (held_by (owed t) o)) st.edges ≡ owed_in o s.work) → Spends s.work → work_demand (facts_of st) s.work ≡ Some d → WorkView (facts_of st) s.work d → Used s.frames d
+  work_may : (s : Stand) (d : Demand) → ((o : ℕ) → weigh (one (held_by (owed t) o)) st.edges ≡ owed_in o s.work)
+      → Spends s.work → work_demand (facts_of st) s.work ≡ Some d → WorkView (facts_of st) s.work d → Used s.frames d
   work_may s _ owes_all spent e (first_owes o first) =
       (take_by st t [] (held_by (owed t) o) h.steady.balance (eq-eqb t t refl) (let own : counted (eqb o o) ≡ 1 = ap counted (eq-eqb o o refl) in omega (arith, own, owes_all o, first o)), tt)
   work_may s _ owes_all spent e (first_spends i first) =
@@ -208,7 +227,8 @@ module _ (c : Script) (t : ℕ) (st : State) (h : IsSound c st) where
   work_may s _ owes_all spent e (first_drops b k o left first) =
       (reach_by st t (Slot b ∷ []) (held_by (slot b) o) h.steady.balance (own_slot b) (slot_there b k o st left h.steady.slotted), tt)
 
-  stand_may : (s : Stand) (d : Demand) → FitsByBlock c → OwnHeld c t st.edges s → FramesFit c s.frames → Spends s.work → StandView c (facts_of st) t s d → Used s.frames d
+  stand_may : (s : Stand) (d : Demand) → FitsByBlock c → OwnHeld c t st.edges s → FramesFit c s.frames → Spends s.work
+      → StandView c (facts_of st) t s d → Used s.frames d
   stand_may s d own held fits spent (of_work w view) = work_may s d held.owed spent w view
   stand_may s d own held fits spent (of_frame f fs idle e view) =
       let held_top = subst (λ (gs : List Frame). OwnHeld c t st.edges (record { frames = gs; work = s.work; is_done = s.is_done })) e held in

@@ -53,7 +53,8 @@ Places dropped (slots_of d k ∷ work) = (k ≡ times d dropped) × Places dropp
 -- a step that gives up no slot: a finalised body that has none left has none after it
 pub record GivesUpNone (st : State) (p : Parts) : Type 0 where
   pub dropped : p.dropped ≡ st.parts.dropped
-  pub left : (b : ℕ) → 0 < times b st.parts.finalised → left_of st.parts.objects st.parts.dropped b ≡ [] → left_of p.objects p.dropped b ≡ []
+  pub left : (b : ℕ) → 0 < times b st.parts.finalised → left_of st.parts.objects st.parts.dropped b ≡ []
+      → left_of p.objects p.dropped b ≡ []
 
 same_up : (st : State) (p : Parts) → SameBodies st p → GivesUpNone st p
 same_up st p same = record { dropped = same.shape.dropped; left = λ b f e. same.left b ∙ e }
@@ -61,7 +62,8 @@ same_up st p same = record { dropped = same.shape.dropped; left = λ b f e. same
 deal_up : (st : State) (deal : Deal) → FitsDeal st deal → GivesUpNone st deal.parts
 deal_up st deal fits = record { dropped = fits.shape.dropped; left = λ b f e. fits.left b f ∙ e }
 
-made_at : (xs : List Object) (origin : Origin) (n : ℕ) → n < length xs → slice_get (xs ++ made_from origin) n ≡ slice_get xs n
+made_at : (xs : List Object) (origin : Origin) (n : ℕ) → n < length xs
+    → slice_get (xs ++ made_from origin) n ≡ slice_get xs n
 made_at [] origin n h = absurd (omega (arith, h))
 made_at (x ∷ xs) origin zero h = refl
 made_at (x ∷ xs) origin (suc n) h = made_at xs origin n (omega (arith, h))
@@ -96,7 +98,8 @@ module _ (c : Script) (t : ℕ) (st : State) (balance : IsBalanced st) where
   pack_up h k None = still_up
   pack_up h k (Some o) = still_up
 
-  statement_up : (d : ℕ) (x : Statement) (used : List (Option ℕ)) (ownership : Ownership) → FitsDeal st (deal_of c t st x used) → GivesUpNone st (statement_step c t d st x used ownership).parts
+  statement_up : (d : ℕ) (x : Statement) (used : List (Option ℕ)) (ownership : Ownership)
+      → FitsDeal st (deal_of c t st x used) → GivesUpNone st (statement_step c t d st x used ownership).parts
   statement_up d x used Keeps fits = deal_up st (deal_of c t st x used) fits
   statement_up d x used (Binds v) fits = bind_up st (variable t d v) (bound_of c st.parts x used) balance
   statement_up d x used (Retains v) fits = retain_up (variable t d v) (first_of used)
@@ -130,7 +133,9 @@ module _ (c : Script) (t : ℕ) (st : State) (balance : IsBalanced st) where
   close_up of_block = still_up
   close_up (of_handler k) = still_up
 
-  pub frame_up : (f : Frame) (fs : List Frame) (d : Demand) → FrameView c (facts_of st) t f d → ((x : BlockLine) → slice_get (frame_lines c f.kind f.block) f.number ≡ Some x → LineFits f.bindings x) → GivesUpNone st (step_of c t st (f ∷ fs) d).parts
+  pub frame_up : (f : Frame) (fs : List Frame) (d : Demand) → FrameView c (facts_of st) t f d
+      → ((x : BlockLine) → slice_get (frame_lines c f.kind f.block) f.number ≡ Some x → LineFits f.bindings x)
+      → GivesUpNone st (step_of c t st (f ∷ fs) d).parts
   frame_up f fs _ (is_call k called found) fits = same_up st _ (fired_bodies st (item_of k))
   frame_up f fs _ (is_line x at) fits = line_up (length fs) f.bindings x (fits x at)
   frame_up f fs _ (is_end e) fits = end_up
@@ -144,7 +149,8 @@ abbrev pub summed : (Stand → ℕ) → List Stand → ℕ
 summed f [] = 0
 summed f (s ∷ ss) = f s + summed f ss
 
-pub summed-with : (f : Stand → ℕ) (t : ℕ) (s : Stand) (ss : List Stand) → f blank ≡ 0 → summed f (with_stand t s ss) + f (stand_at t ss) ≡ summed f ss + f s
+pub summed-with : (f : Stand → ℕ) (t : ℕ) (s : Stand) (ss : List Stand) → f blank ≡ 0
+    → summed f (with_stand t s ss) + f (stand_at t ss) ≡ summed f ss + f s
 summed-with f zero s [] e = omega (arith, e)
 summed-with f (suc t) s [] e = omega (arith, e, summed-with f t s [] e, none t)
   where
@@ -163,7 +169,8 @@ summed-most f (suc t) (x ∷ ss) e = omega (arith, summed-most f t ss e)
 abbrev pub waits : ℕ → Stand → ℕ
 waits b s = waits_in b s.work
 
-pub stopped-summed : (b : ℕ) (stops : Option ℕ) (ss : List Stand) → summed (waits b) (stopped_at stops ss) ≡ summed (waits b) ss
+pub stopped-summed : (b : ℕ) (stops : Option ℕ) (ss : List Stand)
+    → summed (waits b) (stopped_at stops ss) ≡ summed (waits b) ss
 stopped-summed b None ss = refl
 stopped-summed b (Some u) ss = omega (arith, summed-with (waits b) u (stop_stand (stand_at u ss)) ss refl)
 
@@ -171,7 +178,8 @@ stopped-summed b (Some u) ss = omega (arith, summed-with (waits b) u (stop_stand
 
 pub record IsWorked (st : State) : Type 0 where
   pub most : (b : ℕ) → summed (waits b) st.stands ≤ times b st.parts.finalised
-  pub left : (b : ℕ) → 0 < times b st.parts.finalised → summed (waits b) st.stands ≡ 0 → left_of st.parts.objects st.parts.dropped b ≡ []
+  pub left : (b : ℕ) → 0 < times b st.parts.finalised → summed (waits b) st.stands ≡ 0
+      → left_of st.parts.objects st.parts.dropped b ≡ []
   pub places : (t : ℕ) → Places st.parts.dropped (stand_at t st.stands).work
 
 -- ---- what is passed over
@@ -198,24 +206,32 @@ none_is_none a e = cc
 demand_is : (a b : Demand) → ◌≡◌ {A = Option Demand} (Some a) (Some b) → a ≡ b
 demand_is a b e = cc
 
-passed_if : (facts : Facts) (b d k : ℕ) (work : List Work) (left : Option ℕ) (w : Demand) → facts.slot d k ≡ left → slot_if d k left (work_demand facts work) ≡ Some w → (work_demand facts work ≡ Some w → waits_in b work ≡ passed facts b work + first_waits b w + waits_in b (work_left facts work)) → counted (d == b) + waits_in b work ≡ if_none left (counted (d == b) + passed facts b work) + first_waits b w + waits_in b (cond (is_some left) work (work_left facts work))
+passed_if : (facts : Facts) (b d k : ℕ) (work : List Work) (left : Option ℕ) (w : Demand) → facts.slot d k ≡ left
+    → slot_if d k left (work_demand facts work) ≡ Some w
+    → (work_demand facts work ≡ Some w → waits_in b work ≡ passed facts b work + first_waits b w + waits_in b (work_left facts work))
+    → counted (d == b) + waits_in b work ≡ if_none left (counted (d == b) + passed facts b work) + first_waits b w + waits_in b (cond (is_some left) work (work_left facts work))
 passed_if facts b d k work None w l e rest = omega (arith, rest e)
 passed_if facts b d k work (Some o) w l e rest =
     let is : first_waits b w ≡ counted (d == b) = sym (ap (first_waits b) (demand_is (drops d k o) w e)) in
     omega (arith, is)
 
 -- work is what is passed over, the first item, and what is after it
-waits_first : (facts : Facts) (b : ℕ) (work : List Work) (w : Demand) → work_demand facts work ≡ Some w → waits_in b work ≡ passed facts b work + first_waits b w + waits_in b (work_left facts work)
+waits_first : (facts : Facts) (b : ℕ) (work : List Work) (w : Demand) → work_demand facts work ≡ Some w
+    → waits_in b work ≡ passed facts b work + first_waits b w + waits_in b (work_left facts work)
 waits_first facts b [] w e = absurd (none_is_none w e)
 waits_first facts b (release_of o ∷ work) w e = omega (arith, ap (first_waits b) (demand_is (owes o) w e))
 waits_first facts b (spend_of i ∷ work) w e = omega (arith, ap (first_waits b) (demand_is (spends i) w e))
 waits_first facts b (slots_of d k ∷ work) w e = passed_if facts b d k work (facts.slot d k) w refl e (waits_first facts b work w)
 
-idle_if : (facts : Facts) (b d k : ℕ) (work : List Work) (left : Option ℕ) → slot_if d k left (work_demand facts work) ≡ None → (work_demand facts work ≡ None → waits_in b work ≡ passed facts b work) → counted (d == b) + waits_in b work ≡ if_none left (counted (d == b) + passed facts b work)
+idle_if : (facts : Facts) (b d k : ℕ) (work : List Work) (left : Option ℕ)
+    → slot_if d k left (work_demand facts work) ≡ None
+    → (work_demand facts work ≡ None → waits_in b work ≡ passed facts b work)
+    → counted (d == b) + waits_in b work ≡ if_none left (counted (d == b) + passed facts b work)
 idle_if facts b d k work None e rest = omega (arith, rest e)
 idle_if facts b d k work (Some o) e rest = absurd cc
 
-waits_idle : (facts : Facts) (b : ℕ) (work : List Work) → work_demand facts work ≡ None → waits_in b work ≡ passed facts b work
+waits_idle : (facts : Facts) (b : ℕ) (work : List Work) → work_demand facts work ≡ None
+    → waits_in b work ≡ passed facts b work
 waits_idle facts b [] e = refl
 waits_idle facts b (release_of o ∷ work) e = absurd cc
 waits_idle facts b (spend_of i ∷ work) e = absurd cc
@@ -229,19 +245,24 @@ drop_none (x ∷ xs) zero e = absurd cc
 drop_none (x ∷ xs) (suc k) e = drop_none xs k e
 
 module _ (st : State) (b : ℕ) (final : 0 < times b st.parts.finalised) where
-  pub none_here : (k : ℕ) → k ≡ times b st.parts.dropped → slot_left st.parts b k ≡ None → left_of st.parts.objects st.parts.dropped b ≡ []
+  pub none_here : (k : ℕ) → k ≡ times b st.parts.dropped → slot_left st.parts b k ≡ None
+      → left_of st.parts.objects st.parts.dropped b ≡ []
   none_here k place e =
       let one_test : ltb 0 (times b st.parts.finalised) ≡ true = grind (arith, nat_tests) in
       let here : slot_left st.parts b k ≡ slice_get (slots_at (slice_get st.parts.objects b)) k = rw (one_test, eq-eqb k (times b st.parts.dropped) place) refl in
       ap (λ (n : ℕ). drop n (slots_at (slice_get st.parts.objects b))) (sym place) ∙ drop_none (slots_at (slice_get st.parts.objects b)) k (sym here ∙ e)
 
-  pub passed_left : (work : List Work) → Places st.parts.dropped work → 0 < passed (facts_of st) b work → left_of st.parts.objects st.parts.dropped b ≡ []
+  pub passed_left : (work : List Work) → Places st.parts.dropped work → 0 < passed (facts_of st) b work
+      → left_of st.parts.objects st.parts.dropped b ≡ []
   passed_left [] places some = absurd (omega arith)
   passed_left (release_of o ∷ work) places some = absurd (omega arith)
   passed_left (spend_of i ∷ work) places some = absurd (omega arith)
   passed_left (slots_of d k ∷ work) places some = by (slot_left st.parts d k) refl some (passed_left work places.1)
     where
-      by : (left : Option ℕ) → slot_left st.parts d k ≡ left → 0 < if_none left (counted (d == b) + passed (facts_of st) b work) → (0 < passed (facts_of st) b work → left_of st.parts.objects st.parts.dropped b ≡ []) → left_of st.parts.objects st.parts.dropped b ≡ []
+      by : (left : Option ℕ) → slot_left st.parts d k ≡ left
+          → 0 < if_none left (counted (d == b) + passed (facts_of st) b work)
+          → (0 < passed (facts_of st) b work → left_of st.parts.objects st.parts.dropped b ≡ [])
+          → left_of st.parts.objects st.parts.dropped b ≡ []
       by (Some o) e some rest = absurd (omega arith)
       by None e some rest = elim (eqb_tells d b) [
         | inl q ↦ none_here k (subst (λ (n : ℕ). k ≡ times n st.parts.dropped) q.1 places.0) (subst (λ (n : ℕ). slot_left st.parts n k ≡ None) q.1 e)
@@ -250,7 +271,8 @@ module _ (st : State) (b : ℕ) (final : 0 < times b st.parts.finalised) where
 
 -- ---- work that is made
 
-pub waits-bodies : (b : ℕ) (bs : List ℕ) (work : List Work) → waits_in b (bodies_of bs ++ work) ≡ times b bs + waits_in b work
+pub waits-bodies : (b : ℕ) (bs : List ℕ) (work : List Work)
+    → waits_in b (bodies_of bs ++ work) ≡ times b bs + waits_in b work
 waits-bodies b [] work = omega arith
 waits-bodies b (d ∷ bs) work = omega (arith, waits-bodies b bs work)
 
@@ -258,7 +280,8 @@ waits-releases : (b : ℕ) (gs : List ℕ) (work : List Work) → waits_in b (ma
 waits-releases b [] work = refl
 waits-releases b (g ∷ gs) work = waits-releases b gs work
 
-waits-spend : (facts : Facts) (b : ℕ) (k : Kind) (work : List Work) → waits_in b (spend_work facts k ++ work) ≡ waits_in b work
+waits-spend : (facts : Facts) (b : ℕ) (k : Kind) (work : List Work)
+    → waits_in b (spend_work facts k ++ work) ≡ waits_in b work
 waits-spend facts b of_block rest = refl
 waits-spend facts b (of_run r) rest = refl
 waits-spend facts b (of_handler q) rest = by (is_spent facts q.role q.number)
@@ -267,16 +290,19 @@ waits-spend facts b (of_handler q) rest = by (is_spent facts q.role q.number)
     by true = refl
     by false = refl
 
-pub places-bodies : (dropped : List ℕ) (bs : List ℕ) (work : List Work) → ((b : ℕ) → 0 < times b bs → times b dropped ≡ 0) → Places dropped work → Places dropped (bodies_of bs ++ work)
+pub places-bodies : (dropped : List ℕ) (bs : List ℕ) (work : List Work)
+    → ((b : ℕ) → 0 < times b bs → times b dropped ≡ 0) → Places dropped work → Places dropped (bodies_of bs ++ work)
 places-bodies dropped [] work h rest = rest
 places-bodies dropped (d ∷ bs) work h rest =
     (sym (h d (let own : counted (eqb d d) ≡ 1 = ap counted (eq-eqb d d refl) in omega (arith, own))), places-bodies dropped bs work (λ b p. h b (omega (arith, p))) rest)
 
-places-releases : (dropped : List ℕ) (gs : List ℕ) (work : List Work) → Places dropped work → Places dropped (map release_of gs ++ work)
+places-releases : (dropped : List ℕ) (gs : List ℕ) (work : List Work) → Places dropped work
+    → Places dropped (map release_of gs ++ work)
 places-releases dropped [] work h = h
 places-releases dropped (g ∷ gs) work h = places-releases dropped gs work h
 
-left_places : (facts : Facts) (dropped : List ℕ) (work : List Work) → Places dropped work → Places dropped (work_left facts work)
+left_places : (facts : Facts) (dropped : List ℕ) (work : List Work) → Places dropped work
+    → Places dropped (work_left facts work)
 left_places facts dropped [] h = h
 left_places facts dropped (release_of o ∷ work) h = h
 left_places facts dropped (spend_of i ∷ work) h = h
@@ -287,7 +313,8 @@ left_places facts dropped (slots_of d k ∷ work) h = by (is_some (facts.slot d 
     by false rest = rest
 
 -- other bodies' places stay where one gives up a slot
-places_other : (d : ℕ) (dropped : List ℕ) (work : List Work) → waits_in d work ≡ 0 → Places dropped work → Places (d ∷ dropped) work
+places_other : (d : ℕ) (dropped : List ℕ) (work : List Work) → waits_in d work ≡ 0 → Places dropped work
+    → Places (d ∷ dropped) work
 places_other d dropped [] none h = tt
 places_other d dropped (release_of o ∷ work) none h = places_other d dropped work none h
 places_other d dropped (spend_of i ∷ work) none h = places_other d dropped work none h
@@ -313,7 +340,8 @@ alone_waits_none : (b : ℕ) (o : Option ℕ) → waits_in b (releases_of o) ≡
 alone_waits_none b None = refl
 alone_waits_none b (Some o) = refl
 
-alone_places : (dropped : List ℕ) (o : Option ℕ) (work : List Work) → Places dropped work → Places dropped (releases_of o ++ work)
+alone_places : (dropped : List ℕ) (o : Option ℕ) (work : List Work) → Places dropped work
+    → Places dropped (releases_of o ++ work)
 alone_places dropped None work h = h
 alone_places dropped (Some o) work h = h
 
@@ -321,7 +349,8 @@ last_places : (dropped : List ℕ) (o : Option ℕ) → Places dropped (releases
 last_places dropped None = tt
 last_places dropped (Some o) = tt
 
-places-spend : (facts : Facts) (dropped : List ℕ) (k : Kind) (work : List Work) → Places dropped work → Places dropped (spend_work facts k ++ work)
+places-spend : (facts : Facts) (dropped : List ℕ) (k : Kind) (work : List Work) → Places dropped work
+    → Places dropped (spend_work facts k ++ work)
 places-spend facts dropped of_block rest h = h
 places-spend facts dropped (of_run r) rest h = h
 places-spend facts dropped (of_handler q) rest h = by (is_spent facts q.role q.number)
@@ -353,7 +382,10 @@ given_places dropped x list = by (is_post x)
     by true = tt
     by false = all list
 
-frame_works : (c : Script) (t : ℕ) (st : State) (p : Parts) (f : Frame) (fs : List Frame) (work : List Work) (list : List ℕ) (d : Demand) → work_demand (facts_of st) work ≡ None → FrameView c (facts_of st) t f d → WorkStep st p work (work_after (facts_of st) (f ∷ fs) d list work)
+frame_works : (c : Script) (t : ℕ) (st : State) (p : Parts) (f : Frame) (fs : List Frame) (work : List Work)
+    (list : List ℕ) (d : Demand)
+    → work_demand (facts_of st) work ≡ None → FrameView c (facts_of st) t f d
+    → WorkStep st p work (work_after (facts_of st) (f ∷ fs) d list work)
 frame_works c t st p f fs work list _ idle (is_call k called found) = record { waits = λ b. omega (arith, waits_idle (facts_of st) b work idle); places = tt }
 frame_works c t st p f fs work list _ idle (is_line x at) = record { waits = λ b. omega (arith, waits_idle (facts_of st) b work idle, given_waits b x list); places = given_places p.dropped x list }
 frame_works c t st p f fs work list _ idle (is_end e) = record { waits = λ b. omega (arith, waits_idle (facts_of st) b work idle); places = tt }
@@ -374,10 +406,14 @@ once st b h = by (ltb 0 (degree b st.edges)) (ltb b (length st.parts.objects)) (
     by false true m e = omega arith
     by false false m e = omega arith
 
-pub waits_most : (st : State) (t b : ℕ) → IsWorked st → waits_in b (stand_at t st.stands).work ≤ times b st.parts.finalised
+pub waits_most : (st : State) (t b : ℕ) → IsWorked st
+    → waits_in b (stand_at t st.stands).work ≤ times b st.parts.finalised
 waits_most st t b h = omega (arith, h.most b, summed-most (waits b) t st.stands refl)
 
-item_works : (c : Script) (t : ℕ) (st : State) (fs : List Frame) (list : List ℕ) (d : Demand) → IsBalanced st → IsWorked st → work_demand (facts_of st) (stand_at t st.stands).work ≡ Some d → WorkView (facts_of st) (stand_at t st.stands).work d → WorkStep st (step_of c t st fs d).parts (stand_at t st.stands).work (work_after (facts_of st) fs d list (stand_at t st.stands).work)
+item_works : (c : Script) (t : ℕ) (st : State) (fs : List Frame) (list : List ℕ) (d : Demand) → IsBalanced st
+    → IsWorked st → work_demand (facts_of st) (stand_at t st.stands).work ≡ Some d
+    → WorkView (facts_of st) (stand_at t st.stands).work d
+    → WorkStep st (step_of c t st fs d).parts (stand_at t st.stands).work (work_after (facts_of st) fs d list (stand_at t st.stands).work)
 item_works c t st fs list _ b h w (first_owes o first) =
     let work = (stand_at t st.stands).work in
     record { waits = λ a. omega (arith, waits_first (facts_of st) a work (owes o) w); places = left_places (facts_of st) st.parts.dropped work (h.places t) }
@@ -399,7 +435,9 @@ item_works c t st fs list _ b h w (first_drops d k o left first) =
       places = (place, places_other d st.parts.dropped rest none (left_places (facts_of st) st.parts.dropped work (h.places t)));
     }
 
-pub own_works : (c : Script) (t : ℕ) (st : State) (list : List ℕ) (d : Demand) → let s = stand_at t st.stands in IsBalanced st → IsWorked st → StandView c (facts_of st) t s d → WorkStep st (step_of c t st s.frames d).parts s.work (work_after (facts_of st) s.frames d list s.work)
+pub own_works : (c : Script) (t : ℕ) (st : State) (list : List ℕ) (d : Demand)
+    → let s = stand_at t st.stands in IsBalanced st → IsWorked st → StandView c (facts_of st) t s d
+    → WorkStep st (step_of c t st s.frames d).parts s.work (work_after (facts_of st) s.frames d list s.work)
 own_works c t st list d b h (of_work w view) = item_works c t st (stand_at t st.stands).frames list d b h w view
 own_works c t st list d b h (of_frame f fs idle e view) =
     let s = stand_at t st.stands in
@@ -408,7 +446,8 @@ own_works c t st list d b h (of_frame f fs idle e view) =
 -- ---- the other threads
 
 -- a body that one thread gives up slots of waits for no other
-two_most : (f : Stand → ℕ) (t u : ℕ) (ss : List Stand) → f blank ≡ 0 → (u ≡ t → ⊥) → f (stand_at t ss) + f (stand_at u ss) ≤ summed f ss
+two_most : (f : Stand → ℕ) (t u : ℕ) (ss : List Stand) → f blank ≡ 0 → (u ≡ t → ⊥)
+    → f (stand_at t ss) + f (stand_at u ss) ≤ summed f ss
 two_most f t u ss e apart =
     omega (arith, e, summed-with f t blank ss e, summed-most f u (with_stand t blank ss) e, ap f (at_other blank u t blank ss apart))
 
@@ -416,7 +455,9 @@ two_most f t u ss e apart =
 abbrev OthersKept : Script → ℕ → State → Demand → Type 0
 OthersKept c t st d = (u : ℕ) → (u ≡ t → ⊥) → Places (step_of c t st (frames_at t st) d).parts.dropped (stand_at u st.stands).work
 
-pub drops_others : (t : ℕ) (st : State) (d k o : ℕ) → IsBalanced st → IsWorked st → work_demand (facts_of st) (stand_at t st.stands).work ≡ Some (drops d k o) → (u : ℕ) → (u ≡ t → ⊥) → Places (d ∷ st.parts.dropped) (stand_at u st.stands).work
+pub drops_others : (t : ℕ) (st : State) (d k o : ℕ) → IsBalanced st → IsWorked st
+    → work_demand (facts_of st) (stand_at t st.stands).work ≡ Some (drops d k o) → (u : ℕ) → (u ≡ t → ⊥)
+    → Places (d ∷ st.parts.dropped) (stand_at u st.stands).work
 drops_others t st d k o b h w u apart =
     let own : counted (eqb d d) ≡ 1 = ap counted (eq-eqb d d refl) in
     let none : waits_in d (stand_at u st.stands).work ≡ 0 = omega (arith, own, waits_first (facts_of st) d (stand_at t st.stands).work (drops d k o) w, two_most (waits d) t u st.stands refl apart, h.most d, once st d b) in

@@ -41,7 +41,8 @@ use Rattle.cf_model.specs.Tokens.{lines_done, owed_in}
 use Rattle.cf_model.specs.declared.entry.Entry.{Entry}
 
 -- what a step finalises was live
-final_live : (st : State) (fl : Flow) (b : ℕ) → IsBalanced st → IsThere fl st.edges → 0 < times b (finals_of (cut_of fl) (flowed fl st.edges)) → times b st.parts.finalised ≡ 0
+final_live : (st : State) (fl : Flow) (b : ℕ) → IsBalanced st → IsThere fl st.edges
+    → 0 < times b (finals_of (cut_of fl) (flowed fl st.edges)) → times b st.parts.finalised ≡ 0
 final_live st (grows ins ms) b h can some = absurd (omega arith)
 final_live st (shrinks r) b h can some = by (degree r.object (flowed (shrinks r) st.edges) == 0) some
   where
@@ -59,7 +60,10 @@ none_left : (x : ℕ) (xs : List ℕ) → x ∷ xs ≡ [] → ⊥
 none_left x xs e = cc
 
 module _ (c : Script) (t : ℕ) (st : State) (own : FitsByBlock c) (h : IsSound c st) where
-  line_fits : (f : Frame) (fs : List Frame) (work : List Work) (done : Bool) → OwnHeld c t st.edges (stand f fs work done) → Owns (lines_done c f) f.bindings → ((o : ℕ) → owed_in o work ≡ 0) → (x : BlockLine) → slice_get (frame_lines c f.kind f.block) f.number ≡ Some x → LineFits c t st h.steady.balance f.bindings x
+  line_fits : (f : Frame) (fs : List Frame) (work : List Work) (done : Bool)
+      → OwnHeld c t st.edges (stand f fs work done) → Owns (lines_done c f) f.bindings → ((o : ℕ) → owed_in o work ≡ 0)
+      → (x : BlockLine) → slice_get (frame_lines c f.kind f.block) f.number ≡ Some x
+      → LineFits c t st h.steady.balance f.bindings x
   line_fits f fs work done held owns idle (says x) at =
       let vs = line_uses (says x) in
       deal_of_fits c t st h.steady x (used_objects f.bindings (says x)) (λ unskipped. used_live c t st f fs work done held owns idle h.steady.balance vs (3 - length vs) (fit_line c f (says x) own at).uses)
@@ -68,7 +72,9 @@ module _ (c : Script) (t : ℕ) (st : State) (own : FitsByBlock c) (h : IsSound 
   line_fits f fs work done held owns idle (packs u k v) at = tt
 
   -- the step of the frame on top gives up no slot
-  top_up : (s : Stand) (d : Demand) (f : Frame) (fs : List Frame) → OwnHeld c t st.edges s → FramesFit c s.frames → work_demand (facts_of st) s.work ≡ None → s.frames ≡ f ∷ fs → FrameView c (facts_of st) t f d → GivesUpNone st (step_of c t st s.frames d).parts
+  top_up : (s : Stand) (d : Demand) (f : Frame) (fs : List Frame) → OwnHeld c t st.edges s → FramesFit c s.frames
+      → work_demand (facts_of st) s.work ≡ None → s.frames ≡ f ∷ fs → FrameView c (facts_of st) t f d
+      → GivesUpNone st (step_of c t st s.frames d).parts
   top_up s d f fs held fits idle e view =
       let held_top = subst (λ (gs : List Frame). OwnHeld c t st.edges (record { frames = gs; work = s.work; is_done = s.is_done })) e held in
       let fits_top = subst (FramesFit c) e fits in
@@ -78,7 +84,9 @@ module _ (c : Script) (t : ℕ) (st : State) (own : FitsByBlock c) (h : IsSound 
   spent_up : (fs : List Frame) (i : ℕ) → GivesUpNone st (step_of c t st fs (spends i)).parts
   spent_up fs i = let fits = spend_places c st i in record { dropped = fits.shape.dropped; left = λ b f e. fits.left b f ∙ e }
 
-  work_left_after : (fs : List Frame) (work : List Work) (d : Demand) → WorkView (facts_of st) work d → (b : ℕ) → 0 < times b st.parts.finalised → left_of st.parts.objects st.parts.dropped b ≡ [] → left_of (step_of c t st fs d).parts.objects (step_of c t st fs d).parts.dropped b ≡ []
+  work_left_after : (fs : List Frame) (work : List Work) (d : Demand) → WorkView (facts_of st) work d → (b : ℕ)
+      → 0 < times b st.parts.finalised → left_of st.parts.objects st.parts.dropped b ≡ []
+      → left_of (step_of c t st fs d).parts.objects (step_of c t st fs d).parts.dropped b ≡ []
   work_left_after fs work _ (first_owes o first) b f e = e
   work_left_after fs work _ (first_spends i first) b f e = (spent_up fs i).left b f e
   work_left_after fs work _ (first_drops d k o left first) b f e = elim (eqb_tells d b) [
@@ -86,22 +94,29 @@ module _ (c : Script) (t : ℕ) (st : State) (own : FitsByBlock c) (h : IsSound 
     | inr q ↦ let none : counted (eqb d b) ≡ 0 = ap counted q.0 in let same : times b (d ∷ st.parts.dropped) ≡ times b st.parts.dropped = omega (arith, none) in rw same e
   ]
 
-  pub left_after : (s : Stand) (d : Demand) → OwnHeld c t st.edges s → FramesFit c s.frames → StandView c (facts_of st) t s d → (b : ℕ) → 0 < times b st.parts.finalised → left_of st.parts.objects st.parts.dropped b ≡ [] → left_of (step_of c t st s.frames d).parts.objects (step_of c t st s.frames d).parts.dropped b ≡ []
+  pub left_after : (s : Stand) (d : Demand) → OwnHeld c t st.edges s → FramesFit c s.frames
+      → StandView c (facts_of st) t s d → (b : ℕ) → 0 < times b st.parts.finalised
+      → left_of st.parts.objects st.parts.dropped b ≡ []
+      → left_of (step_of c t st s.frames d).parts.objects (step_of c t st s.frames d).parts.dropped b ≡ []
   left_after s d held fits (of_work w view) = work_left_after s.frames s.work d view
   left_after s d held fits (of_frame f fs idle e view) = (top_up s d f fs held fits idle e view).left
 
   -- the places of the others stay, unless the body is the thread's own to give up
-  pub others_stay : (d : Demand) → IsWorked st → StandView c (facts_of st) t (stand_at t st.stands) d → (u : ℕ) → (u ≡ t → ⊥) → Places (step_of c t st (frames_at t st) d).parts.dropped (stand_at u st.stands).work
+  pub others_stay : (d : Demand) → IsWorked st → StandView c (facts_of st) t (stand_at t st.stands) d → (u : ℕ)
+      → (u ≡ t → ⊥) → Places (step_of c t st (frames_at t st) d).parts.dropped (stand_at u st.stands).work
   others_stay d k (of_frame f fs idle e view) u apart =
       subst (λ (xs : List ℕ). Places xs (stand_at u st.stands).work) (sym (top_up (stand_at t st.stands) d f fs (own_held c st t h.held) (h.frames t) idle e view).dropped) (k.places u)
   others_stay d k (of_work w view) u apart = by_work d w view
     where
-      by_work : (d : Demand) → work_demand (facts_of st) (stand_at t st.stands).work ≡ Some d → WorkView (facts_of st) (stand_at t st.stands).work d → Places (step_of c t st (frames_at t st) d).parts.dropped (stand_at u st.stands).work
+      by_work : (d : Demand) → work_demand (facts_of st) (stand_at t st.stands).work ≡ Some d
+          → WorkView (facts_of st) (stand_at t st.stands).work d
+          → Places (step_of c t st (frames_at t st) d).parts.dropped (stand_at u st.stands).work
       by_work _ w (first_owes o first) = k.places u
       by_work _ w (first_spends i first) = subst (λ (xs : List ℕ). Places xs (stand_at u st.stands).work) (sym (spent_up (frames_at t st) i).dropped) (k.places u)
       by_work _ w (first_drops a n o left first) = drops_others t st a n o h.steady.balance k w u apart
 
-pub demand_worked : (c : Script) (t : ℕ) (st : State) (d : Demand) → FitsByBlock c → IsSound c st → IsWorked st → demanded c st t ≡ Some d → IsWorked (done_by c t st d)
+pub demand_worked : (c : Script) (t : ℕ) (st : State) (d : Demand) → FitsByBlock c → IsSound c st → IsWorked st
+    → demanded c st t ≡ Some d → IsWorked (done_by c t st d)
 demand_worked c t st d own h k e =
     let s = stand_at t st.stands in
     let step = step_of c t st s.frames d in
@@ -134,16 +149,19 @@ demand_worked c t st d own h k e =
       ];
     }
 
-acted_worked : (c : Script) (t : ℕ) (st : State) (d : Option Demand) → FitsByBlock c → IsSound c st → IsWorked st → demanded c st t ≡ d → IsWorked (acted c t st d)
+acted_worked : (c : Script) (t : ℕ) (st : State) (d : Option Demand) → FitsByBlock c → IsSound c st → IsWorked st
+    → demanded c st t ≡ d → IsWorked (acted c t st d)
 acted_worked c t st None own h k e = k
 acted_worked c t st (Some d) own h k e = demand_worked c t st d own h k e
 
-pub entry_worked : (c : Script) (t : ℕ) (st : State) (a : Action) → FitsByBlock c → IsSound c st → IsWorked st → IsWorked (after_action c t st a)
+pub entry_worked : (c : Script) (t : ℕ) (st : State) (a : Action) → FitsByBlock c → IsSound c st → IsWorked st
+    → IsWorked (after_action c t st a)
 entry_worked c t st (actions.Tick n) own h k = record { most = k.most; left = k.left; places = k.places }
 entry_worked c t st actions.Stall own h k = k
 entry_worked c t st a own h k = acted_worked c t st (demanded c st t) own h k refl
 
-worked_from : (c : Script) (st : State) (es : List Entry) → FitsByBlock c → IsSound c st → IsWorked st → IsWorked (state_from c st es)
+worked_from : (c : Script) (st : State) (es : List Entry) → FitsByBlock c → IsSound c st → IsWorked st
+    → IsWorked (state_from c st es)
 worked_from c st [] own h k = k
 worked_from c st (e ∷ es) own h k = worked_from c (after_action c e.thread st e.action) es own (entry_sound c e.thread st e.action own h) (entry_worked c e.thread st e.action own h k)
 
@@ -166,5 +184,6 @@ none_wait : (b : ℕ) (ss : List Stand) → AllIdle ss → summed (waits b) ss �
 none_wait b [] h = refl
 none_wait b (s ∷ ss) h = omega (arith, ap (waits_in b) h.0, none_wait b ss h.1)
 
-pub given_up_along : (c : Script) (es : List Entry) → FitsByBlock c → AllIdle (After c es).stands → HasGivenUp (After c es)
+pub given_up_along : (c : Script) (es : List Entry) → FitsByBlock c → AllIdle (After c es).stands
+    → HasGivenUp (After c es)
 given_up_along c es own idle b final = (worked_along c es own).left b final (none_wait b (After c es).stands idle)

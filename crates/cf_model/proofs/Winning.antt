@@ -71,6 +71,7 @@ module _ (P : Holder → Type 0) where
     flow_wins_none (shrinks q) h = refl
 
   -- a reference that no flow brings weighs no more after it
-  pub flow_brings_none : (r : Reference) → (P r.holder → ⊥) → (f : Flow) (es : List Reference) → FlowGoes P f → weigh (one r) (flowed f es) ≤ weigh (one r) es
+  pub flow_brings_none : (r : Reference) → (P r.holder → ⊥) → (f : Flow) (es : List Reference) → FlowGoes P f
+      → weigh (one r) (flowed f es) ≤ weigh (one r) es
   flow_brings_none r not_here f es h =
       omega (arith, flowed_le (one r) f es, flow_wins_none (one r) (λ q p. holders_apart r q (λ e. not_here (subst P (sym e) p))) f h)

@@ -97,7 +97,8 @@ phase-agrees phases.Sleep = record { same_retains = refl; same_posts = refl; cut
 phase-agrees phases.Test = record { same_retains = refl; same_posts = refl; cuts = tt }
 phase-agrees phases.Ran = record { same_retains = refl; same_posts = refl; cuts = tt }
 
-step-agrees : (s : Script) (facts : Facts) (t : ℕ) (fs : List Frame) (x : Step) → Agree (action_in s facts t fs (demand_of x)) (is_retain_step x) (step_posts x)
+step-agrees : (s : Script) (facts : Facts) (t : ℕ) (fs : List Frame) (x : Step)
+    → Agree (action_in s facts t fs (demand_of x)) (is_retain_step x) (step_posts x)
 step-agrees s facts t fs steps.Begins = record { same_retains = refl; same_posts = refl; cuts = tt }
 step-agrees s facts t fs (steps.Claims k v) = record { same_retains = refl; same_posts = refl; cuts = tt }
 step-agrees s facts t fs (steps.Says x used n) = form-agrees x.now _
@@ -119,7 +120,8 @@ got d (Some a) = a
 some-is : (a b : Action) → Some a ≡ Some b → a ≡ b
 some-is a b h = ap (got a) h
 
-cut-by : (retain : Bool) (cut other : Option ℕ) → cond retain (cut ≡ None) (Unit {0}) → (retain ≡ false → cut ≡ other) → cond retain (other ≡ None) (Unit {0}) → cut ≡ other
+cut-by : (retain : Bool) (cut other : Option ℕ) → cond retain (cut ≡ None) (Unit {0}) → (retain ≡ false → cut ≡ other)
+    → cond retain (other ≡ None) (Unit {0}) → cut ≡ other
 cut-by true cut other h k g = h ∙ sym g
 cut-by false cut other h k g = k refl
 
@@ -146,11 +148,13 @@ lines-few s n of_block b = thread_lines_few s b n
 lines-few s n (of_handler k) b = handler_lines_few s b n
 lines-few s n (of_run r) b = omega arith
 
-line-fits : (s : Script) (numbered : IsNumbered s) (x : BlockLine) (fs : List Frame) → IsLine s x fs → (top_frame fs).number + 1 < 4294967296
+line-fits : (s : Script) (numbered : IsNumbered s) (x : BlockLine) (fs : List Frame) → IsLine s x fs
+    → (top_frame fs).number + 1 < 4294967296
 line-fits s numbered x [] h = absurd h
 line-fits s numbered x (f ∷ fs) h = omega (arith, slice_get_within _ f.number x h, lines-few s numbered f.kind f.block)
 
-pub step-fits : (s : Script) (facts : Facts) (t : ℕ) (stand : Stand) (x : Step) → IsStep s facts t stand x → IsNumbered s → Fits x (top_frame stand.frames).number
+pub step-fits : (s : Script) (facts : Facts) (t : ℕ) (stand : Stand) (x : Step) → IsStep s facts t stand x
+    → IsNumbered s → Fits x (top_frame stand.frames).number
 step-fits s facts t stand steps.Begins h n = record { line = line-fits s n _ stand.frames h.line; place = tt }
 step-fits s facts t stand (steps.Claims k v) h n = record { line = line-fits s n _ stand.frames h.line; place = tt }
 step-fits s facts t stand (steps.Says x used k) h n = record { line = line-fits s n _ stand.frames h.line.0; place = tt }
@@ -166,7 +170,8 @@ step-fits s facts t stand steps.Closes h n = record { line = tt; place = tt }
 
 -- ---- what was found
 
-pub frame-found : (facts : Facts) (t : ℕ) (stand : Stand) (x : Step) → IsFound facts t stand x → IsFrameFound facts t stand.frames x
+pub frame-found : (facts : Facts) (t : ℕ) (stand : Stand) (x : Step) → IsFound facts t stand x
+    → IsFrameFound facts t stand.frames x
 frame-found facts t stand steps.Begins h = tt
 frame-found facts t stand (steps.Claims k v) h = tt
 frame-found facts t stand (steps.Says x used n) h = tt

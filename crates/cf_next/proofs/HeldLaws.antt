@@ -28,7 +28,8 @@ pub below-more : {A : Type 0} (f : ℕ → List A) (n : ℕ) → below f (n + 1)
 below-more f n = let e : n + 1 ≡ suc n = omega arith in ap (below f) e ∙ below-suc f n
 
 -- what is after one list more
-pub lists-more : {A : Type 0} (f : ℕ → List A) (n : ℕ) (start before after more : List A) → before ≡ start ++ below f n → after ≡ before ++ more → f n ≡ more → after ≡ start ++ below f (n + 1)
+pub lists-more : {A : Type 0} (f : ℕ → List A) (n : ℕ) (start before after more : List A) → before ≡ start ++ below f n
+    → after ≡ before ++ more → f n ≡ more → after ≡ start ++ below f (n + 1)
 lists-more {A = A} f n start before after more so_far is here =
     is ∙ ap (λ (xs : List A). xs ++ more) so_far ∙ append_assoc start (below f n) more
     ∙ ap (λ (xs : List A). start ++ (below f n ++ xs)) (sym here)
@@ -41,7 +42,8 @@ below-same {A = A} f g (suc n) h =
     ∙ ap (λ (xs : List A). below g n ++ xs) (h n (omega arith)) ∙ sym (below-suc g n)
 
 -- one copy more
-pub copies-more : {A : Type 0} (x : A) (n : ℕ) (start before after : List A) → before ≡ start ++ replicate n x → after ≡ before ++ x ∷ [] → after ≡ start ++ replicate (n + 1) x
+pub copies-more : {A : Type 0} (x : A) (n : ℕ) (start before after : List A) → before ≡ start ++ replicate n x
+    → after ≡ before ++ x ∷ [] → after ≡ start ++ replicate (n + 1) x
 copies-more {A = A} x n start before after so_far is =
     let e : n + 1 ≡ suc n = omega arith in
     is ∙ ap (λ (xs : List A). xs ++ x ∷ []) so_far ∙ append_assoc start (replicate n x) (x ∷ []) ∙ ap (λ (xs : List A). start ++ xs) (last n ∙ ap (λ (k : ℕ). replicate k x) (sym e))
@@ -52,7 +54,8 @@ copies-more {A = A} x n start before after so_far is =
 
 -- ---- lines
 
-take-found : (xs : List BlockLine) (n : ℕ) (x : BlockLine) → slice_get xs n ≡ Some x → take (n + 1) xs ≡ take n xs ++ x ∷ []
+take-found : (xs : List BlockLine) (n : ℕ) (x : BlockLine) → slice_get xs n ≡ Some x
+    → take (n + 1) xs ≡ take n xs ++ x ∷ []
 take-found xs n x e = let next : n + 1 ≡ suc n = omega arith in ap (λ (k : ℕ). take k xs) next ∙ by xs n e
   where
     by : (xs : List BlockLine) (n : ℕ) → slice_get xs n ≡ Some x → take (suc n) xs ≡ take n xs ++ x ∷ []
@@ -69,10 +72,12 @@ take-none xs n e = let next : n + 1 ≡ suc n = omega arith in ap (λ (k : ℕ).
     by (y ∷ xs) zero e = absurd cc
     by (y ∷ xs) (suc n) e = ap (λ (zs : List BlockLine). y ∷ zs) (by xs n e)
 
-pub counted-line : (c : Counts) (xs : List BlockLine) (n : ℕ) (x : BlockLine) → slice_get xs n ≡ Some x → Counted c (take n xs ++ x ∷ []) → Counted c (take (n + 1) xs)
+pub counted-line : (c : Counts) (xs : List BlockLine) (n : ℕ) (x : BlockLine) → slice_get xs n ≡ Some x
+    → Counted c (take n xs ++ x ∷ []) → Counted c (take (n + 1) xs)
 counted-line c xs n x e h = subst (Counted c) (sym (take-found xs n x e)) h
 
-pub counted-none : (c : Counts) (xs : List BlockLine) (n : ℕ) → slice_get xs n ≡ None → Counted c (take n xs) → Counted c (take (n + 1) xs)
+pub counted-none : (c : Counts) (xs : List BlockLine) (n : ℕ) → slice_get xs n ≡ None → Counted c (take n xs)
+    → Counted c (take (n + 1) xs)
 counted-none c xs n e h = subst (Counted c) (sym (take-none xs n e)) h
 
 length-take-le : (n : ℕ) (xs : List BlockLine) → length (take n xs) ≤ n
@@ -101,12 +106,15 @@ owed-append (slots_of b k ∷ us) vs = owed-append us vs
 
 -- ---- variables
 
-get-any : (table : List MaybeObject) (v : ℕ) (d e : MaybeObject) → v < length table → get_or table v d ≡ get_or table v e
+get-any : (table : List MaybeObject) (v : ℕ) (d e : MaybeObject) → v < length table
+    → get_or table v d ≡ get_or table v e
 get-any [] v d e lt = absurd (omega arith)
 get-any (x ∷ xs) zero d e lt = refl
 get-any (x ∷ xs) (suc v) d e lt = get-any xs v d e (omega (arith, lt))
 
-pub variable-more : (table : List MaybeObject) (c : Counts) (v : ℕ) (d : MaybeObject) (found : Option ℕ) (n : ℕ) (start before after : List ℕ) → v < length table → found ≡ object_of (get_or table v d)
+pub variable-more : (table : List MaybeObject) (c : Counts) (v : ℕ) (d : MaybeObject) (found : Option ℕ) (n : ℕ)
+    (start before after : List ℕ)
+    → v < length table → found ≡ object_of (get_or table v d)
     → n ≡ get_or c.given v 0 - get_or c.released v 0 → before ≡ start ++ below (counted_objects table c) v → after ≡ before ++ copies found n → after ≡ start ++ below (counted_objects table c) (v + 1)
 variable-more table c v d found n start before after lt is size so_far added =
     lists-more (counted_objects table c) v start before after (copies found n) so_far added
@@ -120,7 +128,8 @@ cell-past (x ∷ xs) zero le = absurd (omega arith)
 cell-past (x ∷ xs) (suc v) le = cell-past xs v (omega (arith, le))
 
 -- the counts are those of the lines, and the table has what is bound
-pub counted-same : (table : List MaybeObject) (c : Counts) (done : List BlockLine) (f : Frame) → Counted c done → ((v : ℕ) → cell_of table v ≡ look v f.bindings)
+pub counted-same : (table : List MaybeObject) (c : Counts) (done : List BlockLine) (f : Frame) → Counted c done
+    → ((v : ℕ) → cell_of table v ≡ look v f.bindings)
     → below (counted_objects table c) 256 ≡ below (variable_objects done f) 256
 counted-same table c done f t cells =
     below-same (counted_objects table c) (variable_objects done f) 256
@@ -128,7 +137,8 @@ counted-same table c done f t cells =
     ∙ ap (λ (n : ℕ). copies (look v f.bindings) (n - get_or c.released v 0)) (t.gives v small) ∙ ap (λ (n : ℕ). copies (look v f.bindings) (given v done - n)) (t.takes v small))
 
 -- what is appended one after another is all that is held
-pub held-whole : (s : Script) (stand : Stand) (table : List MaybeObject) (c : Counts) (k : Kind) (b n : ℕ) (work : List Work) (start first after : List ℕ)
+pub held-whole : (s : Script) (stand : Stand) (table : List MaybeObject) (c : Counts) (k : Kind) (b n : ℕ)
+    (work : List Work) (start first after : List ℕ)
     → Counted c (take n (frame_lines s k b)) → n ≡ (top_frame stand.frames).number → k ≡ (top_frame stand.frames).kind → b ≡ (top_frame stand.frames).block
     → ((v : ℕ) → cell_of table v ≡ look v (top_frame stand.frames).bindings) → work ≡ stand.work
     → first ≡ start ++ below (counted_objects table c) 256 → after ≡ first ++ owed_objects work → after ≡ start ++ held_objects s stand
@@ -143,7 +153,9 @@ held-whole s stand table c k b n work start first after counted number kind bloc
     ∙ append_assoc start (frame_objects s f) (owed_objects stand.work)
 
 -- one item of work more, of which the first stands last
-pub owed-more : (ws xs : List CodeWork) (x : CodeWork) (before after all : List ℕ) → ws ≡ xs ++ x ∷ [] → before ++ owed_objects (works_of ws) ≡ all → after ≡ before ++ owed_objects (work_of x ∷ []) → after ++ owed_objects (works_of xs) ≡ all
+pub owed-more : (ws xs : List CodeWork) (x : CodeWork) (before after all : List ℕ) → ws ≡ xs ++ x ∷ []
+    → before ++ owed_objects (works_of ws) ≡ all → after ≡ before ++ owed_objects (work_of x ∷ [])
+    → after ++ owed_objects (works_of xs) ≡ all
 owed-more ws xs x before after all split so_far added =
     ap (λ (os : List ℕ). os ++ owed_objects (works_of xs)) added ∙ append_assoc before (owed_objects (work_of x ∷ [])) (owed_objects (works_of xs))
     ∙ ap (λ (os : List ℕ). before ++ os) (sym (owed-append (work_of x ∷ []) (works_of xs)))

@@ -33,7 +33,9 @@ pub cells-size : length (replicate 256 nothing) ≡ 256
 cells-size = length-replicate 256 nothing
 
 -- a variable more is bound
-pub cell-bound : (b : Bound) (w : ℕ) (bs : List Binding) (table : List MaybeObject) → b.variable < length table → ((u : ℕ) → cell_of table u ≡ look u bs) → cell_of (slice_set table b.variable b.object) w ≡ look w (binding_of b ∷ bs)
+pub cell-bound : (b : Bound) (w : ℕ) (bs : List Binding) (table : List MaybeObject) → b.variable < length table
+    → ((u : ℕ) → cell_of table u ≡ look u bs)
+    → cell_of (slice_set table b.variable b.object) w ≡ look w (binding_of b ∷ bs)
 cell-bound b w bs table lt h =
     elim (eqb_tells b.variable w) [
       | inl p ↦ ap (cell_of (slice_set table b.variable b.object)) (sym p.1) ∙ ap object_of (get_or-set_same table b.variable b.object nothing lt) ∙ sym (ap (λ (t : Bool). cond t (object_of b.object) (look w bs)) p.0)
@@ -43,14 +45,18 @@ cell-bound b w bs table lt h =
 bindings-last : (row : List Bound) (b : Bound) → bindings_of (row ++ b ∷ []) ≡ binding_of b ∷ bindings_of row
 bindings-last row b = ap (map binding_of) (reverse-last row b)
 
-pub cell-next : (row : List Bound) (i : ℕ) (b : Bound) (table : List MaybeObject) → i < length row → b ≡ slice_index_or row i b → b.variable < length table → ((u : ℕ) → cell_of table u ≡ look u (bindings_of (take i row))) → (w : ℕ) → cell_of (slice_set table b.variable b.object) w ≡ look w (bindings_of (take (i + 1) row))
+pub cell-next : (row : List Bound) (i : ℕ) (b : Bound) (table : List MaybeObject) → i < length row
+    → b ≡ slice_index_or row i b → b.variable < length table
+    → ((u : ℕ) → cell_of table u ≡ look u (bindings_of (take i row))) → (w : ℕ)
+    → cell_of (slice_set table b.variable b.object) w ≡ look w (bindings_of (take (i + 1) row))
 cell-next row i b table lt e within h w =
     let next : take (i + 1) row ≡ take i row ++ b ∷ [] = ap (λ (k : ℕ). take k row) (plus-one i) ∙ take-suc row i b lt ∙ ap (λ (x : Bound). take i row ++ x ∷ []) (sym e) in
     cell-bound b w (bindings_of (take i row)) table within h ∙ ap (look w) (sym (bindings-last (take i row) b) ∙ ap bindings_of (sym next))
 
 -- ---- what is kept with the first one last
 
-pub kept-last : {A : Type 0} {B : Type 0} (f : A → B) (n : ℕ) (xs : List A) → n ≤ length xs → map f (reverse (take n xs)) ≡ last_of n (map f (reverse xs))
+pub kept-last : {A : Type 0} {B : Type 0} (f : A → B) (n : ℕ) (xs : List A) → n ≤ length xs
+    → map f (reverse (take n xs)) ≡ last_of n (map f (reverse xs))
 kept-last {A = A} {B = B} f n xs h =
     let late : List B = map f (reverse (drop n xs)) in
     let early : List B = map f (reverse (take n xs)) in
@@ -83,7 +89,8 @@ reverse-seam xs ys x =
 abbrev pub stopped : CodeFrame → CodeFrame
 stopped f = record f { kind = code_stopped f.kind }
 
-stop-past : (ys zs : List CodeFrame) (x : CodeFrame) → code_has_run ys ≡ false → code_is_run x.kind ≡ true → code_stop (ys ++ x ∷ zs) ≡ ys ++ stopped x ∷ zs
+stop-past : (ys zs : List CodeFrame) (x : CodeFrame) → code_has_run ys ≡ false → code_is_run x.kind ≡ true
+    → code_stop (ys ++ x ∷ zs) ≡ ys ++ stopped x ∷ zs
 stop-past [] zs x none is = ap (λ (t : Bool). cond t (stopped x ∷ zs) (x ∷ code_stop zs)) is
 stop-past (y ∷ ys) zs x none is =
     ap (λ (t : Bool). cond t (stopped y ∷ (ys ++ x ∷ zs)) (y ∷ code_stop (ys ++ x ∷ zs))) (first-false (code_is_run y.kind) (code_has_run ys) none)
@@ -113,7 +120,8 @@ run-or-some (Block t) other h = cc
 run-or-some (Handler k h) other e = cc
 run-or-some (Run r) other h = refl
 
-run-past : (ys zs : List CodeFrame) (x : CodeFrame) → code_has_run ys ≡ false → code_is_run x.kind ≡ true → code_run (ys ++ x ∷ zs) ≡ code_run_or x.kind None
+run-past : (ys zs : List CodeFrame) (x : CodeFrame) → code_has_run ys ≡ false → code_is_run x.kind ≡ true
+    → code_run (ys ++ x ∷ zs) ≡ code_run_or x.kind None
 run-past [] zs x none is = run-or-some x.kind (code_run zs) is
 run-past (y ∷ ys) zs x none is =
     run-or-none y.kind (code_run (ys ++ x ∷ zs)) (first-false (code_is_run y.kind) (code_has_run ys) none)
@@ -125,7 +133,8 @@ run-none (y ∷ ys) none =
     run-or-none y.kind (code_run ys) (first-false (code_is_run y.kind) (code_has_run ys) none)
     ∙ run-none ys (later-false (code_is_run y.kind) (code_has_run ys) none)
 
-has-last : (xs : List CodeFrame) (x : CodeFrame) → code_has_run xs ≡ false → code_is_run x.kind ≡ false → code_has_run (xs ++ x ∷ []) ≡ false
+has-last : (xs : List CodeFrame) (x : CodeFrame) → code_has_run xs ≡ false → code_is_run x.kind ≡ false
+    → code_has_run (xs ++ x ∷ []) ≡ false
 has-last [] x none is = ap (λ (t : Bool). cond t true false) is
 has-last (y ∷ xs) x none is =
     ap (λ (t : Bool). cond t true (code_has_run (xs ++ x ∷ []))) (first-false (code_is_run y.kind) (code_has_run xs) none)
@@ -135,7 +144,8 @@ get-seam : {A : Type 0} (xs ys : List A) (x d : A) → slice_index_or (xs ++ x �
 get-seam [] ys x d = refl
 get-seam (a ∷ xs) ys x d = get-seam xs ys x d
 
-cut-at : (fs : List CodeFrame) (i : ℕ) (d : CodeFrame) → i < length fs → fs ≡ take i fs ++ slice_index_or fs i d ∷ drop (i + 1) fs
+cut-at : (fs : List CodeFrame) (i : ℕ) (d : CodeFrame) → i < length fs
+    → fs ≡ take i fs ++ slice_index_or fs i d ∷ drop (i + 1) fs
 cut-at fs i d lt =
     sym (take-append-drop i fs)
     ∙ ap (λ (l : List CodeFrame). take i fs ++ l) (drop-cons fs i d lt)
@@ -188,5 +198,6 @@ module _ (fs rest others : List CodeFrame) (last : CodeFrame) (e : rest ≡ othe
       ∙ ap code_has_run (reverse-append (last ∷ []) tail)
       ∙ has-last (reverse tail) last past is
 
-pub past-all : (fs rest : List CodeFrame) → length rest ≡ 0 → code_has_run (reverse (drop (length rest) fs)) ≡ false → code_has_run (reverse fs) ≡ false
+pub past-all : (fs rest : List CodeFrame) → length rest ≡ 0 → code_has_run (reverse (drop (length rest) fs)) ≡ false
+    → code_has_run (reverse fs) ≡ false
 past-all fs rest n past = ap (λ (k : ℕ). code_has_run (reverse (drop k fs))) (sym n) ∙ past

@@ -48,20 +48,24 @@ work-last facts (slots_of b k ∷ ws) = by (is_some (facts.slot b k)) (work-last
     by true h = last-tail (slots_of b k) ws
     by false h = last-skip (work_left facts ws) ws (slots_of b k) h
 
-pub callees-last-of : (facts : Facts) (t : ℕ) (kind : Kind) (ks : List Callee) → IsLastOf (callees_left facts t kind ks) ks
+pub callees-last-of : (facts : Facts) (t : ℕ) (kind : Kind) (ks : List Callee)
+    → IsLastOf (callees_left facts t kind ks) ks
 callees-last-of facts t kind [] = last-none
 callees-last-of facts t kind (k ∷ ks) = by (is_some (callout_of facts t kind k.role k.number)) (callees-last-of facts t kind ks)
   where
-    by : (b : Bool) → IsLastOf (callees_left facts t kind ks) ks → IsLastOf (cond b ks (callees_left facts t kind ks)) (k ∷ ks)
+    by : (b : Bool) → IsLastOf (callees_left facts t kind ks) ks
+        → IsLastOf (cond b ks (callees_left facts t kind ks)) (k ∷ ks)
     by true h = last-tail k ks
     by false h = last-skip (callees_left facts t kind ks) ks k h
 
 -- so many are left
-pub work-size : (W : List CodeWork) (n : ℕ) (left : List Work) → left ≡ works_of (take n W) → n ≤ length W → n ≡ length left
+pub work-size : (W : List CodeWork) (n : ℕ) (left : List Work) → left ≡ works_of (take n W) → n ≤ length W
+    → n ≡ length left
 work-size W n left e h =
     sym (ap length e ∙ length-map (reverse (take n W)) work_of ∙ length-reverse (take n W) ∙ length-take n W ∙ omega (arith, h))
 
-pub callees-size : (K : List CodeCallee) (n : ℕ) (left : List Callee) → left ≡ callees_of (take n K) → n ≤ length K → n ≡ length left
+pub callees-size : (K : List CodeCallee) (n : ℕ) (left : List Callee) → left ≡ callees_of (take n K) → n ≤ length K
+    → n ≡ length left
 callees-size K n left e h =
     sym (ap length e ∙ length-map (reverse (take n K)) callee_of ∙ length-reverse (take n K) ∙ length-take n K ∙ omega (arith, h))
 
@@ -73,7 +77,9 @@ pub kept-is : {A : Type 0} (left all : List A) (n : ℕ) → IsLastOf left all �
 kept-is left all n h e = ap (λ (k : ℕ). last_of k all) e ∙ sym h.is
 
 -- the innermost frame after a call
-pub called-done : (facts : Facts) (t : ℕ) (role : Role) (left : ℕ) (fs : List Frame) → left ≡ length (called_left facts t (top_frame fs)) → on_top (with_called role left) fs ≡ on_top (call_done facts t role) fs
+pub called-done : (facts : Facts) (t : ℕ) (role : Role) (left : ℕ) (fs : List Frame)
+    → left ≡ length (called_left facts t (top_frame fs))
+    → on_top (with_called role left) fs ≡ on_top (call_done facts t role) fs
 called-done facts t role left [] h = refl
 called-done facts t role left (f ∷ fs) h =
     ap (λ (ks : List Callee). record f { kind = kind_called role f.kind; collected = ks } ∷ fs) (kept-is (callees_left facts t f.kind f.collected) f.collected left (callees-last-of facts t f.kind f.collected) h)

@@ -92,7 +92,8 @@ present-past present rest others r left all is there h =
     ap (λ t. present ++ cond t (r ∷ present_of others (without r left)) (present_of others left)) (sym there)
     ∙ ap (λ rs. present ++ present_of rs left) (sym is) ∙ h
 
-pub present-step : (there : Bool) (present more rest others : List Reference) (r : Reference) (left now all : List Reference)
+pub present-step : (there : Bool) (present more rest others : List Reference) (r : Reference)
+    (left now all : List Reference)
     → nat_lt 0 (weigh (one r) left) ≡ there → rest ≡ r ∷ others → now ≡ cond there (without r left) left
     → more ≡ cond there (present ++ r ∷ []) present → present ++ present_of rest left ≡ all
     → more ++ present_of others now ≡ all

@@ -109,7 +109,8 @@ module _ (made : ℕ) (es : List Edge) (i : ℕ) (e : Edge) (lt : i < length es)
 
 -- ---- edges in any order
 
-count_first : (p : Edge → Bool) (e : Edge) (es : List Edge) → count_by p (e ∷ es) ≡ cond {A = ℕ} (p e) 1 0 + count_by p es
+count_first : (p : Edge → Bool) (e : Edge) (es : List Edge)
+    → count_by p (e ∷ es) ≡ cond {A = ℕ} (p e) 1 0 + count_by p es
 count_first p e es = sum_by-append (λ (x : Edge). cond {A = ℕ} (p x) 1 0) (e ∷ []) es ∙ omega arith
 
 count_owned : (o : ℕ) (rs : List Reference) → count_by (owns o) (edges_of rs) ≡ weigh (owning o) rs
@@ -120,7 +121,8 @@ count_held : (o : ℕ) (rs : List Reference) → count_by (holds o) (edges_of rs
 count_held o [] = refl
 count_held o (r ∷ rs) = count_first (holds o) (edge_of r) (edges_of rs) ∙ ap (λ (n : ℕ). holding o r + n) (count_held o rs)
 
-pub in_any_order : (es : List Edge) (rs : List Reference) → ((p : Edge → Bool) → count_by p es ≡ count_by p (edges_of rs)) → AreOf es rs
+pub in_any_order : (es : List Edge) (rs : List Reference)
+    → ((p : Edge → Bool) → count_by p es ≡ count_by p (edges_of rs)) → AreOf es rs
 in_any_order es rs same = record {
   owned = λ o. same (owns o) ∙ count_owned o rs;
   held = λ o. same (holds o) ∙ count_held o rs;

@@ -29,7 +29,8 @@ module _ (journal : List Entry) (i : ℕ) (e : Entry) (lt : i < length journal) 
 
   -- ---- classes
 
-  pub class_more : (s : Script) (class : Option ℕ) (now after : List ℕ) → told_in s e ≡ class → after ≡ now ++ option_to_list class
+  pub class_more : (s : Script) (class : Option ℕ) (now after : List ℕ) → told_in s e ≡ class
+      → after ≡ now ++ option_to_list class
       → now ≡ classes_told s (take i journal) → after ≡ classes_told s (take (i + 1) journal)
   class_more s class now after told is so_far =
       is ∙ ap (λ (l : List ℕ). l ++ option_to_list class) so_far ∙ ap (λ (c : Option ℕ). classes_told s (take i journal) ++ option_to_list c) (sym told)
@@ -38,16 +39,19 @@ module _ (journal : List Entry) (i : ℕ) (e : Entry) (lt : i < length journal) 
 
   -- ---- finals
 
-  pub count_more : (f : Option ℕ) (n : ℕ) → final_of e ≡ f → n ≡ length (finalised_in (take i journal)) → n + length (option_to_list f) ≡ length (finalised_in (take (i + 1) journal))
+  pub count_more : (f : Option ℕ) (n : ℕ) → final_of e ≡ f → n ≡ length (finalised_in (take i journal))
+      → n + length (option_to_list f) ≡ length (finalised_in (take (i + 1) journal))
   count_more f n final so_far =
       let parts : finalised_in (take (i + 1) journal) ≡ finalised_in (take i journal) ++ option_to_list f =
       ap finalised_in more ∙ finalised-append (take i journal) (e ∷ []) ∙ ap (λ (l : List ℕ). finalised_in (take i journal) ++ l) (append-nil (option_to_list (final_of e)) ∙ ap option_to_list final) in
       omega (arith, so_far, ap length parts, length-append (finalised_in (take i journal)) (option_to_list f))
 
-  pub count_same : (n : ℕ) → final_of e ≡ None → n ≡ length (finalised_in (take i journal)) → n ≡ length (finalised_in (take (i + 1) journal))
+  pub count_same : (n : ℕ) → final_of e ≡ None → n ≡ length (finalised_in (take i journal))
+      → n ≡ length (finalised_in (take (i + 1) journal))
   count_same n none so_far = omega (arith, count_more None n none so_far)
 
-  finals_more : (o : ℕ) (f : Option ℕ) → final_of e ≡ f → finals o (take (i + 1) journal) ≡ finals o (take i journal) + one_at o f
+  finals_more : (o : ℕ) (f : Option ℕ) → final_of e ≡ f
+      → finals o (take (i + 1) journal) ≡ finals o (take i journal) + one_at o f
   finals_more o f final = ap (finals o) more ∙ finals-append o (take i journal) (e ∷ []) ∙ omega (arith, ap (one_at o) final)
 
 -- which objects entries leave
@@ -65,7 +69,8 @@ module _ (made : ℕ) (journal : List Entry) (i : ℕ) (e : Entry) (lt : i < len
     at = λ o below. h.at o below ∙ ap (λ (n : ℕ). n == 0) (omega (arith, finals_more journal i e lt is o None none));
   }
 
-  other_same : (o p : ℕ) → final_of e ≡ Some p → eqb p o ≡ false → finals o (take (i + 1) journal) ≡ finals o (take i journal)
+  other_same : (o p : ℕ) → final_of e ≡ Some p → eqb p o ≡ false
+      → finals o (take (i + 1) journal) ≡ finals o (take i journal)
   other_same o p final apart = finals_more journal i e lt is o (Some p) final ∙ ap (λ (b : Bool). finals o (take i journal) + cond {A = ℕ} b 1 0) apart ∙ omega arith
 
   one_more : (p : ℕ) → final_of e ≡ Some p → finals p (take (i + 1) journal) ≡ finals p (take i journal) + 1
@@ -74,7 +79,8 @@ module _ (made : ℕ) (journal : List Entry) (i : ℕ) (e : Entry) (lt : i < len
       same : (n : ℕ) → eqb n n ≡ true
       same n = grind (arith, nat_tests)
 
-  by_place : (p : ℕ) (b : Bool) → final_of e ≡ Some p → nat_lt p (length alive) ≡ b → AreLeft made (take (i + 1) journal) (cond b (slice_set alive p false) alive)
+  by_place : (p : ℕ) (b : Bool) → final_of e ≡ Some p → nat_lt p (length alive) ≡ b
+      → AreLeft made (take (i + 1) journal) (cond b (slice_set alive p false) alive)
   by_place p true final here =
       let within : p < length alive = grind (arith, nat_tests) in
       record {
@@ -97,5 +103,6 @@ module _ (made : ℕ) (journal : List Entry) (i : ℕ) (e : Entry) (lt : i < len
         ];
       }
 
-  pub one_final : (p : ℕ) (next : List Bool) → final_of e ≡ Some p → next ≡ without alive p → AreLeft made (take (i + 1) journal) next
+  pub one_final : (p : ℕ) (next : List Bool) → final_of e ≡ Some p → next ≡ without alive p
+      → AreLeft made (take (i + 1) journal) next
   one_final p next final q = rw q (by_place p (nat_lt p (length alive)) final refl)

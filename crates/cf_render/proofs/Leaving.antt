@@ -23,7 +23,8 @@ use Rattle.cf_render.proofs.Telling.{classes_of, objects_told}
 abbrev pub line_if : List ClassLine → ℕ → ℕ → Bool → (owners slots : ℕ) → List (List ℕ)
 line_if names o c alive owners slots = cond alive (left_line names o c owners slots ∷ []) []
 
-left-append : (names : List ClassLine) (o : ℕ) (xs ys : List ℕ) (f : ℕ → Bool) (g h : ℕ → ℕ) → left_from names o (xs ++ ys) f g h ≡ left_from names o xs f g h ++ left_from names (o + length xs) ys f g h
+left-append : (names : List ClassLine) (o : ℕ) (xs ys : List ℕ) (f : ℕ → Bool) (g h : ℕ → ℕ)
+    → left_from names o (xs ++ ys) f g h ≡ left_from names o xs f g h ++ left_from names (o + length xs) ys f g h
 left-append names o [] ys f g h = rw add-zero refl
 left-append names o (x ∷ xs) ys f g h =
     let place : o + 1 + length xs ≡ o + suc (length xs) = omega arith in
@@ -42,7 +43,9 @@ left_more names cs i c f g h lt =
     ∙ ap (λ (ls : List (List ℕ)). left_from names 0 (take i cs) f g h ++ ls) (append-nil (line_if names i d (f i) (g i) (h i)))
 
 -- the same for a loop: an object that is left has a line, and another has none
-pub left_on : (names : List ClassLine) (cs : List ℕ) (i c : ℕ) (f : ℕ → Bool) (g h : ℕ → ℕ) (lines after : List (Vec ℕ)) (line : Vec ℕ) → i < length cs → c ≡ get_or cs i c
+pub left_on : (names : List ClassLine) (cs : List ℕ) (i c : ℕ) (f : ℕ → Bool) (g h : ℕ → ℕ) (lines after : List (Vec ℕ))
+    (line : Vec ℕ)
+    → i < length cs → c ≡ get_or cs i c
     → f i ≡ true → line.items ≡ left_line names i c (g i) (h i) → after ≡ lines ++ line ∷ [] → lines_of lines ≡ left_from names 0 (take i cs) f g h
     → lines_of after ≡ left_from names 0 (take (i + 1) cs) f g h
 left_on names cs i c f g h lines after line lt is on wrote more so_far =
@@ -51,7 +54,8 @@ left_on names cs i c f g h lines after line lt is on wrote more so_far =
     ∙ ap (λ (b : Bool). left_from names 0 (take i cs) f g h ++ line_if names i (slice_index_or cs i c) b (g i) (h i)) (sym on)
     ∙ sym (left_more names cs i c f g h lt)
 
-pub left_off : (names : List ClassLine) (cs : List ℕ) (i : ℕ) (f : ℕ → Bool) (g h : ℕ → ℕ) (lines after : List (Vec ℕ)) → i < length cs
+pub left_off : (names : List ClassLine) (cs : List ℕ) (i : ℕ) (f : ℕ → Bool) (g h : ℕ → ℕ) (lines after : List (Vec ℕ))
+    → i < length cs
     → f i ≡ false → after ≡ lines → lines_of lines ≡ left_from names 0 (take i cs) f g h
     → lines_of after ≡ left_from names 0 (take (i + 1) cs) f g h
 left_off names cs i f g h lines after lt off same so_far =
@@ -60,7 +64,9 @@ left_off names cs i f g h lines after lt off same so_far =
     ∙ sym (left_more names cs i 0 f g h lt)
 
 -- lines by what is lent
-pub from_lent : (names : List ClassLine) (cs ds : List ℕ) (us vs : List Bool) (ts ws : List Tally) (lines : List (List ℕ)) → ds ≡ cs → vs ≡ us → ws ≡ ts
+pub from_lent : (names : List ClassLine) (cs ds : List ℕ) (us vs : List Bool) (ts ws : List Tally)
+    (lines : List (List ℕ))
+    → ds ≡ cs → vs ≡ us → ws ≡ ts
     → lines ≡ left_from names 0 ds (alive_in vs) (owners_in ws) (slots_in ws) → lines ≡ left_from names 0 cs (alive_in us) (owners_in ts) (slots_in ts)
 from_lent names cs ds us vs ts ws lines p q r h =
     h ∙ ap (λ (xs : List ℕ). left_from names 0 xs (alive_in vs) (owners_in ws) (slots_in ws)) p
@@ -68,7 +74,8 @@ from_lent names cs ds us vs ts ws lines p q r h =
     ∙ ap (λ (xs : List Tally). left_from names 0 cs (alive_in us) (owners_in xs) (slots_in xs)) r
 
 -- the last line by equal counts
-pub last_same : (ending : Ending) (events objects finals alive made left : ℕ) → objects ≡ made → alive ≡ left → last_line ending events objects finals alive ≡ last_line ending events made finals left
+pub last_same : (ending : Ending) (events objects finals alive made left : ℕ) → objects ≡ made → alive ≡ left
+    → last_line ending events objects finals alive ≡ last_line ending events made finals left
 last_same ending events objects finals alive made left p q = ap (λ (n : ℕ). last_line ending events n finals alive) p ∙ ap (λ (n : ℕ). last_line ending events made finals n) q
 
 -- functions that agree on the objects made
@@ -92,7 +99,8 @@ alive-left names o (ob ∷ obs) finalised es =
 
 -- lines at the end by the classes told, and by what is told and counted of each object
 module _ (s : Script) (journal : List Entry) (edges : List Edge) (ending : Ending) (legal : IsLegal s journal) (are : AreOf edges (After s journal).edges) where
-  pub ends_are : (cs : List ℕ) (alive : List Bool) (tallies : List Tally) (count : ℕ) (lines after : List (Vec ℕ)) (last : Vec ℕ)
+  pub ends_are : (cs : List ℕ) (alive : List Bool) (tallies : List Tally) (count : ℕ) (lines after : List (Vec ℕ))
+      (last : Vec ℕ)
       → cs ≡ classes_told s journal
       → ((o : ℕ) → o < length cs → alive_in alive o ≡ (finals o journal == 0))
       → ((o : ℕ) → o < length cs → slice_index_or tallies o nothing ≡ counted_at o edges)

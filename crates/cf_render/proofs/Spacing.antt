@@ -28,7 +28,8 @@ spaced-append [] ys = refl
 spaced-append (w ∷ ws) ys = ap (λ (l : List ℕ). 32 ∷ (w ++ l)) (spaced-append ws ys) ∙ ap (λ (l : List ℕ). 32 ∷ l) (sym (append_assoc w (spaced ws) (spaced ys)))
 
 -- a line of its first word and two rows
-pub entry_line : (before word first second after : List ℕ) (us vs xs ys : List (List ℕ)) → first ≡ before ++ word → second ≡ first ++ spaced us → after ≡ second ++ spaced vs
+pub entry_line : (before word first second after : List ℕ) (us vs xs ys : List (List ℕ)) → first ≡ before ++ word
+    → second ≡ first ++ spaced us → after ≡ second ++ spaced vs
     → us ≡ xs → vs ≡ ys → after ≡ before ++ joined (word ∷ xs ++ ys)
 entry_line before word first second after us vs xs ys p q r a b =
     r ∙ ap (λ (l : List ℕ). l ++ spaced vs) (q ∙ ap (λ (l : List ℕ). l ++ spaced us) p)
@@ -36,7 +37,8 @@ entry_line before word first second after us vs xs ys p q r a b =
     ∙ ap (λ (l : List ℕ). before ++ l) (ap (λ (l : List ℕ). word ++ l) (ap (λ (ws : List (List ℕ)). spaced ws ++ spaced vs) a ∙ ap (λ (ws : List (List ℕ)). spaced xs ++ spaced ws) b ∙ sym (spaced-append xs ys)) ∙ sym (joined-spaced word (xs ++ ys)))
 
 -- one word more of a row
-pub words_more : (s : Script) (ws : List Word) (i : ℕ) (w : Word) (before now after : List ℕ) → i < length ws → w ≡ get_or ws i w
+pub words_more : (s : Script) (ws : List Word) (i : ℕ) (w : Word) (before now after : List ℕ) → i < length ws
+    → w ≡ get_or ws i w
     → after ≡ now ++ spaced (texts s w) → now ≡ before ++ spaced (texts_in s (take i ws))
     → after ≡ before ++ spaced (texts_in s (take (i + 1) ws))
 words_more s ws i w before now after lt is wrote so_far =
@@ -69,7 +71,8 @@ no_name (n ∷ ns) (suc i) e = no_name ns i e
 
 -- ---- what a statement writes
 
-pub said_words : (s : Script) (a : Action) (site : Site) (x : Statement) (row : List Word) → site_of a ≡ Some site → statement_at s site ≡ Some x
+pub said_words : (s : Script) (a : Action) (site : Site) (x : Statement) (row : List Word) → site_of a ≡ Some site
+    → statement_at s site ≡ Some x
     → texts_in s row ≡ statement_words s site.used x → texts_in s row ≡ words_if s (used_in a) (statement_of s a)
 said_words s a site x row at there words =
     words ∙ sym (ap (words_if s (used_in a)) (ap (statement_if s) at ∙ there) ∙ ap (λ (used : List (Option ℕ)). words_if s used (Some x)) (ap used_at_site at))

@@ -80,21 +80,25 @@ only_found class nowhere e only = tt
 only_found class (fresh ob) e only = absurd only
 only_found class (there o) e only = e
 
-instance_class : (class : ℕ) (key : _) (line : Option ClassLine) → IsOfClass (Some class) (fresh_if (instance_of class key line)).origin
+instance_class : (class : ℕ) (key : _) (line : Option ClassLine)
+    → IsOfClass (Some class) (fresh_if (instance_of class key line)).origin
 instance_class class key None = tt
 instance_class class key (Some line) = refl
 
-part_class : (u : List ℕ) (at len : ℕ) (f : Option StrFault) (class : ℕ) (content : Content) → IsOfClass (Some class) (unless_split f (creating class content)).origin
+part_class : (u : List ℕ) (at len : ℕ) (f : Option StrFault) (class : ℕ) (content : Content)
+    → IsOfClass (Some class) (unless_split f (creating class content)).origin
 part_class u at len None class content = refl
 part_class u at len (Some Range) class content = tt
 part_class u at len (Some SplitsPair) class content = tt
 part_class u at len (Some _) class content = tt
 
-sub_text : (content : Content) (at len : ℕ) → IsOfClass (Some 3) (text_in content (λ units. part_of units at len)).origin
+sub_text : (content : Content) (at len : ℕ)
+    → IsOfClass (Some 3) (text_in content (λ units. part_of units at len)).origin
 sub_text (text_content mutable units) at len = part_class units at len (split_fault units at len) 3 _
 sub_text _ at len = tt
 
-sub_class : (a : Option Numbered) (at len : ℕ) → IsOfClass (Some 3) (with_object a (λ u. text_in u.object.content (λ units. part_of units at len))).origin
+sub_class : (a : Option Numbered) (at len : ℕ)
+    → IsOfClass (Some 3) (with_object a (λ u. text_in u.object.content (λ units. part_of units at len))).origin
 sub_class None at len = tt
 sub_class (Some u) at len = sub_text u.object.content at len
 
@@ -105,7 +109,8 @@ IsNoItem (forms.MakeTimer v first interval h info) = ⊥
 IsNoItem (forms.MakeObserver v mask repeats order h info) = ⊥
 IsNoItem _ = Unit {0}
 
-deed_class : (classes : List ClassLine) (x : Statement) (a b c : Option Numbered) → IsNoItem x → IsOfClass (class_made x) (deed_of classes x a b c).origin
+deed_class : (classes : List ClassLine) (x : Statement) (a b c : Option Numbered) → IsNoItem x
+    → IsOfClass (class_made x) (deed_of classes x a b c).origin
 deed_class classes (forms.MakeString v text) a b c h = refl
 deed_class classes (forms.MakeMstring v text) a b c h = refl
 deed_class classes (forms.MakeData v bytes) a b c h = refl
@@ -149,7 +154,8 @@ module _ (t : ℕ) (st : State) where
   abbrev Same : Parts → Type 0
   Same p = classes_of p.objects ≡ classes_of st.parts.objects
 
-  tells_none : (class : Option ℕ) (step : Step) → Same step.parts → told_by class (step_answer step st) ≡ None → StepTells class step
+  tells_none : (class : Option ℕ) (step : Step) → Same step.parts → told_by class (step_answer step st) ≡ None
+      → StepTells class step
   tells_none class step same none = same ∙ sym (append-nil (classes_of st.parts.objects)) ∙ ap (λ c. classes_of st.parts.objects ++ option_to_list c) (sym none)
 
   quiet : (step : Step) → Same step.parts → StepTells None step
@@ -161,19 +167,23 @@ module _ (t : ℕ) (st : State) where
   either true x y h k = h
   either false x y h k = k
 
-  used_same : (used : Option ℕ) (deal : ℕ → Deal) → ((o : ℕ) → Same (deal o).parts) → Same (with_used st.parts used deal).parts
+  used_same : (used : Option ℕ) (deal : ℕ → Deal) → ((o : ℕ) → Same (deal o).parts)
+      → Same (with_used st.parts used deal).parts
   used_same None deal h = refl
   used_same (Some o) deal h = h o
 
-  thing_same : (j : ℕ) (deal : ℕ → Thing → Deal) (x : Option Thing) → ((j : ℕ) (x : Thing) → Same (deal j x).parts) → Same (thing_deal st.parts j deal x).parts
+  thing_same : (j : ℕ) (deal : ℕ → Thing → Deal) (x : Option Thing) → ((j : ℕ) (x : Thing) → Same (deal j x).parts)
+      → Same (thing_deal st.parts j deal x).parts
   thing_same j deal None h = refl
   thing_same j deal (Some x) h = h j x
 
-  item_same : (used : Option ℕ) (deal : ℕ → Thing → Deal) → ((j : ℕ) (x : Thing) → Same (deal j x).parts) → Same (with_thing st.parts used deal).parts
+  item_same : (used : Option ℕ) (deal : ℕ → Thing → Deal) → ((j : ℕ) (x : Thing) → Same (deal j x).parts)
+      → Same (with_thing st.parts used deal).parts
   item_same None deal h = refl
   item_same (Some j) deal h = thing_same j deal (thing_at st.parts j) h
 
-  filter_same : (v object : Option ℕ) (deal : Option ℕ → Deal) → ((f : Option ℕ) → Same (deal f).parts) → Same (with_filter st.parts v object deal).parts
+  filter_same : (v object : Option ℕ) (deal : Option ℕ → Deal) → ((f : Option ℕ) → Same (deal f).parts)
+      → Same (with_filter st.parts v object deal).parts
   filter_same None object deal h = h None
   filter_same (Some v) object deal h = used_same object (λ o. deal (Some o)) (λ o. h (Some o))
 
@@ -212,7 +222,8 @@ module _ (t : ℕ) (st : State) where
 
   -- ---- statements
 
-  bound_tells : (k : Holder) (class : Option ℕ) (answer : Answer) (origin : Origin) → NamesNone answer → IsOfClass class origin → StepTells class (bind_step k st.parts (record { answer = answer; origin = origin }))
+  bound_tells : (k : Holder) (class : Option ℕ) (answer : Answer) (origin : Origin) → NamesNone answer
+      → IsOfClass class origin → StepTells class (bind_step k st.parts (record { answer = answer; origin = origin }))
   bound_tells k class answer nowhere names h = tells_none class (bind_step k st.parts (record { answer = answer; origin = nowhere })) (ap classes_of (append-nil st.parts.objects)) (told_none class answer names)
   bound_tells k class answer (fresh ob) names h = map-append (λ (b : Object). b.class) st.parts.objects (ob ∷ []) ∙ ap (λ c. classes_of st.parts.objects ++ option_to_list c) (sym h)
   bound_tells k class answer (there o) names h =
@@ -227,7 +238,9 @@ module _ (t : ℕ) (st : State) where
   release_same k None = refl
   release_same k (Some o) = refl
 
-  by_ownership : (s : Script) (d : ℕ) (x : Statement) (used : List (Option ℕ)) (ownership : Ownership) → IsNoItem x → item_made x ≡ None → (MakesNothing ownership → class_made x ≡ None) → StepTells (class_made x) (statement_step s t d st x used ownership)
+  by_ownership : (s : Script) (d : ℕ) (x : Statement) (used : List (Option ℕ)) (ownership : Ownership) → IsNoItem x
+      → item_made x ≡ None → (MakesNothing ownership → class_made x ≡ None)
+      → StepTells (class_made x) (statement_step s t d st x used ownership)
   by_ownership s d x used Keeps h none nothing = tells_none (class_made x) (statement_step s t d st x used Keeps) (deal_same s x used) (told_none (class_made x) (deal_of s t st x used).answer (deal_names s t st x used))
   by_ownership s d x used (Binds v) h none nothing =
       let a = numbered st.parts.objects (used_at used 0) in
@@ -239,7 +252,8 @@ module _ (t : ℕ) (st : State) where
   by_ownership s d x used (Retains v) h none nothing = rw (nothing tt) (quiet (retain_step (variable t d v) st (first_of used)) (retain_same (variable t d v) (first_of used)))
   by_ownership s d x used (Releases v) h none nothing = rw (nothing tt) (quiet (release_step t (variable t d v) st (first_of used)) (release_same (variable t d v) (first_of used)))
 
-  statement_tells : (s : Script) (d : ℕ) (x : Statement) (used : List (Option ℕ)) → StepTells (class_made x) (statement_step s t d st x used (ownership_of x))
+  statement_tells : (s : Script) (d : ℕ) (x : Statement) (used : List (Option ℕ))
+      → StepTells (class_made x) (statement_step s t d st x used (ownership_of x))
   statement_tells s d (forms.MakeSource v order h info) used = bound_tells (variable t d v) _ answers.Skip (fresh _) tt refl
   statement_tells s d (forms.MakeTimer v first interval h info) used = bound_tells (variable t d v) _ answers.Skip (fresh _) tt refl
   statement_tells s d (forms.MakeObserver v mask repeats order h info) used = bound_tells (variable t d v) _ answers.Skip (fresh _) tt refl
@@ -306,7 +320,8 @@ module _ (t : ℕ) (st : State) where
     abbrev Acted : List Frame → Demand → Type 0
     Acted fs d = StepTells (class_if (statement_of s (action_in s (facts_of st) t fs d))) (step_of s t st fs d)
 
-    line_tells : (f : Frame) (fs : List Frame) (x : BlockLine) → slice_get (frame_lines s f.kind f.block) f.number ≡ Some x → Acted (f ∷ fs) (does x)
+    line_tells : (f : Frame) (fs : List Frame) (x : BlockLine)
+        → slice_get (frame_lines s f.kind f.block) f.number ≡ Some x → Acted (f ∷ fs) (does x)
     line_tells f fs (begins v) e = quiet (step_of s t st (f ∷ fs) (does (begins v))) refl
     line_tells f fs (claims k v) e = quiet (step_of s t st (f ∷ fs) (does (claims k v))) (claim_same (parcel t k) (variable t (length fs) v) (first_held (parcel t k) st.edges))
     line_tells f fs (packs u k v) e = quiet (step_of s t st (f ∷ fs) (does (packs u k v))) (pack_same (packed_holder t (length fs) v) (parcel u k) (object_at f.bindings v))
@@ -346,17 +361,21 @@ step_tells s st e step legal =
     ap (λ (q : State). classes_of q.parts.objects) after ∙ tells
     ∙ ap (λ (p : Action × Answer). classes_of st.parts.objects ++ option_to_list (told_by (class_if (statement_of s p.0)) p.1)) (λ i. (acts.action i, sym answer i))
 
-lead_tells : (s : Script) (st : State) (e : Entry) → class_if (statement_of s e.action) ≡ None → classes_of (after_action s e.thread st e.action).parts.objects ≡ classes_of st.parts.objects → EntryTells s st e
+lead_tells : (s : Script) (st : State) (e : Entry) → class_if (statement_of s e.action) ≡ None
+    → classes_of (after_action s e.thread st e.action).parts.objects ≡ classes_of st.parts.objects → EntryTells s st e
 lead_tells s st e none same = same ∙ sym (append-nil (classes_of st.parts.objects)) ∙ ap (λ c. classes_of st.parts.objects ++ option_to_list c) (sym (ap (λ c. told_by c e.answer) none ∙ nothing_told e.answer))
 
-tells_by : (s : Script) (st : State) (t : ℕ) (a : Action) (x : Answer) → ActionView a → IsLegalAs s st (record { thread = t; action = a; answer = x }) a → EntryTells s st (record { thread = t; action = a; answer = x })
+tells_by : (s : Script) (st : State) (t : ℕ) (a : Action) (x : Answer) → ActionView a
+    → IsLegalAs s st (record { thread = t; action = a; answer = x }) a
+    → EntryTells s st (record { thread = t; action = a; answer = x })
 tells_by s st t _ x (is_tick n) legal = lead_tells s st (record { thread = t; action = actions.Tick n; answer = x }) refl refl
 tells_by s st t _ x is_stall legal = lead_tells s st (record { thread = t; action = actions.Stall; answer = x }) refl refl
 tells_by s st t a x (is_step _ step) legal =
     let e : Entry = record { thread = t; action = a; answer = x } in
     step_tells s st e step (step.legal s st e legal)
 
-classes_from : (s : Script) (st : State) (es : List Entry) → IsLegalPart s st es → classes_of (state_from s st es).parts.objects ≡ classes_of st.parts.objects ++ classes_told s es
+classes_from : (s : Script) (st : State) (es : List Entry) → IsLegalPart s st es
+    → classes_of (state_from s st es).parts.objects ≡ classes_of st.parts.objects ++ classes_told s es
 classes_from s st [] legal = sym (append-nil (classes_of st.parts.objects))
 classes_from s st (e ∷ es) legal =
     classes_from s (after_action s e.thread st e.action) es legal.1
@@ -380,7 +399,8 @@ fewer_times : (n o : ℕ) (xs : List ℕ) → 0 < times n xs → times o (n ∷ 
 fewer_times n o [] some = absurd (omega (arith, some))
 fewer_times n o (x ∷ xs) some = by (eqb x n) refl (fewer_times n o xs)
   where
-    by : (b : Bool) → eqb x n ≡ b → (0 < times n xs → times o (n ∷ without_one n xs) ≡ times o xs) → times o (n ∷ cond b xs (x ∷ without_one n xs)) ≡ times o (x ∷ xs)
+    by : (b : Bool) → eqb x n ≡ b → (0 < times n xs → times o (n ∷ without_one n xs) ≡ times o xs)
+        → times o (n ∷ cond b xs (x ∷ without_one n xs)) ≡ times o (x ∷ xs)
     by true e rest = elim (eqb_tells x n) [
       | inl same ↦ ap (λ (m : ℕ). times o (m ∷ xs)) (sym same.1)
       | inr apart ↦ absurd cc
@@ -391,7 +411,8 @@ one_fewer : (n : ℕ) (xs : List ℕ) → 0 < times n xs → length xs ≡ suc (
 one_fewer n [] some = absurd (omega (arith, some))
 one_fewer n (x ∷ xs) some = by (eqb x n) refl (one_fewer n xs)
   where
-    by : (b : Bool) → eqb x n ≡ b → (0 < times n xs → length xs ≡ suc (length (without_one n xs))) → suc (length xs) ≡ suc (length (cond b xs (x ∷ without_one n xs)))
+    by : (b : Bool) → eqb x n ≡ b → (0 < times n xs → length xs ≡ suc (length (without_one n xs)))
+        → suc (length xs) ≡ suc (length (cond b xs (x ∷ without_one n xs)))
     by true e rest = refl
     by false e rest = ap suc (rest (still_some x n xs e some))
 

@@ -11,7 +11,8 @@ pub text-append : (xs ys : List (List ℕ)) → text_of_lines (xs ++ ys) ≡ tex
 text-append [] ys = refl
 text-append (l ∷ ls) ys = ap (λ (t : List ℕ). l ++ 10 ∷ t) (text-append ls ys) ∙ sym (append_assoc l (10 ∷ text_of_lines ls) (text_of_lines ys))
 
-entries-append : (s : Script) (full : Bool) (es fs : List Entry) → entry_lines s full (es ++ fs) ≡ entry_lines s full es ++ entry_lines s full fs
+entries-append : (s : Script) (full : Bool) (es fs : List Entry)
+    → entry_lines s full (es ++ fs) ≡ entry_lines s full es ++ entry_lines s full fs
 entries-append s full [] fs = refl
 entries-append s full (e ∷ es) fs =
     let first : List (List ℕ) = cond (is_written full e) (line s e ∷ []) [] in
@@ -44,7 +45,8 @@ module _ (s : Script) (full : Bool) (journal : List Entry) (i : ℕ) (e : Entry)
       → after ≡ before ++ text_of_lines (entry_lines s full (take (i + 1) journal))
   entry_passed written same so_far = entry_more false written (same ∙ sym (append-nil now)) so_far
 
-pub line_more : (ls : List (Vec ℕ)) (i : ℕ) (l : Vec ℕ) (before now with_line after : List ℕ) → i < length ls → l ≡ get_or ls i l
+pub line_more : (ls : List (Vec ℕ)) (i : ℕ) (l : Vec ℕ) (before now with_line after : List ℕ) → i < length ls
+    → l ≡ get_or ls i l
     → with_line ≡ now ++ l.items → after ≡ with_line ++ 10 ∷ []
     → now ≡ before ++ text_of_lines (lines_of (take i ls))
     → after ≡ before ++ text_of_lines (lines_of (take (i + 1) ls))
@@ -57,5 +59,6 @@ line_more ls i l before now with_line after lt is wrote ended so_far =
     ∙ ap (λ (t : List ℕ). before ++ t) (sym (ap text_of_lines parts ∙ text-append old (l.items ∷ [])))
 
 -- the text of a whole
-pub whole_text : (text : List ℕ) (entries ends : List (List ℕ)) (after : List ℕ) → text ≡ text_of_lines entries → after ≡ text ++ text_of_lines ends → after ≡ text_of_lines (entries ++ ends)
+pub whole_text : (text : List ℕ) (entries ends : List (List ℕ)) (after : List ℕ) → text ≡ text_of_lines entries
+    → after ≡ text ++ text_of_lines ends → after ≡ text_of_lines (entries ++ ends)
 whole_text text entries ends after first then = then ∙ ap (λ (t : List ℕ). t ++ text_of_lines ends) first ∙ sym (text-append entries ends)

@@ -41,26 +41,31 @@ PacksWithin s (packs u k v) = IsWithin s u k
 PacksWithin s _ = Unit {0}
 
 -- the place is that of a word from a place on
-places_within : (P : BlockLine → Type 0) (u k : ℕ) (us : List Given) → ((i : ℕ) (v : Option ℕ) → i < length us → P (packs u (k + i) v)) → AllLines P (packs_from u k us)
+places_within : (P : BlockLine → Type 0) (u k : ℕ) (us : List Given)
+    → ((i : ℕ) (v : Option ℕ) → i < length us → P (packs u (k + i) v)) → AllLines P (packs_from u k us)
 places_within P u k [] h = no_lines P
 places_within P u k (x ∷ us) h =
     one_more P (packs u k x.setup) (packs_from u (k + 1) us) (subst (λ (m : ℕ). P (packs u m x.setup)) (omega arith) (h 0 x.setup (omega arith)))
     (places_within P u (k + 1) us (λ i v lt. subst (λ (m : ℕ). P (packs u m v)) (omega arith) (h (i + 1) v (omega (arith, lt)))))
 
-blocks_within : (P : BlockLine → Type 0) (u : ℕ) (bs : List Block) → ((i k : ℕ) (b : Block) (v : Option ℕ) → slice_get bs i ≡ Some b → k < length b.uses → P (packs (u + i) k v)) → AllLines P (packs_for u bs)
+blocks_within : (P : BlockLine → Type 0) (u : ℕ) (bs : List Block)
+    → ((i k : ℕ) (b : Block) (v : Option ℕ) → slice_get bs i ≡ Some b → k < length b.uses → P (packs (u + i) k v))
+    → AllLines P (packs_for u bs)
 blocks_within P u [] h = no_lines P
 blocks_within P u (b ∷ bs) h =
     lines_append P (packs_from u 0 b.uses) (packs_for (u + 1) bs)
     (places_within P u 0 b.uses (λ i v lt. subst (λ (m : ℕ). P (packs m (0 + i) v)) (omega arith) (h 0 (0 + i) b v refl (omega (arith, lt)))))
     (blocks_within P (u + 1) bs (λ i k c v e lt. subst (λ (m : ℕ). P (packs m k v)) (omega arith) (h (suc i) k c v e lt)))
 
-in_take : {A : Type 0} (n i : ℕ) (xs : List A) (x : A) → slice_get (take n xs) i ≡ Some x → (i < n) × (slice_get xs i ≡ Some x)
+in_take : {A : Type 0} (n i : ℕ) (xs : List A) (x : A) → slice_get (take n xs) i ≡ Some x
+    → (i < n) × (slice_get xs i ≡ Some x)
 in_take zero i xs x e = absurd cc
 in_take (suc n) i [] x e = absurd cc
 in_take (suc n) zero (y ∷ xs) x e = (omega arith, e)
 in_take (suc n) (suc i) (y ∷ xs) x e = let p = in_take n i xs x e in (omega (arith, p.0), p.1)
 
-thread_within : (s : Script) (i k : ℕ) (b : Block) → slice_get (thread_blocks s) i ≡ Some b → k < length b.uses → IsWithin s (1 + i) k
+thread_within : (s : Script) (i k : ℕ) (b : Block) → slice_get (thread_blocks s) i ≡ Some b → k < length b.uses
+    → IsWithin s (1 + i) k
 thread_within s i k b e lt =
     let p = in_take s.thread_count (suc i) s.blocks b (sym (past_first i (take s.thread_count s.blocks)) ∙ e) in
     let is : thread_block s (suc i) ≡ Some b = ap (λ (t : Bool). cond t (slice_get s.blocks (suc i)) None) (less (suc i) s.thread_count p.0) ∙ p.1 in
@@ -76,7 +81,8 @@ setup_within s =
     (said_lines (PacksWithin s) (statements_in (slice_get s.blocks 0)) (λ n x e. tt))
     (blocks_within (PacksWithin s) 1 (thread_blocks s) (λ i k b v e lt. thread_within s i k b e lt))
 
-pub packs_within : (s : Script) (n u k : ℕ) (v : Option ℕ) → slice_get (setup_lines s) n ≡ Some (packs u k v) → IsWithin s u k
+pub packs_within : (s : Script) (n u k : ℕ) (v : Option ℕ) → slice_get (setup_lines s) n ≡ Some (packs u k v)
+    → IsWithin s u k
 packs_within s n u k v e = setup_within s n (packs u k v) e
 
 -- ---- places that are claimed
@@ -105,5 +111,6 @@ claimed s (suc t) =
     lines_append (ClaimsWithin (length us)) (claims_from 0 us) (map says xs)
     (claim_places (length us) 0 us (omega arith)) (said_lines (ClaimsWithin (length us)) xs (λ m x e. tt))
 
-pub claims_within : (s : Script) (t n k v : ℕ) → slice_get (thread_lines s t) n ≡ Some (claims k v) → k < length (uses_in (thread_block s t))
+pub claims_within : (s : Script) (t n k v : ℕ) → slice_get (thread_lines s t) n ≡ Some (claims k v)
+    → k < length (uses_in (thread_block s t))
 claims_within s t n k v e = claimed s t n (claims k v) e

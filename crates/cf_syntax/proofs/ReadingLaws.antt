@@ -42,11 +42,13 @@ ok_has {A = A} {E = E} P x h = record { has = λ y e. subst P (ap (λ (r : Resul
 err_has : {A E : Type 0} (P : A → Type 0) (d : E) → OkHas {A = A} {E = E} P (Err d)
 err_has P d = record { has = λ y e. absurd cc }
 
-then_has : {A B E : Type 0} (P : B → Type 0) (r : Result A E) (f : A → Result B E) → ((x : A) → r ≡ Ok x → OkHas P (f x)) → OkHas P (r >>= f)
+then_has : {A B E : Type 0} (P : B → Type 0) (r : Result A E) (f : A → Result B E)
+    → ((x : A) → r ≡ Ok x → OkHas P (f x)) → OkHas P (r >>= f)
 then_has P (Ok x) f h = h x refl
 then_has P (Err e) f h = err_has P e
 
-either_has : {A E : Type 0} (P : A → Type 0) (b : Bool) (x y : Result A E) → OkHas P x → OkHas P y → OkHas P (cond b x y)
+either_has : {A E : Type 0} (P : A → Type 0) (b : Bool) (x y : Result A E) → OkHas P x → OkHas P y
+    → OkHas P (cond b x y)
 either_has P true x y h k = h
 either_has P false x y h k = k
 
@@ -80,15 +82,18 @@ AllNow (r ∷ rows) = (is_now r.form ≡ true) × AllNow rows
 all_now : AllNow forms_now
 all_now = (refl, (refl, (refl, (refl, (refl, (refl, (refl, (refl, (refl, (refl, (refl, (refl, (refl, (refl, (refl, (refl, (refl, (refl, (refl, (refl, (refl, (refl, (refl, (refl, (refl, (refl, (refl, (refl, (refl, (refl, (refl, (refl, (refl, (refl, (refl, (refl, (refl, (refl, (refl, (refl, (refl, (refl, (refl, (refl, (refl, (refl, (refl, (refl, (refl, (refl, tt))))))))))))))))))))))))))))))))))))))))))))))))))
 
-found_now : (test : FormWord → Bool) (rows : List FormWord) → AllNow rows → (r : FormWord) → find_row test rows ≡ Some r → is_now r.form ≡ true
+found_now : (test : FormWord → Bool) (rows : List FormWord) → AllNow rows → (r : FormWord) → find_row test rows ≡ Some r
+    → is_now r.form ≡ true
 found_now test [] all r e = absurd cc
 found_now test (x ∷ rows) all r e = by (test x) e (found_now test rows all.1 r)
   where
-    by : (b : Bool) → cond b (Some x) (find_row test rows) ≡ Some r → (find_row test rows ≡ Some r → is_now r.form ≡ true) → is_now r.form ≡ true
+    by : (b : Bool) → cond b (Some x) (find_row test rows) ≡ Some r
+        → (find_row test rows ≡ Some r → is_now r.form ≡ true) → is_now r.form ≡ true
     by true e rest = let same : x ≡ r = cc in subst (λ (y : FormWord). is_now y.form ≡ true) same all.0
     by false e rest = rest e
 
-needed_now : (reason : Reason) (o : Option FormWord) → ((r : FormWord) → o ≡ Some r → is_now r.form ≡ true) → OkHas (λ (r : FormWord). is_now r.form ≡ true) (needed reason o)
+needed_now : (reason : Reason) (o : Option FormWord) → ((r : FormWord) → o ≡ Some r → is_now r.form ≡ true)
+    → OkHas (λ (r : FormWord). is_now r.form ≡ true) (needed reason o)
 needed_now reason None h = err_has (λ (r : FormWord). is_now r.form ≡ true) reason
 needed_now reason (Some r) h = ok_has (λ (r : FormWord). is_now r.form ≡ true) r (h r refl)
 
@@ -102,7 +107,8 @@ form_now ws =
 abbrev OfStage : Statement → Type 0
 OfStage x = is_of_stage x ≡ true
 
-literal_stage : (text : Result (List ℕ) Reason) (statement : List ℕ → Statement) → ((t : List ℕ) → OfStage (statement t)) → OkHas OfStage (with_literal text statement)
+literal_stage : (text : Result (List ℕ) Reason) (statement : List ℕ → Statement)
+    → ((t : List ℕ) → OfStage (statement t)) → OkHas OfStage (with_literal text statement)
 literal_stage (Ok t) statement h = ok_has OfStage (statement t) (h t)
 literal_stage (Err e) statement h = err_has OfStage e
 
@@ -134,7 +140,9 @@ module _ (classes : List ClassLine) (threads : List (List ℕ)) (ns : Numbers) (
   form_stage forms.Post now = absurd cc
   form_stage form now = ok_has OfStage _ refl
 
-statement_stage : (classes : List ClassLine) (threads : List (List ℕ)) (in_handler : Bool) (names : Names) (ws : List (List ℕ)) → OkHas (λ (x : With Statement). OfStage x.value) (statement_of classes threads in_handler names ws)
+statement_stage : (classes : List ClassLine) (threads : List (List ℕ)) (in_handler : Bool) (names : Names)
+    (ws : List (List ℕ))
+    → OkHas (λ (x : With Statement). OfStage x.value) (statement_of classes threads in_handler names ws)
 unfolding statement_of
 statement_stage classes threads in_handler names ws =
     let P : With Statement → Type 0 = λ x. OfStage x.value in
@@ -171,7 +179,8 @@ one_more [] x all h (suc n) y e = absurd cc
 one_more (z ∷ xs) x all h zero y e = all zero y e
 one_more (z ∷ xs) x all h (suc n) y e = one_more xs x (λ m w q. all (suc m) w q) h n y e
 
-one_block_more : (bs : List Block) (b : Block) → BlocksOfStage bs → AllOfStage b.statements → BlocksOfStage (bs ++ b ∷ [])
+one_block_more : (bs : List Block) (b : Block) → BlocksOfStage bs → AllOfStage b.statements
+    → BlocksOfStage (bs ++ b ∷ [])
 one_block_more [] b all h zero = h
 one_block_more [] b all h (suc n) = nothing_said
 one_block_more (c ∷ bs) b all h zero = all zero
@@ -211,12 +220,14 @@ outside_reads r ws h =
     (either_has ReadsOfStage (is_word ws 0 (codes "thread")) (thread_line r ws) handlers (thread_reads r ws h)
     (either_has ReadsOfStage (is_word ws 0 (codes "handler")) (handler_line r ws) refused (handler_reads r ws h) (err_has ReadsOfStage Word))))
 
-end_reads : (r : Reading) (b : Opened) (ws : List (List ℕ)) → ReadsOfStage r → AllOfStage b.statements → OkHas ReadsOfStage (end_line r b ws)
+end_reads : (r : Reading) (b : Opened) (ws : List (List ℕ)) → ReadsOfStage r → AllOfStage b.statements
+    → OkHas ReadsOfStage (end_line r b ws)
 unfolding end_line
 end_reads r b ws h of =
     then_has ReadsOfStage (require Arity (eqb (length ws) 1)) _ (λ a p. ok_has ReadsOfStage _ (record { ended = one_block_more r.blocks _ h.ended of; opened = tt }))
 
-said_reads : (threads : List (List ℕ)) (r : Reading) (b : Opened) (ws : List (List ℕ)) → ReadsOfStage r → AllOfStage b.statements → OkHas ReadsOfStage (statement_line threads r b ws)
+said_reads : (threads : List (List ℕ)) (r : Reading) (b : Opened) (ws : List (List ℕ)) → ReadsOfStage r
+    → AllOfStage b.statements → OkHas ReadsOfStage (statement_line threads r b ws)
 unfolding statement_line
 said_reads threads r b ws h of =
     then_has ReadsOfStage (statement_of r.classes threads (is_handler b.kind) r.names ws) _ (λ x e. ok_has ReadsOfStage _ (record {
@@ -224,11 +235,13 @@ said_reads threads r b ws h of =
       opened = one_more b.statements x.value of (has_ok (λ (y : With Statement). OfStage y.value) (statement_of r.classes threads (is_handler b.kind) r.names ws) x e (statement_stage r.classes threads (is_handler b.kind) r.names ws));
     }))
 
-inside_reads : (threads : List (List ℕ)) (r : Reading) (b : Opened) (ws : List (List ℕ)) → ReadsOfStage r → AllOfStage b.statements → OkHas ReadsOfStage (inside threads r b ws)
+inside_reads : (threads : List (List ℕ)) (r : Reading) (b : Opened) (ws : List (List ℕ)) → ReadsOfStage r
+    → AllOfStage b.statements → OkHas ReadsOfStage (inside threads r b ws)
 inside_reads threads r b ws h of =
     either_has ReadsOfStage (is_word ws 0 (codes "end")) (end_line r b ws) (statement_line threads r b ws) (end_reads r b ws h of) (said_reads threads r b ws h of)
 
-place_reads : (threads : List (List ℕ)) (r : Reading) (o : Option Opened) (ws : List (List ℕ)) → ReadsOfStage r → OpenOfStage o → OkHas ReadsOfStage (place_line threads r o ws)
+place_reads : (threads : List (List ℕ)) (r : Reading) (o : Option Opened) (ws : List (List ℕ)) → ReadsOfStage r
+    → OpenOfStage o → OkHas ReadsOfStage (place_line threads r o ws)
 place_reads threads r None ws h of = outside_reads r ws h
 place_reads threads r (Some b) ws h of = inside_reads threads r b ws h of
 
@@ -236,12 +249,14 @@ header_reads : (r : Reading) (ws : List (List ℕ)) → ReadsOfStage r → OkHas
 unfolding header_line
 header_reads r ws h = then_has ReadsOfStage (require Header (is_header ws)) _ (λ a p. ok_has ReadsOfStage r h)
 
-spoken_reads : (threads : List (List ℕ)) (r : Reading) (l : List ℕ) → ReadsOfStage r → OkHas ReadsOfStage (spoken_line threads r l)
+spoken_reads : (threads : List (List ℕ)) (r : Reading) (l : List ℕ) → ReadsOfStage r
+    → OkHas ReadsOfStage (spoken_line threads r l)
 unfolding spoken_line
 spoken_reads threads r l h =
     then_has ReadsOfStage (needed reasons.Text (words l)) _ (λ ws p. either_has ReadsOfStage (eqb r.count 0) (header_line r ws) (place_line threads r r.open_block ws) (header_reads r ws h) (place_reads threads r r.open_block ws h h.opened))
 
-line_reads : (threads : List (List ℕ)) (r : Reading) (l : List ℕ) → ReadsOfStage r → OkHas ReadsOfStage (after_line threads r l)
+line_reads : (threads : List (List ℕ)) (r : Reading) (l : List ℕ) → ReadsOfStage r
+    → OkHas ReadsOfStage (after_line threads r l)
 unfolding after_line
 line_reads threads r l h =
     then_has ReadsOfStage (require NotUtf8 (is_utf8 l)) _ (λ a p. then_has ReadsOfStage (cond (nat_lt 0 r.count && says_nothing l) (Ok r) (spoken_line threads r l)) _ (λ s e.
@@ -250,11 +265,13 @@ line_reads threads r l h =
 
 -- ---- the lines of a text
 
-numbered_has : {A : Type 0} (P : A → Type 0) (count : ℕ) (r : Result A Reason) → OkHas P r → OkHas P (on_line_after count r)
+numbered_has : {A : Type 0} (P : A → Type 0) (count : ℕ) (r : Result A Reason) → OkHas P r
+    → OkHas P (on_line_after count r)
 numbered_has P count (Ok x) h = ok_has P x (h.has x refl)
 numbered_has P count (Err e) h = err_has P _
 
-all_reads : (threads : List (List ℕ)) (r : Reading) (ls : List (List ℕ)) → ReadsOfStage r → OkHas ReadsOfStage (read_from threads r ls)
+all_reads : (threads : List (List ℕ)) (r : Reading) (ls : List (List ℕ)) → ReadsOfStage r
+    → OkHas ReadsOfStage (read_from threads r ls)
 all_reads threads r [] h = ok_has ReadsOfStage r h
 all_reads threads r (l ∷ ls) h =
     then_has ReadsOfStage (on_line_after r.count (after_line threads r l)) (λ s. read_from threads s ls)

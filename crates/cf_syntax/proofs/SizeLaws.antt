@@ -147,7 +147,8 @@ named_grown : (w : List ℕ) (hs : List (List ℕ)) → position_or_len (bytes_e
 named_grown w hs lt = named_by (list_any (bytes_eq w) hs) w hs refl lt
 
 -- a test that had to pass
-pub passed : {A : Type 0} (t : Bool) (x y : A) (reason : Reason) → cond t (Ok x) (Err reason) ≡ Ok y → (t ≡ true) × (x ≡ y)
+pub passed : {A : Type 0} (t : Bool) (x y : A) (reason : Reason) → cond t (Ok x) (Err reason) ≡ Ok y
+    → (t ≡ true) × (x ≡ y)
 passed true x y reason e = (refl, cc)
 passed false x y reason e = absurd cc
 

@@ -22,19 +22,22 @@ IsThreadLine (packs u k v) = Unit {0}
 line_is : (x y : BlockLine) → ◌≡◌ {A = Option BlockLine} (Some x) (Some y) → x ≡ y
 line_is x y e = cc
 
-pub lines_append : (P : BlockLine → Type 0) (xs ys : List BlockLine) → AllLines P xs → AllLines P ys → AllLines P (xs ++ ys)
+pub lines_append : (P : BlockLine → Type 0) (xs ys : List BlockLine) → AllLines P xs → AllLines P ys
+    → AllLines P (xs ++ ys)
 lines_append P [] ys a b n y e = b n y e
 lines_append P (x ∷ xs) ys a b zero y e = a zero y e
 lines_append P (x ∷ xs) ys a b (suc n) y e = lines_append P xs ys (λ m z q. a (suc m) z q) b n y e
 
-pub one_more : (P : BlockLine → Type 0) (x : BlockLine) (xs : List BlockLine) → P x → AllLines P xs → AllLines P (x ∷ xs)
+pub one_more : (P : BlockLine → Type 0) (x : BlockLine) (xs : List BlockLine) → P x → AllLines P xs
+    → AllLines P (x ∷ xs)
 one_more P x xs here rest zero y e = subst P (line_is x y e) here
 one_more P x xs here rest (suc n) y e = rest n y e
 
 pub no_lines : (P : BlockLine → Type 0) → AllLines P []
 no_lines P n y e = absurd cc
 
-pub said_lines : (P : BlockLine → Type 0) (xs : List Statement) → ((n : ℕ) (x : Statement) → slice_get xs n ≡ Some x → P (says x)) → AllLines P (map says xs)
+pub said_lines : (P : BlockLine → Type 0) (xs : List Statement)
+    → ((n : ℕ) (x : Statement) → slice_get xs n ≡ Some x → P (says x)) → AllLines P (map says xs)
 said_lines P [] h = no_lines P
 said_lines P (x ∷ xs) h = one_more P (says x) (map says xs) (h zero x refl) (said_lines P xs (λ n z q. h (suc n) z q))
 
@@ -76,7 +79,8 @@ abbrev pub SaysOfStage : BlockLine → Type 0
 SaysOfStage (says x) = is_of_stage x ≡ true
 SaysOfStage _ = Unit {0}
 
-handler_statements : (s : Script) (o : Option ℕ) → IsOfStage s → (n : ℕ) (x : Statement) → slice_get (statements_in (option_and_then (λ b. slice_get s.blocks b) o)) n ≡ Some x → is_of_stage x ≡ true
+handler_statements : (s : Script) (o : Option ℕ) → IsOfStage s → (n : ℕ) (x : Statement)
+    → slice_get (statements_in (option_and_then (λ b. slice_get s.blocks b) o)) n ≡ Some x → is_of_stage x ≡ true
 handler_statements s None of = nothing_said
 handler_statements s (Some b) of = λ n x e. of b n x e
 

@@ -8,8 +8,10 @@ use Rattle.cf_next.proofs.calling.first_call.Given as goal
 abbrev pub invariant-loop-callee : goal.invariant-loop-callee
 invariant-loop-callee g l = record {
   begins : l.rest ≡ take (length l.rest) l.fn.collected;
-  demand : call_demand (g.F.Facts.known l.facts) l.t (kind_of l.kind) (callees_of l.rest) ≡ call_demand (g.F.Facts.known l.facts) l.t (kind_of l.kind) (callees_of l.fn.collected);
-  left : callees_left (g.F.Facts.known l.facts) l.t (kind_of l.kind) (callees_of l.rest) ≡ callees_left (g.F.Facts.known l.facts) l.t (kind_of l.kind) (callees_of l.fn.collected);
+  demand : call_demand (g.F.Facts.known l.facts) l.t (kind_of l.kind)
+      (callees_of l.rest) ≡ call_demand (g.F.Facts.known l.facts) l.t (kind_of l.kind) (callees_of l.fn.collected);
+  left : callees_left (g.F.Facts.known l.facts) l.t (kind_of l.kind)
+      (callees_of l.rest) ≡ callees_left (g.F.Facts.known l.facts) l.t (kind_of l.kind) (callees_of l.fn.collected);
   within : length l.rest ≤ length l.fn.collected;
 }
 

@@ -8,8 +8,10 @@ use Rattle.cf_next.proofs.work.first_work.Given as goal
 abbrev pub invariant-loop-item : goal.invariant-loop-item
 invariant-loop-item g l = record {
   begins : l.rest ≡ take (length l.rest) l.fn.work;
-  demand : work_demand (g.F.Facts.known l.facts) (works_of l.rest) ≡ work_demand (g.F.Facts.known l.facts) (works_of l.fn.work);
-  left : work_left (g.F.Facts.known l.facts) (works_of l.rest) ≡ work_left (g.F.Facts.known l.facts) (works_of l.fn.work);
+  demand : work_demand (g.F.Facts.known l.facts) (works_of l.rest) ≡ work_demand (g.F.Facts.known l.facts)
+      (works_of l.fn.work);
+  left : work_left (g.F.Facts.known l.facts) (works_of l.rest) ≡ work_left (g.F.Facts.known l.facts)
+      (works_of l.fn.work);
   within : length l.rest ≤ length l.fn.work;
 }
 

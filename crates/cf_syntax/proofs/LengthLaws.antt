@@ -1,5 +1,5 @@
 -- The blocks of a script whose numbers fit have fewer than 2^32 lines, and the block of a handler a number below 2^16.
-use Rattle.std.proofs.Common.{◌≡◌, ℕ, zero, suc, ◌+◌, ◌*◌, ◌<◌, ◌≤◌, Bool, true, false, cond, ltb, List, [], ◌∷◌, ◌++◌, length, map, drop, take, Option, Some, None, refl, arith}
+use Rattle.std.proofs.Common.{◌≡◌, ℕ, zero, suc, ◌+◌, ◌*◌, ◌<◌, ◌≤◌, Bool, true, false, cond, ltb, List, [], ◌∷◌, length, map, take, Option, Some, None, refl, arith}
 use Rattle.std.specs.Prelude.{IfSome, slice_get, option_and_then}
 use Rattle.std.specs.List.{All}
 use Rattle.std.proofs.lemmas.List.{length-append, length-map, length-drop}
@@ -8,7 +8,7 @@ use Rattle.cf_syntax.specs.declared.script.Block.{Block}
 use Rattle.cf_syntax.specs.declared.script.Given.{Given}
 use Rattle.cf_syntax.specs.declared.script.Handler.{Handler}
 use Rattle.cf_syntax.specs.declared.script.Parts.{Parts}
-use Rattle.cf_syntax.specs.BlockLines.{BlockLine, says, claims_from, packs_from, packs_for, statements_in, uses_in, thread_blocks, after_threads, handler_block, thread_block, block_of_handler, thread_lines, handler_lines}
+use Rattle.cf_syntax.specs.BlockLines.{says, claims_from, packs_from, packs_for, statements_in, uses_in, thread_blocks, after_threads, handler_block, thread_block, block_of_handler, thread_lines, handler_lines}
 use Rattle.cf_syntax.specs.Numbered.{IsPlaced, FitsText, IsNumbered}
 
 all_get : {A : Type 0} (P : A → Type 0) (xs : List A) (i : ℕ) → All P xs → IfSome (slice_get xs i) P

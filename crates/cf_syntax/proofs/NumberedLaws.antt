@@ -1,17 +1,16 @@
 -- A script that is read from a text of at most 1,048,576 bytes has numbers that fit.
-use Rattle.std.proofs.Common.{◌≡◌, ℕ, zero, suc, ◌+◌, ◌-◌, ◌<◌, ◌≤◌, Bool, true, false, cond, not, eqb, ltb, List, [], ◌∷◌, ◌++◌, length, map, drop, replicate, Option, Some, None, Result, Ok, Err, refl, ap, sym, ◌∙◌, arith, subst, append-nil}
-use Rattle.std.specs.Prelude.{◌||◌, ◌&&◌, codes, IfSome, nat_lt}
+use Rattle.std.proofs.Common.{◌≡◌, ℕ, suc, ◌+◌, ◌<◌, ◌≤◌, Bool, true, false, cond, not, eqb, ltb, List, [], ◌∷◌, ◌++◌, length, map, drop, replicate, Option, Some, None, Result, Ok, Err, refl, ap, sym, ◌∙◌, arith, subst, append-nil}
+use Rattle.std.specs.Prelude.{◌||◌, ◌&&◌, codes, IfSome}
 use Rattle.std.specs.Option.{option_map}
 use Rattle.std.specs.List.{All, list_any, position_or_len}
 use Rattle.std.specs.Str.{bytes_eq, is_utf8}
 use Rattle.std.proofs.lemmas.Bool.{and_parts, eqb-true, ltb-true}
 use Rattle.std.proofs.lemmas.List.{length-append, length-drop, length-map, drop-append-le, drop_all}
 use Rattle.std.proofs.lemmas.List.Elements.{All-nil, All-push, All-map}
-use Rattle.cf_ids.specs.declared.limits.TheConstants.{SCRIPT_BYTES, THREADS}
+use Rattle.cf_ids.specs.declared.limits.TheConstants.{SCRIPT_BYTES}
 use Rattle.cf_syntax.specs.declared.script.ClassLine.{ClassLine}
 use Rattle.cf_syntax.specs.declared.script.Block.{Block}
 use Rattle.cf_syntax.specs.declared.script.Given.{Given}
-use Rattle.cf_syntax.specs.declared.script.Handler.{Handler}
 use Rattle.cf_syntax.specs.declared.script.Parts.{Parts}
 use Rattle.cf_syntax.specs.declared.place.Place.TheVariants.{Between}
 use Rattle.cf_syntax.specs.declared.form.BlockKind.{BlockKind}
@@ -19,18 +18,17 @@ use Rattle.cf_syntax.specs.declared.form.BlockKind.TheVariants as kinds
 use Rattle.cf_syntax.specs.declared.form.NameTable.TheVariants as tables
 use Rattle.cf_syntax.specs.declared.form.Operand.TheVariants as operands
 use Rattle.cf_syntax.specs.declared.statement.Statement.{Statement}
-use Rattle.cf_syntax.specs.declared.refusal.Refusal.{Refusal}
 use Rattle.cf_syntax.specs.declared.refusal.Reason.{Reason}
 use Rattle.cf_syntax.specs.declared.refusal.Reason.TheVariants.{NotUtf8, Header, Order, Arity, Twice, TooMany, Open, NoSetup}
 use Rattle.cf_syntax.specs.declared.refusal.Reason.TheVariants as reasons
 use Rattle.cf_syntax.specs.Lines.{pieces, without_return, lines}
 use Rattle.cf_syntax.specs.Words.{says_nothing, words}
-use Rattle.cf_syntax.specs.FormWords.{◌>>=◌, require, needed, form_of, are_of, Names, With, numbered, numbers_of, no_numbers}
-use Rattle.cf_syntax.specs.FormStatements.{Numbers, word_at, statement_by}
+use Rattle.cf_syntax.specs.FormWords.{require, needed, form_of, are_of, Names, With, numbered, numbers_of, no_numbers}
+use Rattle.cf_syntax.specs.FormStatements.{word_at, statement_by}
 use Rattle.cf_syntax.specs.Numbered.{IsPlaced, FitsText, IsNumbered}
-use Rattle.cf_syntax.specs.Text.{Opened, Reading, start, is_word, is_header, class_operands, handler_operands, thread_operands, has_words, class_has_name, block_has_name, class_by, class_line, new_block, setup_line, place_of, setup_variables, givens_of, used_words, numbered_uses, uses_of, thread_line, handler_line, outside, is_handler, close_block, end_line, statement_of, with_statement, statement_line, inside, place_line, header_line, spoken_line, after_line, handler_named, ended, script_at, whole, on_line_after, read_from, thread_names, script_by, script_of}
+use Rattle.cf_syntax.specs.Text.{Opened, Reading, start, is_word, is_header, class_operands, handler_operands, thread_operands, has_words, class_has_name, block_has_name, class_by, class_line, new_block, setup_line, setup_variables, givens_of, used_words, numbered_uses, uses_of, thread_line, handler_line, outside, is_handler, close_block, end_line, statement_of, with_statement, statement_line, place_line, header_line, spoken_line, after_line, handler_named, ended, script_at, whole, on_line_after, read_from, thread_names, script_by, script_of}
 use Rattle.cf_syntax.proofs.RefusalLaws.{bind_ok}
-use Rattle.cf_syntax.proofs.SizeLaws.{EachWithin, CountWithin, pieces_within, pieces_count, lines_within, within_more, words_count, Grown, grown_same, passed, read_as, ok_is, numbered_grown, numbers_grown, counted, counted_few, member, Named, named_on, named_push, with_member}
+use Rattle.cf_syntax.proofs.SizeLaws.{EachWithin, CountWithin, pieces_within, pieces_count, lines_within, within_more, words_count, Grown, passed, read_as, ok_is, numbered_grown, numbers_grown, counted_few, member, Named, named_on, named_push, with_member}
 
 -- ---- what holds as a text is read
 

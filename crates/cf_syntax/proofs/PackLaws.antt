@@ -1,5 +1,5 @@
 -- What setup packs: one line for each place of each thread's parcel, and no other block has such a line.
-use Rattle.std.proofs.Common.{◌≡◌, ℕ, zero, suc, ◌+◌, ◌<◌, ◌∙◌, ◌∷◌, ◌++◌, Bool, true, false, List, [], map, length, take, drop, Option, Some, None, refl, sym, ap, subst, ltb, cond, arith}
+use Rattle.std.proofs.Common.{◌≡◌, ℕ, zero, suc, ◌+◌, ◌<◌, ◌∙◌, ◌∷◌, Bool, true, List, [], map, length, take, Option, Some, None, refl, sym, ap, subst, ltb, cond, arith}
 use Rattle.std.specs.Prelude.{slice_get}
 use Rattle.std.proofs.lemmas.Bool.Decides.{nat_tests}
 use Rattle.cf_syntax.specs.declared.statement.Statement.{Statement}

@@ -1,5 +1,5 @@
 -- The statements of a text's script are of the forms that the reader takes.
-use Rattle.std.proofs.Common.{◌≡◌, ℕ, zero, suc, ◌+◌, Bool, true, false, cond, eqb, List, [], ◌∷◌, ◌++◌, length, drop, Option, Some, None, Result, Ok, Err, refl, sym, ap, ◌∙◌, subst}
+use Rattle.std.proofs.Common.{◌≡◌, ℕ, zero, suc, Bool, true, false, cond, eqb, List, [], ◌∷◌, ◌++◌, length, drop, Option, Some, None, Result, Ok, Err, refl, ap, subst}
 use Rattle.std.specs.Prelude.{ℤ, slice_get, codes, nat_lt, not, ◌&&◌, ◌||◌}
 use Rattle.std.specs.List.{list_any}
 use Rattle.std.specs.Str.{is_utf8}
@@ -16,7 +16,6 @@ use Rattle.cf_syntax.specs.declared.form.NameTable.TheVariants as tables
 use Rattle.cf_syntax.specs.declared.refusal.Reason.{Reason}
 use Rattle.cf_syntax.specs.declared.refusal.Reason.TheVariants.{NotUtf8, Header, Word, Kind, Order, Arity, Twice, TooMany, Number}
 use Rattle.cf_syntax.specs.declared.refusal.Reason.TheVariants as reasons
-use Rattle.cf_syntax.specs.declared.refusal.Refusal.{Refusal}
 use Rattle.cf_syntax.specs.BlockLines.{statements_in}
 use Rattle.cf_syntax.specs.FormTable.{FormWord, forms_now}
 use Rattle.cf_syntax.specs.FormStatements.{Numbers, word_at, var, kind_at, integer_at, with_literal, number_by, statement_by}

@@ -1,12 +1,11 @@
 -- How long lines are and how many words they have, and how the names of handlers grow as a text is read.
-use Rattle.std.proofs.Common.{◌≡◌, ℕ, zero, suc, ◌+◌, ◌-◌, ◌<◌, ◌≤◌, Bool, true, false, cond, not, eqb, ltb, List, [], ◌∷◌, ◌++◌, length, map, take, drop, replicate, Option, Some, None, Result, Ok, Err, refl, ap, sym, ◌∙◌, arith, subst, append_assoc, append-nil}
-use Rattle.std.specs.Prelude.{◌||◌, codes, slice_index, option_and_then}
+use Rattle.std.proofs.Common.{◌≡◌, ℕ, zero, suc, ◌+◌, ◌-◌, ◌<◌, ◌≤◌, Bool, true, false, cond, not, eqb, ltb, List, [], ◌∷◌, ◌++◌, length, map, take, Option, Some, None, Result, Ok, Err, refl, ap, sym, ◌∙◌, arith, subst, append_assoc, append-nil}
+use Rattle.std.specs.Prelude.{◌||◌, slice_index, option_and_then}
 use Rattle.std.specs.Option.{option_map}
-use Rattle.std.specs.List.{All, list_any, position_or_len}
-use Rattle.std.specs.Str.{bytes_eq, is_utf8}
-use Rattle.std.proofs.lemmas.Bool.{eqb-true, ltb-true}
-use Rattle.std.proofs.lemmas.List.{length-append, length-drop, length-map, drop-append-le, drop_all}
-use Rattle.std.proofs.lemmas.List.Elements.{All-nil, All-push, All-map}
+use Rattle.std.specs.List.{list_any, position_or_len}
+use Rattle.std.specs.Str.{bytes_eq}
+use Rattle.std.proofs.lemmas.Bool.{ltb-true}
+use Rattle.std.proofs.lemmas.List.{length-append}
 use Rattle.std.proofs.lemmas.Slice.Eq.{bytes_eq-Decides}
 use Rattle.cf_syntax.specs.declared.place.Place.{Place}
 use Rattle.cf_syntax.specs.declared.place.Place.TheVariants.{Between, Plain, Quoted, Escaped, Closed}
@@ -14,9 +13,9 @@ use Rattle.cf_syntax.specs.declared.form.NameTable.{NameTable}
 use Rattle.cf_syntax.specs.declared.form.NameTable.TheVariants as tables
 use Rattle.cf_syntax.specs.declared.form.Operand.{Operand}
 use Rattle.cf_syntax.specs.declared.refusal.Reason.{Reason}
-use Rattle.cf_syntax.specs.Lines.{in_first, pieces, without_return, lines}
-use Rattle.cf_syntax.specs.Words.{goes, past_blank, with_byte, words_from, words}
-use Rattle.cf_syntax.specs.FormWords.{◌>>=◌, Names, With, names_in, limit_of, with_names, with_name, numbered, table_of, numbered_word, numbers_of}
+use Rattle.cf_syntax.specs.Lines.{in_first, pieces, without_return}
+use Rattle.cf_syntax.specs.Words.{goes, past_blank, with_byte, words_from}
+use Rattle.cf_syntax.specs.FormWords.{Names, With, names_in, limit_of, with_names, with_name, numbered, table_of, numbered_word, numbers_of}
 use Rattle.cf_syntax.specs.FormStatements.{Numbers}
 use Rattle.cf_syntax.proofs.RefusalLaws.{bind_ok}
 

@@ -1,5 +1,5 @@
 -- The numbers of a script fit those of actions. This project's own. A script that is read from a text has them.
-use Rattle.std.specs.Prelude.{ℕ, ◌≤◌, ◌<◌, length, IfSome}
+use Rattle.std.specs.Prelude.{◌≤◌, ◌<◌, length, IfSome}
 use Rattle.std.specs.List.{All}
 use Rattle.cf_ids.specs.declared.limits.TheConstants.{SCRIPT_BYTES, THREADS}
 use Rattle.cf_syntax.specs.declared.script.Block.{Block}

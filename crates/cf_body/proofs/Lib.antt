@@ -1,5 +1,5 @@
 -- The files of lemmas of cf_body.
-pub mod Showing
+pub mod Wording
 pub mod Pairing
 pub mod Placing
 pub mod Growing

@@ -1,5 +1,5 @@
 -- What bodies contain, and how their members are described.
-use Rattle.std.specs.Prelude.{ℕ, Bool, List, [], ◌∷◌, ◌++◌, codes, map, length, take, nat_lt, slice_get, unwrap_or}
+use Rattle.std.specs.Prelude.{ℕ, Bool, List, [], ◌∷◌, ◌++◌, codes, map, length, take, nat_lt}
 use Rattle.std.specs.Fmt.{decimal}
 use Rattle.std.specs.List.{join_with_byte}
 use Rattle.cf_ids.specs.Words.{number_word}
@@ -88,10 +88,6 @@ words_of (set_content plain members) = map cell_word members
 words_of (bag_content plain rows) = map row_word rows
 words_of (heap_content plain adds rows) = []
 words_of (item_content handler info valid item) = member_word info ∷ []
-
--- the word at a place, and nothing where there is none
-abbrev pub word_at : List (List ℕ) → ℕ → List ℕ
-word_at words k = unwrap_or (slice_get words k) []
 
 -- the members in brackets, by their words
 abbrev pub listed : Content → List ℕ

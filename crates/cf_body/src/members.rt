@@ -4,7 +4,8 @@ ghost use Rattle.std.specs.Fmt.{decimal};
 ghost use Rattle.std.specs.List.{join_with_byte};
 ghost use Rattle.cf_contents.specs.Descriptions.{member_word};
 ghost use Rattle.cf_ids.specs.Words.{number_word};
-ghost use Rattle.cf_body.specs.Bodies.{content_of, members_in, word_at, words_of, listed};
+ghost use Rattle.cf_contents.specs.Descriptions.{word_at};
+ghost use Rattle.cf_body.specs.Bodies.{content_of, members_in, words_of, listed};
 
 use crate::body::Kind;
 use crate::description::push_more;

@@ -6,3 +6,4 @@ pub mod SlotLaws
 pub mod FormLaws
 pub mod BodyLaws
 pub mod Sizes
+pub mod Showing

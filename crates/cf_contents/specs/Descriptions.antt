@@ -1,5 +1,5 @@
 -- How objects are described. This project's own.
-use Rattle.std.specs.Prelude.{ℕ, ◌-◌, Bool, List, [], ◌∷◌, ◌++◌, codes, length, map, take, Option, Some, None, nat_lt, slice_get, slice_index_or, encode_utf8, ◌==◌, if◌then◌else◌}
+use Rattle.std.specs.Prelude.{ℕ, ◌-◌, Bool, List, [], ◌∷◌, ◌++◌, codes, length, map, take, Option, Some, None, nat_lt, slice_get, slice_index_or, encode_utf8, unwrap_or, ◌==◌, if◌then◌else◌}
 use Rattle.std.specs.Char.Utf16.{utf16_lossy_chars}
 use Rattle.std.specs.List.{flat_map, join_with_byte}
 use Rattle.std.specs.Fmt.{decimal, signed_decimal}
@@ -78,6 +78,10 @@ row_word row = number_word row.0.id ++ codes "x" ++ decimal row.1
 abbrev pub least_word : Option ℕ → List ℕ
 least_word None = []
 least_word (Some o) = codes " min " ++ number_word o
+
+-- the word at a place, and nothing if there is none
+abbrev pub word_at : List (List ℕ) → ℕ → List ℕ
+word_at words k = unwrap_or (slice_get words k) []
 
 -- members in brackets, by their words: eight of them at most
 abbrev pub in_brackets : {A : Type 0} → (A → List ℕ) → List A → List ℕ

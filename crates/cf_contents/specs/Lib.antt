@@ -5,4 +5,6 @@ pub mod Keys
 pub mod Deeds
 pub mod Descriptions
 pub mod Stores
+pub mod Groups
+pub mod Seen
 pub mod Examples

@@ -1,5 +1,6 @@
 -- The files of lemmas of cf_next.
 pub mod LineLaws
+pub mod StatementLaws
 pub mod PackLaws
 pub mod RowLaws
 pub mod CallLaws

@@ -1,5 +1,5 @@
 -- The files of lemmas of cf_plain.
 pub mod Placing
 pub mod Ranking
-pub mod Showing
+pub mod Wording
 pub mod Listing

@@ -25,41 +25,6 @@ origin_of (There o) = deeds.there o
 abbrev pub deed_of : Deed → deeds.Deed
 deed_of d = record { answer = d.answer; origin = origin_of d.origin; change = change_of d.change }
 
--- what is read of an object, if there is one
-abbrev pub read_in : {A : Type 0} → (Content → Option A) → Option Numbered → Option A
-read_in read None = None
-read_in read (Some u) = read u.object.content
-
--- the units of a text
-abbrev pub units_in : Content → Option (List ℕ)
-units_in (text_content mutable units) = Some units
-units_in _ = None
-
--- the units of a mutable text
-abbrev pub mutable_units_in : Content → Option (List ℕ)
-mutable_units_in (text_content true units) = Some units
-mutable_units_in _ = None
-
--- the bytes of mutable data
-abbrev pub mutable_bytes_in : Content → Option (List ℕ)
-mutable_bytes_in (data_content true bytes) = Some bytes
-mutable_bytes_in _ = None
-
--- a number
-abbrev pub number_in : Content → Option Number
-number_in (number_content n) = Some n
-number_in _ = None
-
--- the fields of an instance
-abbrev pub fields_in : Content → Option (List (Option ℕ))
-fields_in (instance_content key fields) = Some fields
-fields_in _ = None
-
--- the elements of an array
-abbrev pub elements_in : Content → Option (List ℕ)
-elements_in (array_content plain os) = Some os
-elements_in _ = None
-
 -- a heap
 abbrev pub heap_in : Content → Option HeapView
 heap_in (heap_content plain adds rows) = Some (record { plain = plain; adds = adds; rows = rows })

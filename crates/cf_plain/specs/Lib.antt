@@ -3,5 +3,4 @@ pub mod Forms
 pub mod Heaps
 pub mod Views
 pub mod Deeds
-pub mod Groups
 pub mod Words

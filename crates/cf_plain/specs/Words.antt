@@ -1,5 +1,5 @@
 -- The members of a content as words, for descriptions.
-use Rattle.std.specs.Prelude.{ℕ, List, [], ◌∷◌, ◌++◌, codes, map, length, take, nat_lt, slice_get, unwrap_or}
+use Rattle.std.specs.Prelude.{ℕ, List, [], ◌∷◌, ◌++◌, codes, map, length, take, nat_lt}
 use Rattle.std.specs.Fmt.{decimal}
 use Rattle.std.specs.List.{join_with_byte}
 use Rattle.cf_ids.specs.Words.{number_word}
@@ -23,10 +23,6 @@ members_in (dictionary_content plain pairs) = length pairs
 members_in (set_content plain members) = length members
 members_in (bag_content plain rows) = length rows
 members_in _ = 0
-
--- the word at a place, and nothing if there is none
-abbrev pub word_at : List (List ℕ) → ℕ → List ℕ
-word_at words k = unwrap_or (slice_get words k) []
 
 -- the members in brackets, by their words
 abbrev pub listed : Content → List ℕ

@@ -4,7 +4,7 @@ ghost use Rattle.cf_ids.specs.declared.answer.Answer.TheVariants as answers;
 ghost use Rattle.cf_contents.specs.Descriptions.{description};
 ghost use Rattle.cf_contents.specs.Deeds.{answering, skipping, unless_split, with_object, with_text, with_mutable_text, with_mutable_data, with_number, text_edit, data_edit, part_of, as_kind, deed_of as deed_in};
 ghost use Rattle.cf_plain.specs.Deeds.{deed_of};
-ghost use Rattle.cf_plain.specs.Groups.{acts_on_content};
+ghost use Rattle.cf_contents.specs.Groups.{acts_on_content};
 
 use crate::change::Change;
 use crate::character::split_fault;

@@ -6,7 +6,8 @@ ghost use Rattle.cf_ids.specs.Words.{number_word};
 ghost use Rattle.cf_contents.specs.Contents.{least_of};
 ghost use Rattle.cf_contents.specs.Descriptions.{more_if, shown_char, characters_of, shown_text, shown_bytes, kind_word, shown_content, least_word, member_word, valid_word, date_word, item_words, description};
 ghost use Rattle.cf_plain.specs.Views.{content_of, item_of};
-ghost use Rattle.cf_plain.specs.Words.{counted_list, listed, members_in, word_at, words_of};
+ghost use Rattle.cf_contents.specs.Descriptions.{word_at};
+ghost use Rattle.cf_plain.specs.Words.{counted_list, listed, members_in, words_of};
 
 use crate::character::char_at;
 use crate::class::class_name;

@@ -4,7 +4,7 @@ ghost use Rattle.cf_contents.specs.Contents.{text_content, data_content, number_
 ghost use Rattle.cf_contents.specs.Keys.{class_line};
 ghost use Rattle.cf_contents.specs.Deeds.{creating, fresh_if, deed_of as deed_in};
 ghost use Rattle.cf_plain.specs.Deeds.{deed_of};
-ghost use Rattle.cf_plain.specs.Groups.{stands_alone};
+ghost use Rattle.cf_contents.specs.Groups.{stands_alone};
 
 use crate::class::class_line;
 use crate::content::Content;

@@ -4,7 +4,7 @@ ghost use Rattle.cf_ids.specs.declared.answer.Answer.TheVariants as answers;
 ghost use Rattle.cf_contents.specs.Contents.{least_of};
 ghost use Rattle.cf_contents.specs.Deeds.{with_object, with_heap, with_key, changing, add_member, binding, adding_pair, setting_pair, replacing_pair, removing_pair, adding_member, setting_member, replacing_member, removing_member, counting_member, object_in_row, removing_least, deed_of as deed_in};
 ghost use Rattle.cf_plain.specs.Deeds.{deed_of};
-ghost use Rattle.cf_plain.specs.Groups.{acts_on_heaps, acts_on_members, acts_on_pairs};
+ghost use Rattle.cf_contents.specs.Groups.{acts_on_heaps, acts_on_members, acts_on_pairs};
 
 use crate::change::Change;
 use crate::deed::Deed;

@@ -2,7 +2,8 @@
 ghost use Rattle.std.specs.Prelude.{◌≡◌, ℕ, IfOk};
 ghost use Rattle.std.specs.Option.{option_map};
 ghost use Rattle.cf_contents.specs.Keys.{numbered, number_of};
-ghost use Rattle.cf_plain.specs.Deeds.{FoundKey, FoundMember, IsKey, IsMember, elements_in, fields_in, heap_in, mutable_bytes_in, mutable_units_in, number_in, read_in, units_in};
+ghost use Rattle.cf_contents.specs.Seen.{elements_in, fields_in, mutable_bytes_in, mutable_units_in, number_in, read_in, units_in};
+ghost use Rattle.cf_plain.specs.Deeds.{FoundKey, FoundMember, IsKey, IsMember, heap_in};
 
 use crate::content::{Content, Object};
 use crate::element::Element;

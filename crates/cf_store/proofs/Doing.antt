@@ -8,7 +8,7 @@ use Rattle.cf_contents.specs.Contents.{Content, text_content, data_content, numb
 use Rattle.cf_contents.specs.Keys.{Numbered, number_of, numbered, with_number_of}
 use Rattle.cf_contents.specs.Deeds as deeds
 use Rattle.cf_body.specs.Bodies.{BodyView, object_in, held_of}
-use Rattle.cf_store.specs.Seen.{read_in, units_in, mutable_units_in}
+use Rattle.cf_contents.specs.Seen.{read_in, units_in, mutable_units_in}
 use Rattle.cf_contents.specs.Stores.{objects_of}
 use Rattle.cf_body.specs.Changes.{CanBe, done_of}
 use Rattle.cf_store.specs.Applies.{CanBeAt, Does, body_at}

@@ -1,6 +1,4 @@
 -- The files of definitions of cf_store.
 pub mod Applies
 pub mod Finds
-pub mod Groups
 pub mod Members
-pub mod Seen

@@ -4,7 +4,7 @@ ghost use Rattle.cf_ids.specs.declared.answer.Answer.TheVariants as answers;
 ghost use Rattle.cf_contents.specs.Descriptions.{description};
 ghost use Rattle.cf_contents.specs.Deeds.{answering, skipping, unless_split, with_object, with_text, with_mutable_text, with_mutable_data, with_number, text_edit, data_edit, part_of, as_kind, deed_of};
 ghost use Rattle.cf_store.specs.Applies.{Does, IsAlone};
-ghost use Rattle.cf_store.specs.Groups.{acts_on_content};
+ghost use Rattle.cf_contents.specs.Groups.{acts_on_content};
 
 use crate::making::copy_bytes;
 use crate::plan::Plan;

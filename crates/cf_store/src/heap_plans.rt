@@ -4,7 +4,7 @@ ghost use Rattle.cf_ids.specs.declared.answer.Answer.TheVariants as answers;
 ghost use Rattle.cf_contents.specs.Contents.{least_of};
 ghost use Rattle.cf_contents.specs.Deeds.{with_heap, with_key, changing, add_member, binding, removing_least, deed_of};
 ghost use Rattle.cf_store.specs.Applies.{Does};
-ghost use Rattle.cf_store.specs.Groups.{acts_on_heaps};
+ghost use Rattle.cf_contents.specs.Groups.{acts_on_heaps};
 
 use crate::plan::Plan;
 use crate::seen::{Found, heap_in};

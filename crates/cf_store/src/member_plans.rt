@@ -3,7 +3,7 @@ ghost use Rattle.std.specs.Prelude.{◌≡◌, true, IfOk};
 ghost use Rattle.cf_contents.specs.Deeds.{adding_member, setting_member, replacing_member, removing_member, counting_member, object_in_row, deed_of};
 ghost use Rattle.cf_store.specs.Applies.{Does};
 ghost use Rattle.cf_store.specs.Members.{IsMember, TakesMembers};
-ghost use Rattle.cf_store.specs.Groups.{acts_on_members};
+ghost use Rattle.cf_contents.specs.Groups.{acts_on_members};
 
 use crate::plan::Plan;
 use crate::seen::Found;

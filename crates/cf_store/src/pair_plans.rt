@@ -3,7 +3,7 @@ ghost use Rattle.std.specs.Prelude.{◌≡◌, true, IfOk};
 ghost use Rattle.cf_contents.specs.Deeds.{with_object, adding_pair, setting_pair, replacing_pair, removing_pair, deed_of};
 ghost use Rattle.cf_store.specs.Applies.{Does};
 ghost use Rattle.cf_store.specs.Finds.{IsFoundPair, IsFound};
-ghost use Rattle.cf_store.specs.Groups.{acts_on_pairs};
+ghost use Rattle.cf_contents.specs.Groups.{acts_on_pairs};
 
 use crate::plan::Plan;
 use crate::seen::{Found, number_of};

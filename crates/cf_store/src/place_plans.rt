@@ -2,7 +2,7 @@
 ghost use Rattle.std.specs.Prelude.{◌≡◌, [], ◌∷◌, Some, None, true, length, slice_get, nat_lt, nat_le};
 ghost use Rattle.cf_contents.specs.Deeds.{with_object, with_elements, with_fields, within, places_edit, binding, in_field, deed_of};
 ghost use Rattle.cf_store.specs.Applies.{Does};
-ghost use Rattle.cf_store.specs.Groups.{acts_on_places};
+ghost use Rattle.cf_contents.specs.Groups.{acts_on_places};
 
 use crate::plan::Plan;
 use crate::seen::{Found, elements_in, fields_in, number_of};

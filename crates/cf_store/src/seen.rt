@@ -3,7 +3,7 @@ ghost use Rattle.std.specs.Prelude.{◌≡◌, map, None};
 ghost use Rattle.std.specs.Option.{option_map};
 ghost use Rattle.cf_contents.specs.Keys.{numbered, number_of};
 ghost use Rattle.cf_body.specs.Bodies.{held_of};
-ghost use Rattle.cf_store.specs.Seen.{read_in, units_in, mutable_units_in, mutable_bytes_in, number_in, fields_in, elements_in, heap_in};
+ghost use Rattle.cf_contents.specs.Seen.{read_in, units_in, mutable_units_in, mutable_bytes_in, number_in, fields_in, elements_in, heap_in};
 ghost use Rattle.cf_contents.specs.Stores.{objects_of};
 
 use cf_array::Array;

@@ -6,7 +6,6 @@ pub mod Entered
 pub mod Forms
 pub mod Going
 pub mod Growing
-pub mod InBlocks
 pub mod LeadLaws
 pub mod LeadWorlds
 pub mod Looks

@@ -33,7 +33,7 @@ use Rattle.cf_world.specs.declared.next.Next.TheVariants as nexts
 use Rattle.cf_world.specs.declared.found.Reserved.{Reserved}
 use Rattle.cf_world.specs.Begun.{AreFrames, IsFound, IsLooked, standing_at}
 use Rattle.cf_world.proofs.Moving.{stand_here}
-use Rattle.cf_world.proofs.InBlocks.{block_statement}
+use Rattle.cf_next.proofs.StatementLaws.{block_statement}
 
 -- ---- a step is plain
 

@@ -1,6 +1,6 @@
 -- Answers to the goals of `description::push_characters`.
 use Rattle.std.proofs.Common.{arith}
-use Rattle.cf_body.proofs.Showing.{Ended, Written-start, Written-next, Ended-whole, Ended-full}
+use Rattle.cf_contents.proofs.Showing.{Ended, Written-start, Written-next, Ended-whole, Ended-full}
 use Rattle.cf_body.proofs.description.push_characters.Goals as goal
 
 pub loop-init : goal.loop-init

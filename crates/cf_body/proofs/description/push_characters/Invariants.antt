@@ -1,5 +1,5 @@
 -- The loop invariants of `description::push_characters`.
-use Rattle.cf_body.proofs.Showing.{Written}
+use Rattle.cf_contents.proofs.Showing.{Written}
 use Rattle.cf_body.proofs.description.push_characters.Given as goal
 
 abbrev pub invariant-loop : goal.invariant-loop

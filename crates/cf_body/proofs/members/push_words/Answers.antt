@@ -1,7 +1,8 @@
 -- Answers to the goals of `members::push_words`.
 use Rattle.std.proofs.Common.{◌<◌, length, arith, rules}
 use Rattle.cf_body.specs.Bodies.{content_of, words_of}
-use Rattle.cf_body.proofs.Showing.{join_first, join_next, length-words}
+use Rattle.cf_contents.proofs.Showing.{join_first, join_next}
+use Rattle.cf_body.proofs.Wording.{length-words}
 use Rattle.cf_body.proofs.members.push_words.Goals as goal
 use Rattle.cf_body.proofs.members.push_words.Goals.{then-place-gt0+in_ok-push, else-place-gt0}
 

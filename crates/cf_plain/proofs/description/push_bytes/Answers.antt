@@ -2,7 +2,7 @@
 use Rattle.std.proofs.Common.{◌≡◌, ◌++◌, take, sym, ap, ◌∙◌}
 use Rattle.std.proofs.lemmas.List.{append_assoc}
 use Rattle.hex.specs.Hex.{encode_lower}
-use Rattle.cf_plain.proofs.Showing.{shown_some}
+use Rattle.cf_contents.proofs.Showing.{shown_some}
 use Rattle.cf_plain.proofs.description.push_bytes.Goals as goal
 
 pub returns : goal.returns

@@ -2,7 +2,8 @@
 use Rattle.std.proofs.Common.{◌<◌, length, arith, rules}
 use Rattle.cf_plain.specs.Views.{content_of}
 use Rattle.cf_plain.specs.Words.{words_of}
-use Rattle.cf_plain.proofs.Showing.{join_first, join_next, length-words}
+use Rattle.cf_contents.proofs.Showing.{join_first, join_next}
+use Rattle.cf_plain.proofs.Wording.{length-words}
 use Rattle.cf_plain.proofs.description.push_words.Goals as goal
 use Rattle.cf_plain.proofs.description.push_words.Goals.{then-place-gt0+in_ok-push, else-place-gt0}
 

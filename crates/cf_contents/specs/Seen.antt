@@ -1,4 +1,4 @@
--- What is seen of the objects that a statement uses.
+-- What is read of an object that a statement uses.
 use Rattle.std.specs.Prelude.{ℕ, Bool, true, List, Option, Some, None}
 use Rattle.cf_number.specs.Numbers.{Number}
 use Rattle.cf_contents.specs.Contents.{Content, text_content, data_content, number_content, instance_content, array_content, heap_content}

@@ -1,4 +1,4 @@
--- Texts, bytes and members as they are shown.
+-- Texts, bytes and members as they are shown, as far as they are written.
 use Rattle.std.proofs.Common.{◌≡◌, ℕ, zero, suc, ◌+◌, ◌<◌, ◌≤◌, Bool, true, false, ◌&&◌, List, [], ◌∷◌, ◌++◌, map, length, take, drop, get_or, Option, Some, unwrap_or, refl, sym, ap, ◌∙◌, ⊎_elim, nat_lt, arith, add-one, drop-cons}
 use Rattle.std.specs.Prelude.{if◌then◌else◌, ◌==◌, min}
 use Rattle.std.proofs.lemmas.Grind.{flat_map-append}
@@ -8,10 +8,7 @@ use Rattle.std.proofs.str.Utf16.{utf16_chars-drop_all}
 use Rattle.std.specs.Char.Utf16.{is_high_surrogate, is_low_surrogate, lone_unit_char, surrogate_pair_char, utf16_chars, utf16_lossy_chars}
 use Rattle.std.specs.List.{flat_map, join_with_byte}
 use Rattle.hex.specs.Hex.{encode_lower}
-use Rattle.cf_contents.specs.Descriptions.{more_if, shown_char, shown_bytes, member_word, pair_word, cell_word, row_word}
-use Rattle.cf_contents.specs.Contents.{Content, text_content, data_content, number_content, instance_content, array_content, dictionary_content, set_content, bag_content, heap_content, item_content}
-use Rattle.cf_ids.specs.Words.{number_word}
-use Rattle.cf_body.specs.Bodies.{word_at, words_of, members_in}
+use Rattle.cf_contents.specs.Descriptions.{more_if, shown_char, shown_bytes, word_at}
 
 -- what is left of a list gives its next item
 next_item : (xs : List ℕ) (i c : ℕ) (rest : List ℕ) → drop i xs ≡ c ∷ rest
@@ -135,16 +132,3 @@ join_next (a ∷ words) (suc p) before out now within more old new =
     rw add-one
     (new ∙ append_assoc out (32 ∷ []) word ∙ ap (λ (xs : List ℕ). xs ++ 32 ∷ word) old
     ∙ append_assoc before joined (32 ∷ word) ∙ ap (λ (xs : List ℕ). before ++ xs) (sym (join_last a words p (omega arith))))
-
--- each member has a word
-pub length-words : (c : Content) → length (words_of c) ≡ members_in c
-length-words (text_content mutable units) = refl
-length-words (data_content mutable bytes) = refl
-length-words (number_content n) = refl
-length-words (instance_content key fields) = length-map fields member_word
-length-words (array_content plain elements) = length-map elements number_word
-length-words (dictionary_content plain pairs) = length-map pairs pair_word
-length-words (set_content plain members) = length-map members cell_word
-length-words (bag_content plain rows) = length-map rows row_word
-length-words (heap_content plain adds rows) = refl
-length-words (item_content handler info valid item) = refl

@@ -9,7 +9,7 @@ use Rattle.cf_syntax.specs.BlockLines.{BlockLine, begins, claims, says, packs, p
 use Rattle.cf_syntax.proofs.StageLaws.{AllLines}
 use Rattle.cf_syntax.proofs.PackLaws.{NoPack, said_pack_nothing}
 use Rattle.cf_graph.specs.Holders.{Holder, parcel, same_holder}
-use Rattle.cf_graph.specs.Edges.{one, counted}
+use Rattle.cf_graph.specs.Edges.{counted}
 use Rattle.cf_model.proofs.FirstHeld.{parcel_apart}
 use Rattle.cf_model.proofs.ParcelSteps.{packed_line}
 

@@ -1,6 +1,6 @@
 -- What steps bring to places of parcels: a line that packs brings its place one reference at most, and nothing else
 -- brings one.
-use Rattle.std.proofs.Common.{ℕ, ◌+◌, ◌≤◌, Bool, true, false, cond, List, [], ◌∷◌, ◌++◌, length, Option, Some, None, ap, arith}
+use Rattle.std.proofs.Common.{ℕ, ◌≤◌, Bool, true, false, cond, List, [], ◌∷◌, ◌++◌, length, Option, Some, None, ap, arith}
 use Rattle.std.specs.Prelude.{slice_get, not, ◌&&◌, option_to_list}
 use Rattle.cf_ids.specs.declared.answer.Answer.{Answer}
 use Rattle.rl_turn.specs.declared.phases.Phase.{Phase}

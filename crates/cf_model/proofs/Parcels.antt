@@ -7,7 +7,7 @@ use Rattle.cf_ids.specs.declared.answer.Answer.{Answer}
 use Rattle.rl_turn.specs.declared.phases.Phase.{Phase}
 use Rattle.cf_syntax.specs.declared.script.Script.{Script}
 use Rattle.cf_syntax.specs.declared.statement.Statement.TheVariants as forms
-use Rattle.cf_syntax.specs.BlockLines.{BlockLine, says, packs, setup_lines, thread_lines}
+use Rattle.cf_syntax.specs.BlockLines.{BlockLine, says, setup_lines, thread_lines}
 use Rattle.cf_syntax.proofs.PackLaws.{threads_pack_nothing, handlers_pack_nothing}
 use Rattle.cf_graph.specs.Holders.{Holder, parcel}
 use Rattle.cf_graph.specs.Edges.{weigh, same}

@@ -1,27 +1,25 @@
 -- What statements of the forms that the reader takes do: each deals as its deed says, and leaves loops and notices
 -- alone.
-use Rattle.std.proofs.Common.{◌≡◌, ℕ, zero, suc, ◌+◌, ◌<◌, ◌∙◌, Bool, true, false, cond, List, [], ◌∷◌, ◌++◌, length, map, Option, Some, None, refl, sym, ap, subst, eqb, arith}
+use Rattle.std.proofs.Common.{◌≡◌, ℕ, zero, suc, ◌∙◌, Bool, true, false, List, [], ◌∷◌, ◌++◌, Option, None, refl, sym}
 use Rattle.std.specs.Prelude.{slice_get}
 use Rattle.cf_ids.specs.declared.answer.Answer.{Answer}
 use Rattle.cf_ids.specs.declared.answer.Answer.TheVariants as answers
 use Rattle.cf_syntax.specs.declared.script.Script.{Script}
 use Rattle.cf_syntax.specs.declared.statement.Statement.{Statement}
 use Rattle.cf_syntax.specs.declared.statement.Statement.TheVariants as forms
-use Rattle.cf_syntax.specs.declared.mention.Ownership.{Ownership}
-use Rattle.cf_syntax.specs.declared.mention.Ownership.TheVariants.{Keeps, Binds, Retains, Releases}
-use Rattle.cf_syntax.specs.Mentions.{used_at, first_of, ownership_of}
-use Rattle.cf_syntax.specs.BlockLines.{BlockLine, begins, claims, says, packs}
+use Rattle.cf_syntax.specs.Mentions.{used_at}
+use Rattle.cf_syntax.specs.BlockLines.{says}
 use Rattle.cf_syntax.specs.Stage.{is_of_stage}
 use Rattle.cf_types.specs.declared.cells.Cell.{Cell}
 use Rattle.cf_contents.specs.Items.{Item}
 use Rattle.cf_contents.specs.Contents.{Content, text_content, data_content, instance_content, array_content, dictionary_content, set_content, bag_content, heap_content, item_content, Object}
 use Rattle.cf_contents.specs.Keys.{numbered}
-use Rattle.cf_contents.specs.Deeds.{Origin, nowhere, fresh, there, Change, unchanged, in_text, in_data, in_places, put_pair, remove_pair, add_member, put_member, remove_member, remove_least, in_item, Splice, text_after, data_after, places_after, put_after, removed_after, added_after, put_member_after, removed_member_after, least_after, item_after, content_after, with_change, Deed, deed_at}
-use Rattle.cf_contents.proofs.FormLaws.{form_fits, Fits, IsNoItem, MakesNoItem, SkipsAll}
+use Rattle.cf_contents.specs.Deeds.{Origin, nowhere, fresh, there, Change, unchanged, in_text, in_data, in_places, put_pair, remove_pair, add_member, put_member, remove_member, remove_least, in_item, Splice, text_after, data_after, places_after, put_after, removed_after, added_after, put_member_after, removed_member_after, least_after, item_after, content_after, with_change}
+use Rattle.cf_contents.proofs.FormLaws.{form_fits, IsNoItem, MakesNoItem, SkipsAll}
 use Rattle.cf_next.specs.Advance.{is_post, run_frames}
-use Rattle.cf_model.specs.State.{Parts, State, start}
-use Rattle.cf_model.specs.Things.{Thing, thing_in, thing_of}
-use Rattle.cf_model.specs.Deals.{Deal, change_unless_skipped, change_deal, deal_of, posts_of}
+use Rattle.cf_model.specs.State.{Parts, State}
+use Rattle.cf_model.specs.Things.{thing_in, thing_of}
+use Rattle.cf_model.specs.Deals.{change_unless_skipped, deal_of, posts_of}
 use Rattle.cf_model.specs.Steps.{item_made, made_from}
 use Rattle.cf_model.specs.Stage.{deed_in, deed_deal, DealsPlainly}
 

@@ -1,15 +1,14 @@
 -- A thread that is in its block alone is so after each plain demand.
-use Rattle.std.proofs.Common.{◌≡◌, ℕ, ◌+◌, ◌∙◌, Bool, true, false, cond, List, [], ◌∷◌, ◌++◌, map, refl, ap}
+use Rattle.std.proofs.Common.{◌≡◌, ℕ, ◌∙◌, Bool, true, false, cond, List, [], ◌∷◌, ◌++◌, map, refl, ap}
 use Rattle.std.specs.Prelude.{is_some}
 use Rattle.cf_ids.specs.declared.answer.Answer.{Answer}
 use Rattle.cf_syntax.specs.declared.script.Script.{Script}
 use Rattle.cf_syntax.specs.declared.statement.Statement.{Statement}
-use Rattle.cf_syntax.specs.BlockLines.{BlockLine, begins, claims, says, packs}
+use Rattle.cf_syntax.specs.BlockLines.{BlockLine, claims, says, packs}
 use Rattle.cf_syntax.specs.Stage.{is_of_stage}
-use Rattle.cf_graph.specs.Holders.{slot}
 use Rattle.cf_next.specs.Facts.{Facts}
 use Rattle.cf_next.specs.Stands.{callee, as_receiver, Frame, Work, release_of, spend_of, slots_of, Stand}
-use Rattle.cf_next.specs.Demands.{Demand, does, ends, owes, drops, calls, work_left}
+use Rattle.cf_next.specs.Demands.{Demand, does, ends, owes, drops, work_left}
 use Rattle.cf_next.specs.Advance.{is_post, owed_by, run_frames, on_top, line_done, is_entered, frames_after, work_after, bodies_of, advanced}
 use Rattle.cf_model.specs.Stage.{SpendsNothing, IsPlainStand, IsPlainDemand, is_claim, is_statement, is_pack, is_over, is_owed, is_slot}
 

@@ -12,11 +12,11 @@ use Rattle.cf_syntax.specs.declared.statement.Statement.{Statement}
 use Rattle.cf_syntax.specs.BlockLines.{BlockLine, begins, claims, says, packs, thread_lines}
 use Rattle.cf_syntax.specs.Stage.{is_of_stage, IsOfStage}
 use Rattle.cf_syntax.proofs.StageLaws.{thread_line, handler_line}
-use Rattle.cf_graph.specs.Holders.{Holder, slot, in_mode, in_common}
+use Rattle.cf_graph.specs.Holders.{Holder, in_mode, in_common}
 use Rattle.cf_graph.specs.Edges.{Reference, held_by, weigh, one, has}
 use Rattle.cf_next.specs.Facts.{Facts}
 use Rattle.cf_next.specs.Stands.{Binding, Callee, Kind, of_block, of_handler, of_run, Frame, Work, release_of, spend_of, slots_of, Stand, opening_stand}
-use Rattle.cf_next.specs.Demands.{Demand, does, ends, owes, drops, line_or, or_else, slot_if, work_demand, frame_demand, frame_lines, demand}
+use Rattle.cf_next.specs.Demands.{Demand, ends, owes, drops, line_or, or_else, slot_if, work_demand, frame_demand, frame_lines, demand}
 use Rattle.cf_next.specs.Advance.{is_post, run_frames, is_entered}
 use Rattle.cf_next.specs.declared.action.Action.{Action}
 use Rattle.cf_model.specs.declared.entry.Entry.{Entry}

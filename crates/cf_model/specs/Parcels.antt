@@ -1,5 +1,5 @@
 -- How many references a place of a parcel has, after entries of any script. This project's own.
-use Rattle.std.specs.Prelude.{◌≡◌, ℕ, ◌≤◌, List, Option, Some, None}
+use Rattle.std.specs.Prelude.{◌≡◌, ℕ, ◌≤◌, List, Some, None}
 use Rattle.cf_graph.specs.Holders.{Holder, same_holder}
 use Rattle.cf_graph.specs.Edges.{Reference, counted, held_by, weigh, one}
 use Rattle.cf_graph.specs.Operations.{without}

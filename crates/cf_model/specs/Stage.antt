@@ -1,11 +1,10 @@
 -- What the states and the demands of a script are like whose statements are all of the forms that the reader takes:
 -- each thread is in its block alone, and no loop and no notice has anything. This project's own.
-use Rattle.std.specs.Prelude.{◌≡◌, ℕ, ◌<◌, Bool, true, false, List, [], ◌∷◌, length, Option, Some, None, slice_get}
-use Rattle.cf_ids.specs.declared.answer.Answer.{Answer}
+use Rattle.std.specs.Prelude.{◌≡◌, ℕ, ◌<◌, Bool, true, false, List, [], ◌∷◌, length, Option, None}
 use Rattle.cf_syntax.specs.declared.script.Script.{Script}
 use Rattle.cf_syntax.specs.declared.statement.Statement.{Statement}
 use Rattle.cf_syntax.specs.Mentions.{first_of}
-use Rattle.cf_syntax.specs.BlockLines.{BlockLine, claims, says, packs}
+use Rattle.cf_syntax.specs.BlockLines.{claims, says, packs}
 use Rattle.cf_syntax.specs.Stage.{is_of_stage}
 use Rattle.cf_graph.specs.Holders.{in_mode, in_common}
 use Rattle.cf_graph.specs.Edges.{held_by, weigh, one, has}
@@ -13,7 +12,7 @@ use Rattle.cf_contents.specs.Deeds.{Deed, deed_at}
 use Rattle.cf_next.specs.Stands.{of_block, Frame, Work, release_of, spend_of, slots_of, Stand}
 use Rattle.cf_next.specs.Demands.{Demand, does, ends, owes, drops}
 use Rattle.cf_next.specs.Advance.{is_post, run_frames}
-use Rattle.cf_model.specs.State.{Sleeping, awake, Parts, State, start, stand_at, flags_at}
+use Rattle.cf_model.specs.State.{awake, Parts, State, start, stand_at, flags_at}
 use Rattle.cf_model.specs.Things.{thing_at}
 use Rattle.cf_model.specs.Deals.{Deal, change_unless_skipped, change_deal, deal_of, posts_of}
 use Rattle.cf_model.specs.Steps.{item_made}

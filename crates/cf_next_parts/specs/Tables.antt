@@ -1,6 +1,5 @@
 -- The facts that a table of a test has.
-use Rattle.std.specs.Prelude.{ℕ, Bool, true, false, ◌&&◌, ◌==◌, List, Option, Some, None, slice_get, if◌then◌else◌}
-use Rattle.std.specs.Option.{option_map}
+use Rattle.std.specs.Prelude.{ℕ, Bool, false, ◌==◌, Option, Some, None, slice_get, if◌then◌else◌}
 use Rattle.cf_next.specs.Facts.{Callout, Facts}
 use Rattle.cf_next_parts.specs.declared.table.ItemFacts.{ItemFacts}
 use Rattle.cf_next_parts.specs.declared.table.ReceiverFacts.{ReceiverFacts}

@@ -1,12 +1,12 @@
 -- What the place of a member tells of plain lists.
-use Rattle.std.proofs.Common.{◌≡◌, ℕ, zero, suc, ◌+◌, ◌-◌, ◌<◌, ◌==◌, Bool, true, false, cond, not, nat_lt, List, [], ◌∷◌, ◌++◌, length, slice_get, slice_set, get_or, remove, Option, Some, None, is_some, refl, sym, ap, ◌∙◌, subst, arith}
-use Rattle.std.specs.Prelude.{find, position, ◌||◌, if◌then◌else◌}
+use Rattle.std.proofs.Common.{◌≡◌, ℕ, zero, suc, ◌+◌, ◌-◌, ◌==◌, Bool, true, false, cond, not, nat_lt, List, [], ◌∷◌, ◌++◌, slice_get, slice_set, get_or, remove, Option, Some, None, is_some, refl, sym, ap, ◌∙◌, subst, arith}
+use Rattle.std.specs.Prelude.{find, position}
 use Rattle.std.proofs.lemmas.Grind.{common_steps}
 use Rattle.std.proofs.lemmas.Option.{same_Some, none-some}
 use Rattle.std.specs.List.{list_any}
 use Rattle.std.specs.Map.{lookup, lookup_entry, lookup_key, remove_entry, set_value, set_key}
 use Rattle.std.specs.Option.{option_map, option_to_list}
-use Rattle.cf_basichash.specs.Members.{members_replaced, members_set, members_with, members_without, rows_set, rows_with_less, rows_without}
+use Rattle.cf_basichash.specs.Members.{members_replaced, members_set, members_without, rows_set, rows_without}
 use Rattle.cf_basichash.specs.Tables.{pairs_with, place_of}
 use Rattle.cf_basichash.proofs.TablesLemmas.{found, missing}
 use Rattle.cf_types.specs.declared.cells.Cell.{Cell}

@@ -1,13 +1,9 @@
 -- Deeds of the program as the definitions have them, and what is read of an object.
-use Rattle.std.specs.Prelude.{◌≡◌, ℕ, Bool, true, false, List, Option, Some, None}
-use Rattle.std.specs.Option.{option_map}
-use Rattle.std.specs.Prelude.{find}
-use Rattle.std.specs.Map.{lookup, lookup_entry}
+use Rattle.std.specs.Prelude.{◌≡◌, ℕ, Bool, List, Option, Some, None}
 use Rattle.cf_syntax.specs.declared.script.ClassLine.{ClassLine}
-use Rattle.cf_number.specs.Numbers.{Number}
 use Rattle.cf_types.specs.declared.cells.Cell.{Cell}
-use Rattle.cf_contents.specs.Contents.{Content, text_content, data_content, number_content, instance_content, array_content, dictionary_content, set_content, bag_content, heap_content}
-use Rattle.cf_contents.specs.Keys.{Numbered, cell_of, equal_to}
+use Rattle.cf_contents.specs.Contents.{Content, heap_content}
+use Rattle.cf_contents.specs.Keys.{Numbered}
 use Rattle.cf_contents.specs.Deeds as deeds
 use Rattle.cf_plain.specs.declared.deed.Origin.{Origin}
 use Rattle.cf_plain.specs.declared.deed.Origin.TheVariants.{Nowhere, Fresh, There}

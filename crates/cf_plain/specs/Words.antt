@@ -1,5 +1,5 @@
 -- The members of a content as words, for descriptions.
-use Rattle.std.specs.Prelude.{ℕ, List, [], ◌∷◌, ◌++◌, codes, map, length, take, nat_lt}
+use Rattle.std.specs.Prelude.{ℕ, List, [], ◌++◌, codes, map, length, take, nat_lt}
 use Rattle.std.specs.Fmt.{decimal}
 use Rattle.std.specs.List.{join_with_byte}
 use Rattle.cf_ids.specs.Words.{number_word}

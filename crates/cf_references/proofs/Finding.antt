@@ -1,16 +1,14 @@
 -- What is found among references, and what is left of them.
-use Rattle.std.proofs.Common.{◌≡◌, ℕ, zero, suc, ◌+◌, ◌<◌, Bool, true, false, cond, not, nat_lt, List, [], ◌∷◌, ◌++◌, length, map, take, slice_get, remove, Option, Some, None, refl, sym, ap, ◌∙◌, arith, zero-add, append_assoc}
+use Rattle.std.proofs.Common.{◌≡◌, ℕ, ◌+◌, Bool, true, false, cond, not, nat_lt, List, [], ◌∷◌, ◌++◌, map, remove, Option, Some, None, refl, sym, ap, ◌∙◌, arith, zero-add, append_assoc}
 use Rattle.std.proofs.lemmas.Bool.{lt-ltb, ne_eqb}
-use Rattle.std.specs.Prelude.{position, ◌==◌, ◌||◌, ◌&&◌, if◌then◌else◌}
+use Rattle.std.specs.Prelude.{position, ◌==◌, ◌||◌}
 use Rattle.std.specs.List.{list_any}
 use Rattle.std.specs.Option.{option_to_list}
-use Rattle.cf_graph.specs.Owners.{is_thread}
-use Rattle.cf_graph.specs.Holders.{Holder, owner_of, same_holder}
-use Rattle.cf_graph.specs.Edges.{Reference, counted, degree, has, held_by, leading_to, one, same, weigh}
-use Rattle.cf_graph.specs.Operations.{Operation, add, move, remove as removes, left_by, moved, run, without}
-use Rattle.cf_graph.specs.Flows.{Flow, grows, flowed, operations_of, move_by}
-use Rattle.cf_model.specs.Own.{first_from, own_reference, own_references, present_of, without_if, moves_to}
-use Rattle.cf_model.specs.State.{first_held}
+use Rattle.cf_graph.specs.Holders.{Holder}
+use Rattle.cf_graph.specs.Edges.{Reference, counted, degree, one, same, weigh}
+use Rattle.cf_graph.specs.Operations.{Operation, add, left_by, moved, run, without}
+use Rattle.cf_graph.specs.Flows.{grows, flowed, move_by}
+use Rattle.cf_model.specs.Own.{own_reference, own_references, present_of, without_if, moves_to}
 use Rattle.cf_plain.proofs.Placing.{placed, absent}
 use Rattle.cf_basichash.specs.Members.{members_without}
 

@@ -1,7 +1,5 @@
 -- Holders and flows of the program, as the definitions have them.
-use Rattle.std.specs.Prelude.{ℕ, List, map, Option, Some, None}
 use Rattle.cf_graph.specs.Holders as holders
-use Rattle.cf_graph.specs.Edges.{Reference, held_by}
 use Rattle.cf_references.specs.declared.holder.Holder.{Holder}
 use Rattle.cf_references.specs.declared.holder.Holder.TheVariants.{Variable, Callout, Owed, Parcel, Slot, InMode, InCommon}
 

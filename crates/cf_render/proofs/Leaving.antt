@@ -1,6 +1,6 @@
 -- The lines at the end, by what a journal tells and by counts of edges.
-use Rattle.std.proofs.Common.{◌≡◌, ℕ, zero, suc, ◌+◌, ◌<◌, ◌≤◌, Bool, true, false, cond, List, [], ◌∷◌, ◌++◌, map, length, take, get_or, refl, sym, ap, ◌∙◌, append_assoc, append-nil, add-zero, arith}
-use Rattle.std.specs.Prelude.{slice_index_or, count_by, ◌==◌}
+use Rattle.std.proofs.Common.{◌≡◌, ℕ, suc, ◌+◌, ◌<◌, Bool, true, false, cond, List, [], ◌∷◌, ◌++◌, length, take, get_or, refl, sym, ap, ◌∙◌, append_assoc, append-nil, add-zero, arith}
+use Rattle.std.specs.Prelude.{slice_index_or, ◌==◌}
 use Rattle.std.proofs.lemmas.List.{take_more, length-take, length-map, map-append}
 use Rattle.std.specs.Global.{Vec}
 use Rattle.cf_syntax.specs.declared.script.Script.{Script}
@@ -14,9 +14,9 @@ use Rattle.cf_model.specs.Finals.{finals}
 use Rattle.cf_model.specs.State.{times}
 use Rattle.cf_model.specs.Journals.{After, IsLegal}
 use Rattle.cf_render.specs.declared.tally.Tally.{Tally}
-use Rattle.cf_render.specs.Rendering.{alive_from, end_lines, ends_with, last_line}
+use Rattle.cf_render.specs.Rendering.{alive_from, end_lines, last_line}
 use Rattle.cf_render.specs.Ends.{AreOf, alive_in, counted_at, left_from, left_line, lines_of, nothing, owners_in, slots_in}
-use Rattle.cf_render.specs.Made.{ObjectsTold, classes_told, finalised_in}
+use Rattle.cf_render.specs.Made.{classes_told, finalised_in}
 use Rattle.cf_render.proofs.Telling.{classes_of, objects_told}
 
 -- the line of an object, if it is left

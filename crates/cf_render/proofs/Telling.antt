@@ -1,12 +1,11 @@
 -- What entries tell of the objects made and finalised is what the state has.
-use Rattle.std.proofs.Common.{◌≡◌, ℕ, zero, suc, ◌+◌, ◌<◌, Bool, true, false, cond, ◌&&◌, ◌||◌, not, List, [], ◌∷◌, ◌++◌, append-nil, append_assoc, map, length, Option, Some, None, eqb, eq-eqb, ltb, refl, sym, ap, ◌∙◌, subst, arith, inl, inr}
+use Rattle.std.proofs.Common.{◌≡◌, ℕ, zero, suc, ◌+◌, ◌<◌, Bool, true, false, cond, ◌&&◌, not, List, [], ◌∷◌, ◌++◌, append-nil, append_assoc, map, length, Option, Some, None, eqb, eq-eqb, refl, sym, ap, ◌∙◌, subst, arith, inl, inr}
 use Rattle.std.specs.Prelude.{slice_get}
 use Rattle.std.proofs.lemmas.List.{map-append}
 use Rattle.std.specs.Option.{option_to_list}
 use Rattle.std.proofs.lemmas.Bool.Decides.{eqb_tells}
 use Rattle.cf_ids.specs.declared.answer.Answer.{Answer}
 use Rattle.cf_ids.specs.declared.answer.Answer.TheVariants as answers
-use Rattle.rl_base.specs.Dates.{has_come, earlier}
 use Rattle.rl_turn.specs.declared.phases.Phase.{Phase}
 use Rattle.rl_turn.specs.declared.phases.Phase.TheVariants as phases
 use Rattle.cf_string.specs.declared.faults.StrFault.{StrFault}
@@ -18,31 +17,28 @@ use Rattle.cf_syntax.specs.declared.statement.Statement.{Statement}
 use Rattle.cf_syntax.specs.declared.statement.Statement.TheVariants as forms
 use Rattle.cf_syntax.specs.declared.mention.Ownership.{Ownership}
 use Rattle.cf_syntax.specs.declared.mention.Ownership.TheVariants.{Keeps, Binds, Retains, Releases}
-use Rattle.cf_syntax.specs.Mentions.{ownership_of, makes_object, first_of, used_at}
+use Rattle.cf_syntax.specs.Mentions.{ownership_of, first_of, used_at}
 use Rattle.cf_syntax.specs.BlockLines.{BlockLine, begins, claims, says, packs}
-use Rattle.cf_graph.specs.Holders.{Holder, variable, parcel, owed}
-use Rattle.cf_graph.specs.Edges.{Reference, degree}
+use Rattle.cf_graph.specs.Holders.{Holder, variable, parcel}
 use Rattle.cf_contents.specs.Contents.{Content, text_content, Object, instance_of}
 use Rattle.cf_contents.specs.Items.{Item, source_item, timer_item, observer_item, kind_of}
 use Rattle.cf_contents.specs.Keys.{Numbered, numbered, class_line}
-use Rattle.cf_contents.specs.Deeds.{Origin, nowhere, fresh, there, Change, Deed, creating, with_object, text_in, unless_split, fresh_if, part_of, deed_of, deed_at, with_change, objects_after}
+use Rattle.cf_contents.specs.Deeds.{Origin, nowhere, fresh, there, Change, creating, with_object, text_in, unless_split, fresh_if, part_of, deed_of, deed_at, with_change, objects_after}
 use Rattle.cf_contents.proofs.FormLaws.{NamesNone, MakesOnly, form_fits}
 use Rattle.cf_next.specs.declared.action.Action.{Action}
 use Rattle.cf_next.specs.declared.action.Action.TheVariants as actions
-use Rattle.cf_next.specs.Actions.{action_of}
-use Rattle.cf_next.specs.Facts.{Callout}
-use Rattle.cf_next.specs.Stands.{has_run, item_of, Callee, Turn, Kind, of_block, of_handler, of_run, Frame, Work, Stand}
-use Rattle.cf_next.specs.Demands.{Demand, does, ends, returns, owes, spends, drops, calls, enters, closes, frame_lines}
-use Rattle.cf_next.specs.Next.{object_at, used_objects, site_in, phase_action, action_in}
+use Rattle.cf_next.specs.Stands.{has_run, item_of, Kind, of_block, of_handler, of_run, Frame, Work, Stand}
+use Rattle.cf_next.specs.Demands.{Demand, does, returns, owes, spends, drops, calls, frame_lines}
+use Rattle.cf_next.specs.Next.{object_at, used_objects, phase_action, action_in}
 use Rattle.cf_model.specs.declared.entry.Entry.{Entry}
 use Rattle.cf_model.specs.Finals.{final_of, finals, one_at}
 use Rattle.cf_model.specs.Known.{facts_of}
-use Rattle.cf_model.specs.State.{State, Parts, start, awake, until, is_common, is_live, flags_at, first_held, stand_at, times}
-use Rattle.cf_model.specs.Things.{Thing, thing_at, mode_date}
-use Rattle.cf_model.specs.Own.{own_reference, present_of}
+use Rattle.cf_model.specs.State.{State, Parts, start, is_common, first_held, stand_at, times}
+use Rattle.cf_model.specs.Things.{Thing, thing_at}
+use Rattle.cf_model.specs.Own.{present_of}
 use Rattle.cf_model.specs.Deals.{Deal, answering, okay, leaving, deal_of, change_deal, change_unless_skipped, with_used, with_thing, thing_deal, with_filter, with_item, thread_in, place_in, stays_in_one, is_elsewhere, holds_at, signal_deal, invalidate_deal, every_place}
-use Rattle.cf_model.specs.Steps.{Step, idle, flowing, step_answer, cut_answer, cut_flow, type_in, Made, item_made, bound_if, object_answer, bind_step, found, retain_step, release_step, statement_step, step_of, frames_at, start_all, end_step, claim_step, pack_step, packed_holder, sleeping, unwoken_step, turn_step, phase_step, close_step, result_answer, call_step, fire, fire_if, spend_if, done_by, acted, demanded, answer_if}
-use Rattle.cf_model.specs.Journals.{After, after_action, state_from, ticked, IsLegalStep, IsLegalAs, IsLegalEntry, IsLegal}
+use Rattle.cf_model.specs.Steps.{Step, step_answer, Made, item_made, bound_if, bind_step, retain_step, release_step, statement_step, step_of, frames_at, start_all, end_step, claim_step, pack_step, packed_holder, phase_step, close_step, fire, fire_if, spend_if, done_by, acted, answer_if}
+use Rattle.cf_model.specs.Journals.{After, after_action, state_from, IsLegalStep, IsLegalAs, IsLegal}
 use Rattle.cf_model.proofs.Acting.{next_is}
 use Rattle.cf_model.proofs.Entries.{ActionView, IsStep, is_tick, is_stall, is_step, action_view}
 use Rattle.cf_model.proofs.Finality.{IsLegalPart, part_of_legal, kept}

@@ -1,5 +1,5 @@
 -- Answers to the goals of `held::add_variables`.
-use Rattle.std.proofs.Common.{sym, append-nil, refl, arith}
+use Rattle.std.proofs.Common.{sym, append-nil, arith}
 use Rattle.cf_next.specs.Held.{counted_objects}
 use Rattle.cf_next.proofs.HeldLaws.{below-none, variable-more}
 use Rattle.cf_next.proofs.held.add_variables.Goals as goal

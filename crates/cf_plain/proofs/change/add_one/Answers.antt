@@ -1,5 +1,5 @@
 -- Answers to the goals of `change::add_one`.
-use Rattle.std.proofs.Common.{◌≡◌, ◌∙◌, ◌+◌, ℕ, ap, sym, Some, None, length, slice_set, arith}
+use Rattle.std.proofs.Common.{◌≡◌, ◌∙◌, ◌+◌, ℕ, ap, Some, None, slice_set, arith}
 use Rattle.cf_basichash.specs.Tables.{place_of}
 use Rattle.cf_contents.specs.Keys.{equal_to}
 use Rattle.cf_plain.proofs.Placing.{one_more_there, one_more_none}

@@ -1,5 +1,5 @@
 -- Answers to the goals of `change::put_pair`.
-use Rattle.std.proofs.Common.{◌≡◌, ◌∙◌, ap, sym, Some, None, length, slice_set, arith}
+use Rattle.std.proofs.Common.{◌≡◌, ◌∙◌, Some, None}
 use Rattle.cf_basichash.specs.Tables.{place_of}
 use Rattle.cf_contents.specs.Keys.{equal_to}
 use Rattle.cf_plain.proofs.Placing.{pair_there, pair_more}

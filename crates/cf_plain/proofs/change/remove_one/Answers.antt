@@ -1,5 +1,5 @@
 -- Answers to the goals of `change::remove_one`.
-use Rattle.std.proofs.Common.{◌≡◌, ◌∙◌, ap, ℕ, false, Some, None, slice_set, arith}
+use Rattle.std.proofs.Common.{◌≡◌, ◌∙◌, ap, ℕ, Some, None, slice_set, arith}
 use Rattle.std.proofs.lemmas.Bool.{ne_eqb}
 use Rattle.cf_basichash.specs.Tables.{place_of}
 use Rattle.cf_contents.specs.Keys.{equal_to}

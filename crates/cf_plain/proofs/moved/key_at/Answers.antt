@@ -3,7 +3,6 @@ use Rattle.std.proofs.Common.{◌≡◌, ◌∙◌, ℕ, Some, None, sym, ap}
 use Rattle.cf_basichash.specs.Tables.{place_of}
 use Rattle.std.specs.Option.{option_map}
 use Rattle.cf_types.specs.declared.cells.Cell.{Cell}
-use Rattle.cf_contents.specs.Contents.{id_in_row, numbered_row}
 use Rattle.cf_contents.specs.Keys.{equal_to}
 use Rattle.cf_plain.proofs.Placing.{entry_there, entry_none}
 use Rattle.cf_plain.proofs.moved.key_at.Goals as goal

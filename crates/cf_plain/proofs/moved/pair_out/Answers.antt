@@ -1,5 +1,5 @@
 -- Answers to the goals of `moved::pair_out`.
-use Rattle.std.proofs.Common.{◌≡◌, ℕ, List, sym, ap, ◌∙◌, subst}
+use Rattle.std.proofs.Common.{◌≡◌, ℕ, List, subst}
 use Rattle.std.specs.Prelude.{IfOk}
 use Rattle.cf_contents.specs.Contents.{unless_plain}
 use Rattle.cf_contents.specs.Keys.{equal_to}

@@ -2,8 +2,7 @@
 use Rattle.std.proofs.Common.{◌≡◌, ◌∙◌, ℕ, Some, None, sym, ap}
 use Rattle.cf_basichash.specs.Tables.{place_of}
 use Rattle.std.specs.Option.{option_map}
-use Rattle.cf_types.specs.declared.cells.Cell.{Cell}
-use Rattle.cf_contents.specs.Contents.{id_in_row, numbered_row}
+use Rattle.cf_contents.specs.Contents.{numbered_row}
 use Rattle.cf_contents.specs.Keys.{equal_to}
 use Rattle.cf_plain.proofs.Placing.{entry_there, entry_none}
 use Rattle.cf_plain.proofs.moved.row_at.Goals as goal

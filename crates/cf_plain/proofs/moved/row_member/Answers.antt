@@ -1,9 +1,8 @@
 -- Answers to the goals of `moved::row_member`.
-use Rattle.std.proofs.Common.{◌≡◌, ◌∙◌, ℕ, Some, None, sym, ap}
+use Rattle.std.proofs.Common.{◌≡◌, ◌∙◌, Some, None, sym, ap}
 use Rattle.cf_basichash.specs.Tables.{place_of}
 use Rattle.std.specs.Option.{option_map}
 use Rattle.cf_types.specs.declared.cells.Cell.{Cell}
-use Rattle.cf_contents.specs.Contents.{id_in_row, numbered_row}
 use Rattle.cf_contents.specs.Keys.{equal_to}
 use Rattle.cf_plain.proofs.Placing.{key_there, key_none}
 use Rattle.cf_plain.proofs.moved.row_member.Goals as goal

@@ -1,5 +1,5 @@
 -- The loop invariants of `flow::add_all`.
-use Rattle.std.proofs.Common.{◌≡◌, ◌++◌, length, map}
+use Rattle.std.proofs.Common.{◌≡◌, length, map}
 use Rattle.cf_graph.specs.Operations.{add, run}
 use Rattle.cf_references.proofs.flow.add_all.Given as goal
 

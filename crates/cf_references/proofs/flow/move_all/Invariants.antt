@@ -1,5 +1,5 @@
 -- The loop invariants of `flow::move_all`.
-use Rattle.std.proofs.Common.{◌≡◌, ◌++◌, length, map}
+use Rattle.std.proofs.Common.{◌≡◌, length, map}
 use Rattle.cf_graph.specs.Operations.{run}
 use Rattle.cf_graph.specs.Flows.{move_by}
 use Rattle.cf_model.specs.Own.{moves_to}

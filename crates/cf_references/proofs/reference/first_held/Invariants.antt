@@ -1,5 +1,5 @@
 -- The loop invariants of `reference::first_held`.
-use Rattle.std.proofs.Common.{◌≡◌, ◌++◌, length, map}
+use Rattle.std.proofs.Common.{◌≡◌, length}
 use Rattle.cf_model.specs.State.{first_held}
 use Rattle.cf_references.specs.Views.{holder_of}
 use Rattle.cf_references.proofs.reference.first_held.Given as goal

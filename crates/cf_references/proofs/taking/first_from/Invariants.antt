@@ -1,5 +1,5 @@
 -- The loop invariants of `taking::first_from`.
-use Rattle.std.proofs.Common.{◌≡◌, ◌++◌, length, map}
+use Rattle.std.proofs.Common.{◌≡◌, length}
 use Rattle.cf_model.specs.Own.{first_from}
 use Rattle.cf_references.proofs.taking.first_from.Given as goal
 

@@ -1,6 +1,5 @@
 -- Answers to the goals of `taking::own_references`.
 use Rattle.std.proofs.Common.{◌≡◌, ◌++◌, ◌∙◌, ap}
-use Rattle.cf_graph.specs.Edges.{Reference}
 use Rattle.cf_model.specs.Own.{own_reference, own_references, without_if}
 use Rattle.cf_references.proofs.Finding.{own-next}
 use Rattle.cf_references.proofs.taking.own_references.Goals as goal

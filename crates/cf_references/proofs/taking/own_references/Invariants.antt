@@ -1,5 +1,5 @@
 -- The loop invariants of `taking::own_references`.
-use Rattle.std.proofs.Common.{◌≡◌, ◌++◌, length, map}
+use Rattle.std.proofs.Common.{◌≡◌, ◌++◌, length}
 use Rattle.cf_model.specs.Own.{own_references}
 use Rattle.cf_references.proofs.taking.own_references.Given as goal
 

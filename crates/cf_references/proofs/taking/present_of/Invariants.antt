@@ -1,5 +1,5 @@
 -- The loop invariants of `taking::present_of`.
-use Rattle.std.proofs.Common.{◌≡◌, ◌++◌, length, map}
+use Rattle.std.proofs.Common.{◌≡◌, ◌++◌, length}
 use Rattle.cf_model.specs.Own.{present_of}
 use Rattle.cf_references.proofs.taking.present_of.Given as goal
 

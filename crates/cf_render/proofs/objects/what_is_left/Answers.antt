@@ -1,5 +1,5 @@
 -- Answers to the goals of `objects::what_is_left`.
-use Rattle.std.proofs.Common.{Some, None, sym, ap, ◌∙◌, arith}
+use Rattle.std.proofs.Common.{Some, sym, ap, ◌∙◌, arith}
 use Rattle.cf_render.proofs.Journals.{count_more, count_same, none_final, one_final}
 use Rattle.cf_render.proofs.objects.what_is_left.Goals.{in-Some, in_default}
 use Rattle.cf_render.proofs.objects.what_is_left.Goals as goal

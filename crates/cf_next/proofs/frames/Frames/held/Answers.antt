@@ -1,5 +1,5 @@
 -- Answers to the goals of `frames::Frames::held`.
-use Rattle.std.proofs.Common.{◌≡◌, ◌∙◌, ℕ, List, sym, ap, arith}
+use Rattle.std.proofs.Common.{◌≡◌, ◌∙◌, List, sym, ap, arith}
 use Rattle.std.proofs.lemmas.Result.{IfOk-weaker}
 use Rattle.cf_next.specs.Next.{top_frame}
 use Rattle.cf_next.specs.Stands.{look, Frame}

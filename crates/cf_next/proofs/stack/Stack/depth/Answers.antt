@@ -1,5 +1,5 @@
 -- Answers to the goals of `stack::Stack::depth`.
-use Rattle.std.proofs.Common.{◌≡◌, ◌∷◌, length, reverse, ap, arith}
+use Rattle.std.proofs.Common.{◌∷◌, reverse, arith}
 use Rattle.std.proofs.lemmas.List.{length-reverse}
 use Rattle.cf_next.proofs.FrameLaws.{frames-size}
 use Rattle.cf_next.proofs.stack.Stack.depth.Goals as goal

@@ -1,6 +1,6 @@
 -- A name at a place where one was found before.
-use Rattle.std.proofs.Common.{◌≡◌, ℕ, ◌<◌, ◌≤◌, Bool, true, false, List, length, get_or, Ok, inl, inr, refl, sym, ◌∙◌, arith, ltb, subst}
-use Rattle.std.specs.List.{IsDistinct, list_any, position_or_len}
+use Rattle.std.proofs.Common.{◌≡◌, ℕ, ◌<◌, ◌≤◌, Bool, true, false, List, length, get_or, Ok, inl, inr, sym, ◌∙◌, arith, ltb, subst}
+use Rattle.std.specs.List.{IsDistinct, position_or_len}
 use Rattle.std.specs.Str.{bytes_eq}
 use Rattle.std.specs.Global.{Vec}
 use Rattle.std.proofs.lemmas.Bool.{cases_Bool, ltb-true, ltb-false}
@@ -16,7 +16,7 @@ use Rattle.cf_script.proofs.NameLaws.{position_texts, number_is, names_found}
 abbrev AreDistinct : List (Vec ℕ) → Type 0
 AreDistinct names = IsDistinct (λ (a b : Vec ℕ). bytes_eq a.items b.items) names
 
-same_word : (w a b : List ℕ) → bytes_eq w a ≡ true → bytes_eq w b ≡ true → bytes_eq a b ≡ true
+pub same_word : (w a b : List ℕ) → bytes_eq w a ≡ true → bytes_eq w b ≡ true → bytes_eq a b ≡ true
 same_word w a b e f =
     let one : a ≡ b = sym ((bytes_eq-Decides w a).0 e) ∙ (bytes_eq-Decides w b).0 f in
     (bytes_eq-Decides a b).1 one

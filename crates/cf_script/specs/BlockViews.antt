@@ -3,12 +3,10 @@ use Rattle.std.specs.Prelude.{ℕ, Bool, List, [], drop, Result, Ok}
 use Rattle.std.specs.Option.{option_map}
 use Rattle.cf_syntax.specs.declared.script.ClassLine.{ClassLine}
 use Rattle.cf_syntax.specs.declared.refusal.Reason.{Reason}
-use Rattle.cf_syntax.specs.declared.refusal.Reason.TheVariants.{Name}
 use Rattle.cf_syntax.specs.declared.statement.Statement.{Statement}
-use Rattle.cf_syntax.specs.declared.form.NameTable.TheVariants.{Variables}
 use Rattle.cf_syntax.specs.FormTable.{FormWord}
 use Rattle.cf_syntax.specs.FormStatements.{statement_by}
-use Rattle.cf_syntax.specs.FormWords.{◌>>=◌, require, is_variable, are_of, Names, With, numbered, numbers_of, no_numbers}
+use Rattle.cf_syntax.specs.FormWords.{◌>>=◌, are_of, Names, With, numbers_of, no_numbers}
 use Rattle.cf_syntax.specs.Text.{Opened, Reading, is_handler, with_statement, statement_of}
 use Rattle.cf_script.specs.declared.block.OpenBlock.{OpenBlock}
 use Rattle.cf_script.specs.declared.block.Reader.{Reader}
@@ -49,9 +47,3 @@ statement_in classes in_handler names r ws = do
   ns ← numbers_of r.operands (drop 1 ws) (no_numbers names)
   s ← statement_by classes [] r.form ns.value ws
   Ok (record { names = ns.names; value = s })
-
--- the number of the one variable that a form uses
-abbrev pub used_variable : (in_handler : Bool) → Names → List ℕ → Result (With ℕ) Reason
-used_variable in_handler names word = do
-  _ ← require Name (is_variable in_handler word)
-  numbered Variables word names

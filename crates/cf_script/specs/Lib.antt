@@ -2,6 +2,7 @@
 pub mod BlockViews
 pub mod Gives
 pub mod NamesViews
+pub mod Shapes
 pub mod TableViews
 pub mod Tables
 pub mod Views

@@ -13,11 +13,11 @@ use crate::fault::LineFault;
 use crate::lines::{is_line_utf8, says_nothing};
 use crate::names::{Names, copies, in_order};
 use crate::openings::after;
-use crate::statements::{read_statement, read_variable};
-use crate::table::form_of;
+use crate::shapes::known_statement;
+use crate::statements::read_statement;
 use crate::words::{is, split_words, word_at};
 use cf_ids::Seq;
-use cf_syntax::{Block, BlockKind, Given, Handler, Parts, Reason, Statement, StatementForm};
+use cf_syntax::{Block, BlockKind, Given, Handler, Parts, Reason, Statement};
 use std::alloc::{AllocError, Global};
 
 /// A block whose `end` is still to come.
@@ -66,12 +66,14 @@ impl OpenBlock {
         ensures { GivesAs (λ _. open_block_of self.new) result
             (Ok (with_statement (open_block_of self.old) statement line)) }
     {
-        self.statements.push(statement)?;
-        self.lines.push(line)?;
+        self.statements.reserve(1)?;
+        self.lines.reserve(1)?;
+        self.statements.push_reserved(statement);
+        self.lines.push_reserved(line);
         Ok(())
     }
 
-    /// A line with a statement. Those that come most often have one variable, and their statement is made in place.
+    /// A line with a statement.
     #[tactic(auto, unfolding(cf_syntax::specs::Text::statement_of))]
     fn statement_line(
         &mut self,
@@ -84,27 +86,14 @@ impl OpenBlock {
         ensures { GivesAs (λ _. record { names = names.new; value = open_block_of self.new }) result
             (with_line classes.now names.old (open_block_of self.old) line (lent words.now)) }
     {
-        let form_word = form_of(words)?;
+        let form_word = names.form_of(words)?;
         let in_handler = is_handler(self.kind);
-        match form_word.form {
-            StatementForm::Retain => {
-                match read_variable(alloc, in_handler, names, word_at(words, 1)) {
-                    Ok(variable) => self.push(Statement::Retain { variable }, line),
-                    Err(fault) => Err(fault),
-                }
-            }
-            StatementForm::Release => {
-                match read_variable(alloc, in_handler, names, word_at(words, 1)) {
-                    Ok(variable) => self.push(Statement::Release { variable }, line),
-                    Err(fault) => Err(fault),
-                }
-            }
-            _ => {
-                let statement = read_statement(
-                    alloc, classes, in_handler, names, form_word, words,
-                )?;
-                self.push(statement, line)
-            }
+        if let Some(statement) = known_statement(names, in_handler, form_word.form, words) {
+            return self.push(statement, line);
+        }
+        match read_statement(alloc, classes, in_handler, names, form_word, words) {
+            Ok(statement) => self.push(statement, line),
+            Err(fault) => Err(fault),
         }
     }
 

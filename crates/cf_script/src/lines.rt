@@ -5,11 +5,13 @@ ghost use Rattle.std.specs.Str.{is_utf8, IsUtf8};
 ghost use Rattle.cf_syntax.specs.Lines.{lines, without_return};
 ghost use Rattle.cf_syntax.specs.Words.{is_blank, says_nothing};
 
+use memchr::memchr;
+
 /// The place of the first LF.
 fn line_end(bytes: &[u8]) -> Option<usize>
     ensures { result ≡ position (λ b. b == 10) bytes.now }
 {
-    bytes.iter().position(|b| *b == b'\n')
+    memchr(b'\n', bytes)
 }
 
 /// A piece without the CR at its end.

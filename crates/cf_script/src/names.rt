@@ -1,14 +1,21 @@
 //! The names of a script, each numbered in the order of first use.
-ghost use Rattle.std.specs.Prelude.{◌≡◌, ◌≤◌, ◌<◌, [], ◌∷◌, IfOk, OnOk, length, codes};
+ghost use Rattle.std.specs.Prelude.{◌≡◌, ◌≤◌, ◌<◌, ℕ, List, [], ◌∷◌, IfOk, IfSome, Ok, OnErr, OnOk, length, codes, true};
 ghost use Rattle.cf_ids.specs.declared.limits.TheConstants.{VARIABLES};
-ghost use Rattle.cf_syntax.specs.FormWords.{table_of, limit_of, unless_word, with_name, with_number, numbered, numbered_word, numbers_of, no_numbers};
+ghost use Rattle.cf_syntax.specs.FormWords.{table_of, limit_of, unless_word, form_of, is_variable, with_name, with_number, numbered, numbered_word, numbers_of, no_numbers};
 ghost use Rattle.cf_syntax.specs.FormWords as Definitions;
+ghost use Rattle.cf_syntax.specs.FormStatements.{word_at};
 ghost use Rattle.cf_syntax.specs.Text.{start};
 ghost use Rattle.cf_script.specs.Gives.{GivesAs};
 ghost use Rattle.cf_script.specs.Views.{lent, texts};
+ghost use Rattle.cf_script.specs.Shapes.{IsKnown};
+ghost use Rattle.cf_script.specs.TableViews.{found_row};
+ghost use Rattle.cf_script.specs.Tables.{AreTested};
 ghost use Rattle.cf_script.specs.NamesViews.{number_in, line_numbers_of, with_line_numbers_of};
 
 use crate::fault::LineFault;
+use crate::hints::{HINTS, hint_of};
+use crate::operands::is_variable;
+use crate::table::{FormHints, FormWord};
 use crate::words::{is, word_at};
 use cf_ids::{HANDLERS, HandlerId, MODES, ModeId, NOTICES, NameId, Seq, VARIABLES, VarId};
 use cf_syntax::{NameTable, Operand, Reason};
@@ -17,29 +24,32 @@ use smallvec::SmallVec;
 use std::alloc::{AllocError, Global};
 use std::marker::Model;
 
-/// How many hints there are, one for each value of a byte.
-const HINTS: usize = 256;
-
 /// The names so far: of the open block's variables, and of the script's handlers, modes and notices.
 #[derive(Drop)]
 pub(crate) struct Names {
     pub variables: IndexSet<Vec<u8>>,
-    /// Where a variable whose name ends in certain bytes was found last. It may be gone since.
+    /// One more than the place where a variable was found last whose name ends in certain bytes, or 0.
     hints: [u16; HINTS],
     pub handlers: IndexSet<Vec<u8>>,
     pub modes: IndexSet<Vec<u8>>,
     pub notices: IndexSet<Vec<u8>>,
+    /// Where the forms of lines were found last.
+    forms: FormHints,
 }
 
 impl Model for Names {
     ghost use Rattle.cf_syntax.specs.FormWords as Definitions;
-    ghost use Rattle.cf_script.specs.Tables.{tables, AreFew};
+    ghost use Rattle.cf_script.specs.Tables.{tables, AreFew, AreTested};
+    ghost use Rattle.cf_script.specs.Views.{texts};
 
     ghost Value = { Definitions.Names };
 
     ghost view = { λ n. tables n.variables.keys n.handlers.keys n.modes.keys n.notices.keys };
 
-    ghost invariant = { λ n. AreFew n.variables.keys n.handlers.keys n.modes.keys n.notices.keys };
+    ghost invariant = { λ n. record {
+      few : AreFew n.variables.keys n.handlers.keys n.modes.keys n.notices.keys;
+      tested : AreTested n.hints (texts n.variables.keys);
+    } };
 }
 
 /// The number of a name, of which there may be so many. A new one goes after the others.
@@ -54,6 +64,7 @@ fn number_of(
     ensures names { OnOk result (texts names.new.keys ≡ with_name (texts names.old.keys) word.now) }
     ensures below { IfOk result (λ n. n < limit) }
     ensures few { length names.new.keys ≤ limit }
+    ensures kept { OnErr result (names.new.keys ≡ names.old.keys) }
 {
     if let Some(place) = names.get_index_of(word) {
         return Ok(place);
@@ -65,16 +76,36 @@ fn number_of(
     Ok(place)
 }
 
-/// The hint of a name: a value of its last three bytes.
+/// The number of a variable that its hint leads to.
 #[inline(always)]
-fn hint_of(word: &[u8]) -> u8 {
-    match word {
-        [] => 0,
-        [last] => *last,
-        [second, last] => last.wrapping_add(second.wrapping_mul(10)),
-        [.., third, second, last] => last
-            .wrapping_add(second.wrapping_mul(10))
-            .wrapping_add(third.wrapping_mul(100)),
+fn hinted_variable(names: &IndexSet<Vec<u8>>, hints: &[u16; HINTS], word: &[u8]) -> Option<usize>
+    requires { length names.now.keys ≤ VARIABLES }
+    ensures place { IfSome result (λ n. number_in VARIABLES word.now (texts names.now.keys) ≡ Ok n) }
+    ensures names { IfSome result (λ n. texts names.now.keys ≡ with_name (texts names.now.keys) word.now) }
+    ensures below { IfSome result (λ n. n < VARIABLES) }
+    ensures tested { IfSome result (λ n. AreTested hints.now (texts names.now.keys) → is_variable true word.now ≡ true) }
+{
+    let hint = hints[usize::from(hint_of(word))];
+    if hint == 0 {
+        return None;
+    }
+    let place = usize::from(hint - 1);
+    let name = names.as_slice().get(place)?;
+    if is(word, name.as_slice()) {
+        Some(place)
+    } else {
+        None
+    }
+}
+
+/// Lets the hint of a word lead to a variable's place, if it is one that a form may use.
+fn note_hint(hints: &mut [u16; HINTS], word: &[u8], place: usize)
+    requires { place < VARIABLES }
+    ensures { (names : List (List ℕ)) → AreTested hints.old names → word_at names place ≡ word.now
+        → AreTested hints.new names }
+{
+    if is_variable(true, word) {
+        hints[usize::from(hint_of(word))] = place as u16 + 1;
     }
 }
 
@@ -85,21 +116,19 @@ fn variable_number(
     hints: &mut [u16; HINTS],
     word: &[u8],
 ) -> Result<usize, LineFault>
-    requires { length names.old.keys ≤ VARIABLES }
+    requires few { length names.old.keys ≤ VARIABLES }
+    requires tested { AreTested hints.old (texts names.old.keys) }
     ensures place { GivesAs (λ n. n) result (number_in VARIABLES word.now (texts names.old.keys)) }
     ensures names { OnOk result (texts names.new.keys ≡ with_name (texts names.old.keys) word.now) }
     ensures below { IfOk result (λ n. n < VARIABLES) }
     ensures few { length names.new.keys ≤ VARIABLES }
+    ensures tested { AreTested hints.new (texts names.new.keys) }
 {
-    let hint = usize::from(hint_of(word));
-    let place = usize::from(hints[hint]);
-    if let Some(name) = names.as_slice().get(place) {
-        if is(word, name.as_slice()) {
-            return Ok(place);
-        }
+    if let Some(place) = hinted_variable(names, hints, word) {
+        return Ok(place);
     }
     let place = number_of(alloc, names, VARIABLES, word)?;
-    hints[hint] = place as u16;
+    note_hint(hints, word, place);
     Ok(place)
 }
 
@@ -116,7 +145,29 @@ impl Names {
             handlers: IndexSet::new(alloc),
             modes,
             notices: IndexSet::new(alloc),
+            forms: FormHints::new(),
         })
+    }
+
+    /// The number of a variable that a form may use, where its hint leads to it.
+    #[inline(always)]
+    pub fn known(&self, in_handler: bool, word: &[u8]) -> Option<VarId>
+        ensures { IfSome result (λ v. IsKnown in_handler self.now word.now v) }
+    {
+        let place = hinted_variable(&self.variables, &self.hints, word)?;
+        if !in_handler && is(word, b"info") {
+            return None;
+        }
+        Some(VarId(place as u16))
+    }
+
+    /// The form of a line.
+    #[inline(always)]
+    pub fn form_of(&mut self, words: &[&[u8]]) -> Result<&'static FormWord, Reason>
+        ensures form { found_row result ≡ form_of (lent words.now) }
+        ensures names { self.new ≡ self.old }
+    {
+        self.forms.form_of(words)
     }
 
     /// The number of a name in its table.
@@ -147,6 +198,7 @@ impl Names {
         let mut variables = IndexSet::new(alloc);
         variables.insert(Vec::from_slice(alloc, b"info")?)?;
         self.variables = variables;
+        self.hints = [0; HINTS];
         Ok(())
     }
 
@@ -156,6 +208,7 @@ impl Names {
         ensures taken { texts result.keys ≡ self.old.variables }
         ensures left { self.new ≡ record self.old { variables = [] } }
     {
+        self.hints = [0; HINTS];
         std::mem::replace(&mut self.variables, IndexSet::new(alloc))
     }
 }

@@ -6,23 +6,21 @@ ghost use Rattle.cf_syntax.specs.FormStatements.{last_word, bytes_at, literal_of
 ghost use Rattle.cf_script.specs.Gives.{GivesAs};
 ghost use Rattle.cf_script.specs.Views.{lent};
 ghost use Rattle.cf_script.specs.TableViews.{form_word_of};
-ghost use Rattle.cf_script.specs.BlockViews.{statement_in, used_variable};
+ghost use Rattle.cf_script.specs.BlockViews.{statement_in};
 ghost use Rattle.cf_script.specs.NamesViews.{line_numbers_of};
 
 use crate::classes::Classes;
 use crate::fault::LineFault;
 use crate::names::{LineNumbers, Names, number_words};
 use crate::numbers::{bytes_of, index_at, integer_at, kind_at, mask_at, number_at, unum_of};
-use crate::operands::{are_of, is_variable};
+use crate::operands::are_of;
 use crate::table::FormWord;
 use crate::words::{is, text_of, word_at};
 use cf_data::Bytes;
 use cf_ids::{NameId, ThreadId, VarId};
 use cf_number::Num;
 use cf_string::{Str, StrFault};
-use cf_syntax::{
-    DataLiteral, ModeWord, NameTable, Reason, Statement, StatementForm, TextLiteral, ThreadWord,
-};
+use cf_syntax::{DataLiteral, ModeWord, Reason, Statement, StatementForm, TextLiteral, ThreadWord};
 use std::alloc::{AllocError, Global};
 
 /// The last word, or no bytes where there is none.
@@ -419,22 +417,4 @@ pub(crate) fn read_statement(
     let mut numbers = LineNumbers::new(alloc);
     number_words(alloc, names, &mut numbers, form_word.operands, after)?;
     statement_by(alloc, classes, form_word.form, &numbers, words)
-}
-
-/// The number of the one variable that a form uses.
-#[inline(always)]
-pub(crate) fn read_variable(
-    alloc: Global,
-    in_handler: bool,
-    names: &mut Names,
-    word: &[u8],
-) -> Result<VarId, LineFault>
-    ensures { GivesAs (λ v. record { names = names.new; value = v }) result
-        (used_variable in_handler names.old word.now) }
-{
-    if !is_variable(in_handler, word) {
-        return Err(LineFault::Faulty(Reason::Name));
-    }
-    let place = names.number(alloc, NameTable::Variables, word)?;
-    Ok(VarId(place as u16))
 }

@@ -1,17 +1,15 @@
 -- Answers to the goals of `names::variable_number`.
-use Rattle.std.proofs.Common.{◌≡◌, true, ap, sym, ◌∙◌}
-use Rattle.std.specs.Str.{bytes_eq}
-use Rattle.cf_script.proofs.HintLaws.{number_hinted, names_hinted}
+use Rattle.std.proofs.Common.{ℕ, List, ap, sym, ◌∙◌, subst}
+use Rattle.cf_syntax.specs.FormStatements.{word_at}
+use Rattle.cf_script.specs.Views.{texts}
+use Rattle.cf_script.specs.Tables.{AreTested}
+use Rattle.cf_script.proofs.TestedLaws.{tested_more, word_numbered}
 use Rattle.cf_script.proofs.names.variable_number.Goals as goal
 
-pub returns-then-is-clause-place : goal.returns-then-is-clause-place
-returns-then-is-clause-place c =
-    let found = c.in-Some.ensures.lookup in
-    let same : bytes_eq c.args.word.now c.in-Some.name.now.items ≡ true = ap (bytes_eq c.args.word.now) (sym c.as_slice-in-Some.ensures.value) ∙ sym c.is.ensures ∙ c.if-is.true in
-    number_hinted 256 c.args.word.now c.args.names.now.keys c.from-place.result c.in-Some.name.now c.as_slice.ensures.unique c.requires (rw c.as_slice.ensures.keys at found.3.0) (rw c.as_slice.ensures.keys at found.1) same
-
-pub returns-then-is-clause-names : goal.returns-then-is-clause-names
-returns-then-is-clause-names c =
-    let found = c.in-Some.ensures.lookup in
-    let same : bytes_eq c.args.word.now c.in-Some.name.now.items ≡ true = ap (bytes_eq c.args.word.now) (sym c.as_slice-in-Some.ensures.value) ∙ sym c.is.ensures ∙ c.if-is.true in
-    names_hinted c.args.word.now c.args.names.now.keys c.from-place.result c.in-Some.name.now (rw c.as_slice.ensures.keys at found.3.0) (rw c.as_slice.ensures.keys at found.1) same
+pub returns-clause-tested : goal.returns-clause-tested
+returns-clause-tested c =
+    let word = c.args.word.now in
+    let names = texts c.args.names.now.keys in
+    c.note_hint.ensures (texts c.number_of.new.names.keys)
+    (subst (AreTested c.args.hints.now) (sym c.in_ok-place.ensures.names) (tested_more c.args.hints.now names word c.requires.tested))
+    (ap (λ (ns : List (List ℕ)). word_at ns c.in_ok-place.place) c.in_ok-place.ensures.names ∙ word_numbered 256 word names c.in_ok-place.place c.in_ok-place.ensures.place)

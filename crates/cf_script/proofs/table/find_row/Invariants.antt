@@ -7,5 +7,5 @@ use Rattle.cf_script.specs.TableViews.{form_word_of}
 use Rattle.cf_script.proofs.table.find_row.Given as goal
 
 -- the rows from here on decide
-abbrev pub invariant-loop-form_word : goal.invariant-loop-form_word
-invariant-loop-form_word l = find_row (λ r. begins r (lent l.words) && has_count r (lent l.words)) (map form_word_of (drop l.form_word-index l.rows)) ≡ find_row (λ r. begins r (lent l.words) && has_count r (lent l.words)) (map form_word_of l.rows)
+abbrev pub invariant-loop-i : goal.invariant-loop-i
+invariant-loop-i l = find_row (λ r. begins r (lent l.words) && has_count r (lent l.words)) (map form_word_of (drop l.i l.rows)) ≡ find_row (λ r. begins r (lent l.words) && has_count r (lent l.words)) (map form_word_of l.rows)

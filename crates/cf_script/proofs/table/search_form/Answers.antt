@@ -1,11 +1,11 @@
--- Answers to the goals of `table::form_of`.
+-- Answers to the goals of `table::search_form`.
 use Rattle.std.proofs.Common.{ap, sym, ◌∙◌}
 use Rattle.std.specs.Option.{option_map}
 use Rattle.cf_script.specs.declared.table.FormWord.{FormWord}
 use Rattle.cf_script.specs.Views.{lent}
 use Rattle.cf_script.specs.TableViews.{form_word_of}
 use Rattle.cf_script.proofs.TableLaws.{form_found, form_of_no_word, form_of_no_kind, form_of_no_count}
-use Rattle.cf_script.proofs.table.form_of.Goals as goal
+use Rattle.cf_script.proofs.table.search_form.Goals as goal
 use denote.Ref.{Bor}
 
 pub returns-in-Some : goal.returns-in-Some

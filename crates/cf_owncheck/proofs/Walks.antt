@@ -1,7 +1,7 @@
 -- The check at some word of a block: the lines so far are counted, and what is left decides as the whole does.
-use Rattle.std.proofs.Common.{◌≡◌, ℕ, zero, suc, ◌+◌, ◌<◌, ◌≤◌, List, [], ◌∷◌, ◌++◌, length, take, drop, map, get_or, Option, Some, None, refl, ap, sym, ◌∙◌, arith, append_assoc, append-nil, subst}
+use Rattle.std.proofs.Common.{◌≡◌, ℕ, ◌+◌, ◌<◌, ◌≤◌, List, [], ◌∷◌, ◌++◌, length, drop, map, get_or, Option, Some, None, refl, ap, sym, ◌∙◌, arith, append_assoc, append-nil, subst}
 use Rattle.std.specs.Prelude.{slice_index}
-use Rattle.std.proofs.lemmas.List.{drop_more, drop-drop, drop_all}
+use Rattle.std.proofs.lemmas.List.{drop_more, drop_all}
 use Rattle.cf_syntax.specs.declared.counts.Counts.{Counts}
 use Rattle.cf_syntax.specs.declared.statement.Statement.{Statement}
 use Rattle.cf_syntax.specs.declared.script.Script.{Script}
@@ -12,9 +12,9 @@ use Rattle.cf_syntax.specs.declared.refusal.Reason.{Reason}
 use Rattle.cf_syntax.specs.declared.mention.Ownership.TheVariants.{Keeps}
 use Rattle.cf_syntax.proofs.CountLaws.{counted_more}
 use Rattle.cf_syntax.specs.Mentions.{ownership_of}
-use Rattle.cf_syntax.specs.BlockLines.{BlockLine, begins, claims, says, packs, line_ownership, packs_from, claims_from}
+use Rattle.cf_syntax.specs.BlockLines.{BlockLine, claims, says, packs, line_ownership, packs_from, claims_from}
 use Rattle.cf_syntax.specs.Counting.{Counted, HasRoom}
-use Rattle.cf_syntax.specs.Owned.{or_else, on_line, line_fault, statements_fault, given_fault, uses_fault, thread_block_fault, threads_fault, handlers_fault}
+use Rattle.cf_syntax.specs.Owned.{or_else, on_line, line_fault, statements_fault, given_fault, uses_fault, thread_block_fault, threads_fault}
 
 -- ---- faults
 

@@ -5,6 +5,7 @@ mod checked;
 mod handlers;
 mod statements;
 mod threads;
+mod uses;
 
 pub use cf_syntax::{Reason, Refusal, Script};
 pub use checked::{Checked, OwnFault, check_owners};

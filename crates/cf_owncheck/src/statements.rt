@@ -1,11 +1,14 @@
 //! The first fault of a block's statements, by running counts.
 ghost use Rattle.std.specs.Prelude.{◌≡◌, ◌+◌, ◌<◌, ◌++◌, List, ℕ, None, length, map, slice_index};
 ghost use Rattle.cf_syntax.specs.Counting.{Counted, HasRoom};
+ghost use Rattle.cf_syntax.specs.Mentions.{ownership_of};
 ghost use Rattle.cf_syntax.specs.BlockLines.{BlockLine, says};
+ghost use Rattle.cf_owncheck.specs.Uses.{IsUseOf, used_fault};
 ghost use Rattle.cf_syntax.specs.Owned.{unbound_fault, unowned_fault, rebound_fault, thread_fault, or_else, place_fault, line_fault, statements_fault};
 
+use crate::uses::{UseOf, use_of};
 use cf_ids::{ThreadId, VarId};
-use cf_syntax::{Counts, Mention, Reason, Refusal, Script, Statement};
+use cf_syntax::{Counts, Mention, Ownership, Reason, Refusal, Script, Statement};
 
 /// The fault of a variable that is not bound.
 pub(crate) fn unbound_fault(counts: &Counts, variable: VarId) -> Option<Reason>
@@ -43,7 +46,7 @@ pub(crate) fn rebound_fault(counts: &Counts, variable: VarId) -> Option<Reason>
 
 /// The fault of a variable that is used.
 fn use_fault(counts: &Counts, variable: VarId) -> Option<Reason>
-    ensures { (earlier : List BlockLine) → Counted counts.now earlier → result ≡ or_else (unbound_fault earlier variable) (unowned_fault earlier variable) }
+    ensures { (earlier : List BlockLine) → Counted counts.now earlier → result ≡ used_fault earlier variable }
 {
     match unbound_fault(counts, variable) {
         None => unowned_fault(counts, variable),
@@ -95,16 +98,73 @@ fn mentions_fault(script: &Script, counts: &Counts, statement: &Statement) -> Op
     place_fault(script, counts, &third)
 }
 
-/// The fault of a statement's leftmost word that has one. The forms that come most often use one variable, and their
-/// words need no list.
+/// The fault of a statement's one variable.
+fn one_fault(counts: &Counts, first: VarId) -> Option<Reason>
+    ensures { (earlier : List BlockLine) → Counted counts.now earlier → result ≡ or_else (used_fault earlier first) None }
+{
+    if let Some(reason) = use_fault(counts, first) {
+        return Some(reason);
+    }
+    None
+}
+
+/// The fault of the first of two variables that has one.
+fn two_fault(counts: &Counts, first: VarId, second: VarId) -> Option<Reason>
+    ensures { (earlier : List BlockLine) → Counted counts.now earlier
+        → result ≡ or_else (used_fault earlier first) (or_else (used_fault earlier second) None) }
+{
+    if let Some(reason) = use_fault(counts, first) {
+        return Some(reason);
+    }
+    one_fault(counts, second)
+}
+
+/// The fault of the first of three variables that has one.
+fn three_fault(counts: &Counts, first: VarId, second: VarId, third: VarId) -> Option<Reason>
+    ensures { (earlier : List BlockLine) → Counted counts.now earlier
+        → result ≡ or_else (used_fault earlier first)
+        (or_else (used_fault earlier second) (or_else (used_fault earlier third) None)) }
+{
+    if let Some(reason) = use_fault(counts, first) {
+        return Some(reason);
+    }
+    two_fault(counts, second, third)
+}
+
+/// The fault of a statement's leftmost word that has one.
 #[inline(always)]
-fn statement_fault(script: &Script, counts: &Counts, statement: &Statement) -> Option<Reason>
+fn statement_fault(
+    script: &Script,
+    counts: &Counts,
+    uses: &UseOf,
+    statement: &Statement,
+) -> Option<Reason>
+    requires { IsUseOf uses.now statement.now }
     ensures { (earlier : List BlockLine) → Counted counts.now earlier → result ≡ line_fault script.now earlier (says statement.now) }
 {
-    match statement {
-        Statement::Retain { variable } => use_fault(counts, *variable),
-        Statement::Release { variable } => use_fault(counts, *variable),
-        _ => mentions_fault(script, counts, statement),
+    match uses {
+        UseOf::Retains(variable) => one_fault(counts, *variable),
+        UseOf::Releases(variable) => one_fault(counts, *variable),
+        UseOf::One(variable) => one_fault(counts, *variable),
+        UseOf::Two(first, second) => two_fault(counts, *first, *second),
+        UseOf::Three(first, second, third) => three_fault(counts, *first, *second, *third),
+        UseOf::Other => mentions_fault(script, counts, statement),
+    }
+}
+
+/// What a statement does to a variable's count.
+#[inline(always)]
+fn ownership(uses: &UseOf, statement: &Statement) -> Ownership
+    requires { IsUseOf uses.now statement.now }
+    ensures { result ≡ ownership_of statement.now }
+{
+    match uses {
+        UseOf::Retains(variable) => Ownership::Retains(*variable),
+        UseOf::Releases(variable) => Ownership::Releases(*variable),
+        UseOf::One(_) => Ownership::Keeps,
+        UseOf::Two(..) => Ownership::Keeps,
+        UseOf::Three(..) => Ownership::Keeps,
+        UseOf::Other => statement.ownership(),
     }
 }
 
@@ -120,11 +180,12 @@ pub(crate) fn statements_fault(
     ensures counted { (earlier : List BlockLine) → Counted counts.old earlier → result ≡ None → Counted counts.new (earlier ++ map says statements.now) }
 {
     for (i, statement) in statements.iter().enumerate() {
-        if let Some(reason) = statement_fault(script, counts, statement) {
+        let uses = use_of(statement);
+        if let Some(reason) = statement_fault(script, counts, &uses, statement) {
             let line = lines.get(i).copied().unwrap_or(0);
             return Some(Refusal { line, reason });
         }
-        counts.count(statement.ownership());
+        counts.count(ownership(&uses, statement));
     }
     None
 }

@@ -1,5 +1,5 @@
 -- Answers to the goals of `handlers::handler_counts`.
-use Rattle.std.proofs.Common.{[], refl, arith}
+use Rattle.std.proofs.Common.{[], refl}
 use Rattle.cf_syntax.specs.BlockLines.{begins}
 use Rattle.cf_owncheck.proofs.handlers.handler_counts.Goals as goal
 

@@ -1,13 +1,21 @@
 -- Answers to the goals of `statements::statement_fault`.
-use Rattle.std.proofs.Common.{◌∙◌}
-use Rattle.cf_syntax.specs.Owned.{or_else, unbound_fault, unowned_fault}
-use Rattle.cf_owncheck.proofs.Walks.{or_nothing}
 use Rattle.cf_owncheck.proofs.statements.statement_fault.Goals as goal
 
-pub returns-in-Retain : goal.returns-in-Retain
-returns-in-Retain c = λ earlier counted.
-    c.use_fault.ensures earlier counted ∙ rw c.in-Retain.is (or_nothing (or_else (unbound_fault earlier c.in-Retain.variable) (unowned_fault earlier c.in-Retain.variable)))
+pub returns-in-Retains : goal.returns-in-Retains
+returns-in-Retains c = λ earlier counted. rw (rw c.in-Retains.is at c.requires) (c.one_fault.ensures earlier counted)
 
-pub returns-in-Release : goal.returns-in-Release
-returns-in-Release c = λ earlier counted.
-    c.use_fault-in-Release.ensures earlier counted ∙ rw c.in-Release.is (or_nothing (or_else (unbound_fault earlier c.in-Release.variable) (unowned_fault earlier c.in-Release.variable)))
+pub returns-in-Releases : goal.returns-in-Releases
+returns-in-Releases c = λ earlier counted.
+    rw (rw c.in-Releases.is at c.requires) (c.one_fault-in-Releases.ensures earlier counted)
+
+pub returns-in-One : goal.returns-in-One
+returns-in-One c = λ earlier counted.
+    let h = rw c.in-One.is at c.requires in rw h.0 (c.one_fault-in-One.ensures earlier counted)
+
+pub returns-in-Two : goal.returns-in-Two
+returns-in-Two c = λ earlier counted.
+    let h = rw c.in-Two.is at c.requires in rw h.0 (c.two_fault.ensures earlier counted)
+
+pub returns-in-Three : goal.returns-in-Three
+returns-in-Three c = λ earlier counted.
+    let h = rw c.in-Three.is at c.requires in rw h.0 (c.three_fault.ensures earlier counted)

@@ -1,8 +1,7 @@
 -- Answers to the goals of `statements::statements_fault`.
-use Rattle.std.proofs.Common.{◌≡◌, ◌+◌, ◌++◌, List, length, drop, map, sym, subst, ap, ◌∙◌, arith}
+use Rattle.std.proofs.Common.{◌≡◌, ◌+◌, ◌++◌, length, drop, map, sym, subst, ◌∙◌}
 use Rattle.std.proofs.lemmas.List.{drop-drop}
-use Rattle.cf_syntax.specs.declared.statement.Statement.{Statement}
-use Rattle.cf_syntax.specs.BlockLines.{BlockLine, says}
+use Rattle.cf_syntax.specs.BlockLines.{says}
 use Rattle.cf_syntax.specs.Counting.{HasRoom}
 use Rattle.cf_syntax.specs.Owned.{statements_fault}
 use Rattle.cf_owncheck.proofs.Walks.{Reached, at_place, reached_more, one_left}

@@ -1,5 +1,5 @@
 -- The loop invariants of `statements::statements_fault`.
-use Rattle.std.proofs.Common.{◌≡◌, List, ◌++◌, drop, map, length}
+use Rattle.std.proofs.Common.{List, ◌++◌, drop, map, length}
 use Rattle.cf_syntax.specs.BlockLines.{BlockLine, says}
 use Rattle.cf_syntax.specs.Counting.{Counted, HasRoom}
 use Rattle.cf_syntax.specs.Owned.{statements_fault}

@@ -1,5 +1,5 @@
 -- Answers to the goals of `threads::thread_fault`.
-use Rattle.std.proofs.Common.{◌≡◌, [], refl, sym, ◌∙◌}
+use Rattle.std.proofs.Common.{[], refl, sym, ◌∙◌}
 use Rattle.cf_syntax.specs.BlockLines.{claims_from}
 use Rattle.cf_syntax.specs.Owned.{uses_fault}
 use Rattle.cf_owncheck.proofs.Walks.{or_none}

@@ -1,5 +1,5 @@
 -- The loop invariants of `threads::threads_fault`.
-use Rattle.std.proofs.Common.{◌≡◌, ℕ, List, drop}
+use Rattle.std.proofs.Common.{ℕ, List, drop}
 use Rattle.cf_syntax.specs.BlockLines.{BlockLine}
 use Rattle.cf_syntax.specs.Counting.{Counted}
 use Rattle.cf_syntax.specs.Owned.{threads_fault}

@@ -1,9 +1,7 @@
 -- Answers to the goals of `threads::uses_fault`.
-use Rattle.std.proofs.Common.{◌≡◌, ℕ, ◌+◌, ◌++◌, List, length, drop, refl, sym, subst, ap, ◌∙◌, arith}
-use Rattle.cf_syntax.specs.BlockLines.{packs_from, claims_from}
+use Rattle.std.proofs.Common.{◌≡◌, ◌+◌, length, drop, arith}
 use Rattle.cf_syntax.specs.Counting.{HasRoom}
-use Rattle.cf_syntax.specs.Owned.{uses_fault}
-use Rattle.cf_owncheck.proofs.Walks.{Taking, at_word, taking_more, taking_last, room_at_least, one_left}
+use Rattle.cf_owncheck.proofs.Walks.{taking_last, room_at_least, one_left}
 use Rattle.cf_owncheck.proofs.threads.uses_fault.Goals as goal
 
 pub take_over-requires-clause-room : goal.take_over-requires-clause-room

@@ -1,5 +1,5 @@
 -- The loop invariants of `threads::uses_fault`.
-use Rattle.std.proofs.Common.{◌≡◌, ℕ, List, ◌++◌, ◌+◌, drop, length}
+use Rattle.std.proofs.Common.{ℕ, List, ◌++◌, ◌+◌, drop, length}
 use Rattle.cf_syntax.specs.BlockLines.{BlockLine, packs_from, claims_from}
 use Rattle.cf_syntax.specs.Counting.{Counted, HasRoom}
 use Rattle.cf_syntax.specs.Owned.{uses_fault}

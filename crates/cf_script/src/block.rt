@@ -74,6 +74,7 @@ impl OpenBlock {
     }
 
     /// A line with a statement.
+    #[inline(always)]
     #[tactic(auto, unfolding(cf_syntax::specs::Text::statement_of))]
     fn statement_line(
         &mut self,
@@ -171,6 +172,7 @@ impl Reader {
     }
 
     /// A line that says something, after line 1, by its words.
+    #[inline(always)]
     fn place_line(&mut self, alloc: Global, words: &[&[u8]]) -> Result<(), LineFault>
         requires { self.old.count + 1 < 2 ^ 32 }
         ensures { GivesAs (λ _. reading_of self.new) result
@@ -187,6 +189,7 @@ impl Reader {
     }
 
     /// A line that says something.
+    #[inline(always)]
     #[tactic(auto, unfolding(cf_syntax::specs::Text::spoken_line, cf_syntax::specs::Text::header_line))]
     fn spoken_line<'a>(
         &mut self,

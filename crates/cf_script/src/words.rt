@@ -157,6 +157,7 @@ pub(crate) fn split_words<'a>(found: &mut Vec<&'a [u8]>, line: &'a [u8]) -> Resu
 }
 
 /// Whether two words are the same.
+#[inline(always)]
 pub(crate) fn is(word: &[u8], text: &[u8]) -> bool
     ensures { result ≡ bytes_eq word.now text.now }
 {

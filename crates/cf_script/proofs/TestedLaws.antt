@@ -22,13 +22,13 @@ use Rattle.cf_script.specs.Shapes.{IsKnown}
 use Rattle.cf_script.specs.Tables.{AreTested}
 
 -- no hint leads anywhere
-pub no_hint : (k i : ℕ) → slice_index (replicate 256 0) k ≡ i + 1 → ⊥
+pub no_hint : (k i : ℕ) → slice_index (replicate 1024 0) k ≡ i + 1 → ⊥
 no_hint k i e = omega (arith, zero_at k, e)
   where
-    zero_at : (k : ℕ) → slice_index (replicate 256 0) k ≡ 0
-    zero_at k = elim (cases_Bool (ltb k 256)) [
-      | inl t ↦ get_or-replicate 256 k 0 0 (ltb-true k 256 t)
-      | inr f ↦ get_or-eq_default (replicate 256 0) 0 (ltb-false k 256 f)
+    zero_at : (k : ℕ) → slice_index (replicate 1024 0) k ≡ 0
+    zero_at k = elim (cases_Bool (ltb k 1024)) [
+      | inl t ↦ get_or-replicate 1024 k 0 0 (ltb-true k 1024 t)
+      | inr f ↦ get_or-eq_default (replicate 1024 0) 0 (ltb-false k 1024 f)
     ]
 
 -- what stands at the place of a name of a table

@@ -85,7 +85,7 @@ fn hinted_variable(names: &IndexSet<Vec<u8>>, hints: &[u16; HINTS], word: &[u8])
     ensures below { IfSome result (λ n. n < VARIABLES) }
     ensures tested { IfSome result (λ n. AreTested hints.now (texts names.now.keys) → is_variable true word.now ≡ true) }
 {
-    let hint = hints[usize::from(hint_of(word))];
+    let hint = hints[hint_of(word)];
     if hint == 0 {
         return None;
     }
@@ -105,7 +105,7 @@ fn note_hint(hints: &mut [u16; HINTS], word: &[u8], place: usize)
         → AreTested hints.new names }
 {
     if is_variable(true, word) {
-        hints[usize::from(hint_of(word))] = place as u16 + 1;
+        hints[hint_of(word)] = place as u16 + 1;
     }
 }
 

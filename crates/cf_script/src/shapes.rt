@@ -121,6 +121,7 @@ fn of_span(form: StatementForm, variable: VarId, at: u32, len: u32) -> Option<St
     }
 }
 
+/// The statement of a line of one variable, if the form is of that shape and the words are known.
 #[inline(always)]
 fn known_one(
     names: &Names,
@@ -134,6 +135,7 @@ fn known_one(
     of_one(form, variable)
 }
 
+/// The statement of a line of two variables, if the form is of that shape and the words are known.
 #[inline(always)]
 fn known_two(
     names: &Names,
@@ -148,6 +150,7 @@ fn known_two(
     of_two(form, variable, other)
 }
 
+/// The statement of a line of three variables, if the form is of that shape and the words are known.
 #[inline(always)]
 fn known_three(
     names: &Names,
@@ -163,6 +166,7 @@ fn known_three(
     of_three(form, variable, key, value)
 }
 
+/// The statement of a line of a variable and an INDEX, if the form is of that shape and the words are known.
 #[inline(always)]
 fn known_at(
     names: &Names,
@@ -177,6 +181,7 @@ fn known_at(
     of_at(form, variable, at)
 }
 
+/// The statement of a line of a variable, an INDEX and another variable, if the form is of that shape and the words are known.
 #[inline(always)]
 fn known_put(
     names: &Names,
@@ -192,6 +197,7 @@ fn known_put(
     of_put(form, variable, at, element)
 }
 
+/// The statement of a line of a variable and two INDEXes, if the form is of that shape and the words are known.
 #[inline(always)]
 fn known_span(
     names: &Names,

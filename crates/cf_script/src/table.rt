@@ -152,7 +152,7 @@ impl FormHints {
     pub fn form_of(&mut self, words: &[&[u8]]) -> Result<&'static FormWord, Reason>
         ensures { found_row result ≡ form_of (lent words.now) }
     {
-        let hint = usize::from(hint_of(word_at(words, 0)));
+        let hint = hint_of(word_at(words, 0));
         if let Some(form_word) = row_at(&FORMS, words, self.places[hint]) {
             return Ok(form_word);
         }

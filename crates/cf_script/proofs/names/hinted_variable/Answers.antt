@@ -23,4 +23,4 @@ returns-then-is-clause-tested c = λ tested.
     let found = c.in_ok-name.ensures.lookup in
     let same : bytes_eq c.args.word.now c.in_ok-name.name.now.items ≡ true = ap (bytes_eq c.args.word.now) (sym c.as_slice-2.ensures.value) ∙ sym c.is.ensures ∙ c.if-is.true in
     let there = word_there c.args.names.now.keys c.from-place.result c.in_ok-name.name.now c.args.word.now (rw c.as_slice.ensures.keys at found.3.0) (rw c.as_slice.ensures.keys at found.1) same in
-    tested_word c.args.hints.now (texts c.args.names.now.keys) c.from.result c.from-place.result c.args.word.now (omega arith) there tested
+    tested_word c.args.hints.now (texts c.args.names.now.keys) c.hint_of.result c.from-place.result c.args.word.now (omega arith) there tested

@@ -13,6 +13,7 @@ use cf_members::{ElementHeap, MemberBag, MemberSet};
 
 impl Body {
     /// The object in the slot at a place.
+    #[inline(always)]
     pub fn slot(&self, k: usize) -> Option<ObjId>
         ensures slot { result ≡ slice_get (slots_in self.now.content) k }
         ensures few { OnSome result (k + 1 < 4294967296) }

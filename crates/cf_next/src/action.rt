@@ -431,6 +431,7 @@ impl Action {
     }
 
     /// The object to which the action takes a reference away: that of a release or a drop.
+    #[inline(always)]
     pub fn cuts(&self) -> Option<ObjId>
         ensures { result ≡ cut_of self.now }
     {

@@ -71,6 +71,7 @@ fn thread_block(script: &Script, thread: usize) -> Option<&Block>
 }
 
 /// A statement, as a line.
+#[inline(always)]
 fn statement_line<'s>(statements: &'s [Statement], number: usize) -> Option<Line<'s>>
     ensures { option_map line_of result ≡ slice_get (map says statements.now) number }
 {
@@ -118,6 +119,7 @@ fn pack_line<'s>(blocks: &'s [Block], number: usize) -> Option<Line<'s>>
 }
 
 /// A line of setup.
+#[inline(always)]
 fn setup_line(script: &Script, number: usize) -> Option<Line<'_>>
     ensures { option_map line_of result ≡ slice_get (setup_lines script.now) number }
 {
@@ -146,6 +148,7 @@ fn later_line(script: &Script, thread: usize, number: usize) -> Option<Line<'_>>
 }
 
 /// A line of a thread's block.
+#[inline(always)]
 fn thread_line(script: &Script, thread: usize, number: usize) -> Option<Line<'_>>
     ensures { option_map line_of result ≡ slice_get (thread_lines script.now thread) number }
 {
@@ -175,6 +178,7 @@ fn handler_line(script: &Script, handler: HandlerId, number: usize) -> Option<Li
 }
 
 /// How many lines of a frame's block stand before its first statement.
+#[inline(always)]
 pub(crate) fn lines_before(script: &Script, kind: &Kind) -> usize
     ensures { result ≡ lines_before script.now (kind_of kind.now) (block_in kind.now) }
 {
@@ -187,6 +191,7 @@ pub(crate) fn lines_before(script: &Script, kind: &Kind) -> usize
 }
 
 /// A line of a frame's block; a run has none.
+#[inline(always)]
 pub(crate) fn kind_line<'s>(script: &'s Script, kind: &Kind, number: usize) -> Option<Line<'s>>
     ensures { option_map line_of result
         ≡ slice_get (frame_lines script.now (kind_of kind.now) (block_in kind.now)) number }

@@ -26,13 +26,13 @@ IsReadyAt change (Some b) = CanBe change b.content × HasRoom change b
 -- where the object comes from that a deed binds
 abbrev pub origin_of : Origin → deeds.Origin
 origin_of Nowhere = deeds.nowhere
-origin_of (Fresh b) = deeds.fresh (object_in b)
+origin_of (Fresh b) = deeds.fresh (object_in b.value)
 origin_of (There o) = deeds.there o
 
 -- a new body that a deed makes is live and has given up nothing
 abbrev pub IsNew : Origin → Type 0
 IsNew Nowhere = Unit {0}
-IsNew (Fresh b) = held_of b ≡ live (object_in b)
+IsNew (Fresh b) = held_of b.value ≡ live (object_in b.value)
 IsNew (There o) = Unit {0}
 
 -- a deed of the program, as the definitions have it

@@ -92,13 +92,14 @@ fn part(alloc: Global, text: &Str, at: usize, len: usize) -> Result<Plan, NoMemo
     ensures { IfOk result (λ d. IsAlone (part_of text.now.units at len) d) }
 {
     match text.substring(alloc, at, len) {
-        Ok(text) => Ok(Plan::creating(
+        Ok(text) => Plan::creating(
+            alloc,
             TypeId::STRING,
             Kind::Text {
                 mutable: false,
                 text,
             },
-        )),
+        ),
         Err(StrFault::NoMemory) => Err(NoMemory),
         Err(fault) => Ok(Plan::answering(answer_to(fault))),
     }

@@ -49,12 +49,12 @@ pub(crate) fn plan_alone(
         Statement::MakeMstring { text, .. } => make_text(alloc, true, text),
         Statement::MakeData { bytes, .. } => make_data(alloc, false, bytes),
         Statement::MakeMdata { bytes, .. } => make_data(alloc, true, bytes),
-        Statement::MakeNumber { number, .. } => Ok(make_number(*number)),
-        Statement::MakeArray { plain, .. } => Ok(make_array(alloc, *plain)),
-        Statement::MakeDict { plain, .. } => Ok(make_dictionary(alloc, *plain)),
-        Statement::MakeSet { plain, .. } => Ok(make_set(alloc, *plain)),
-        Statement::MakeBag { plain, .. } => Ok(make_bag(alloc, *plain)),
-        Statement::MakeHeap { plain, .. } => Ok(make_heap(alloc, *plain)),
+        Statement::MakeNumber { number, .. } => make_number(alloc, *number),
+        Statement::MakeArray { plain, .. } => make_array(alloc, *plain),
+        Statement::MakeDict { plain, .. } => make_dictionary(alloc, *plain),
+        Statement::MakeSet { plain, .. } => make_set(alloc, *plain),
+        Statement::MakeBag { plain, .. } => make_bag(alloc, *plain),
+        Statement::MakeHeap { plain, .. } => make_heap(alloc, *plain),
         Statement::New {
             class: Some(class),
             key,
@@ -71,7 +71,7 @@ fn make_text(alloc: Global, mutable: bool, literal: &TextLiteral) -> Result<Plan
         IfOk result (λ d. IsAlone deed d) }
 {
     let text = literal.text().copy(alloc)?;
-    Ok(Plan::creating(TypeId::STRING, Kind::Text { mutable, text }))
+    Plan::creating(alloc, TypeId::STRING, Kind::Text { mutable, text })
 }
 
 /// Makes data of bytes.
@@ -80,7 +80,7 @@ fn make_data(alloc: Global, mutable: bool, literal: &DataLiteral) -> Result<Plan
         IfOk result (λ d. IsAlone deed d) }
 {
     let bytes = copy_bytes(alloc, literal.bytes())?;
-    Ok(Plan::creating(DATA, Kind::Data { mutable, bytes }))
+    Plan::creating(alloc, DATA, Kind::Data { mutable, bytes })
 }
 
 /// The same bytes once more.
@@ -94,46 +94,50 @@ pub(crate) fn copy_bytes(alloc: Global, bytes: &[u8]) -> Result<Bytes, NoMemory>
 }
 
 /// Makes a number.
-fn make_number(number: Num) -> Plan
-    ensures { IsAlone (creating number_class (number_content number)) result }
+fn make_number(alloc: Global, number: Num) -> Result<Plan, NoMemory>
+    ensures { IfOk result (λ d. IsAlone (creating number_class (number_content number)) d) }
 {
-    Plan::creating(NUMBER, Kind::Number(number))
+    Plan::creating(alloc, NUMBER, Kind::Number(number))
 }
 
 /// Makes an array without elements.
-fn make_array(alloc: Global, plain: bool) -> Plan
-    ensures { IsAlone (creating array_class (array_content plain [])) result }
+fn make_array(alloc: Global, plain: bool) -> Result<Plan, NoMemory>
+    ensures { IfOk result (λ d. IsAlone (creating array_class (array_content plain [])) d) }
 {
     let elements = Array::new(alloc);
-    Plan::creating(ARRAY, Kind::Array { plain, elements })
+    Plan::creating(alloc, ARRAY, Kind::Array { plain, elements })
 }
 
 /// Makes a dictionary without pairs.
-fn make_dictionary(alloc: Global, plain: bool) -> Plan
-    ensures { IsAlone (creating dictionary_class (dictionary_content plain [])) result }
+fn make_dictionary(alloc: Global, plain: bool) -> Result<Plan, NoMemory>
+    ensures { IfOk result (λ d. IsAlone (creating dictionary_class (dictionary_content plain [])) d) }
 {
-    Plan::creating(DICTIONARY, Kind::Dictionary(Pairs::new(alloc, plain)))
+    Plan::creating(
+        alloc,
+        DICTIONARY,
+        Kind::Dictionary(Pairs::new(alloc, plain)),
+    )
 }
 
 /// Makes a set without members.
-fn make_set(alloc: Global, plain: bool) -> Plan
-    ensures { IsAlone (creating set_class (set_content plain [])) result }
+fn make_set(alloc: Global, plain: bool) -> Result<Plan, NoMemory>
+    ensures { IfOk result (λ d. IsAlone (creating set_class (set_content plain [])) d) }
 {
-    Plan::creating(SET, Kind::Set(MemberSet::new(alloc, plain)))
+    Plan::creating(alloc, SET, Kind::Set(MemberSet::new(alloc, plain)))
 }
 
 /// Makes a bag without members.
-fn make_bag(alloc: Global, plain: bool) -> Plan
-    ensures { IsAlone (creating bag_class (bag_content plain [])) result }
+fn make_bag(alloc: Global, plain: bool) -> Result<Plan, NoMemory>
+    ensures { IfOk result (λ d. IsAlone (creating bag_class (bag_content plain [])) d) }
 {
-    Plan::creating(BAG, Kind::Bag(MemberBag::new(alloc, plain)))
+    Plan::creating(alloc, BAG, Kind::Bag(MemberBag::new(alloc, plain)))
 }
 
 /// Makes a heap without elements.
-fn make_heap(alloc: Global, plain: bool) -> Plan
-    ensures { IsAlone (creating heap_class (heap_content plain 0 [])) result }
+fn make_heap(alloc: Global, plain: bool) -> Result<Plan, NoMemory>
+    ensures { IfOk result (λ d. IsAlone (creating heap_class (heap_content plain 0 [])) d) }
 {
-    Plan::creating(HEAP, Kind::Heap(ElementHeap::new(alloc, plain)))
+    Plan::creating(alloc, HEAP, Kind::Heap(ElementHeap::new(alloc, plain)))
 }
 
 /// Makes an instance of a class, with empty fields.
@@ -150,7 +154,7 @@ fn make_instance(
         return Ok(Plan::skipping());
     };
     let fields = empty_fields(alloc, line.fields)?;
-    Ok(Plan::creating(class, Kind::Instance(Instance { key, fields })))
+    Plan::creating(alloc, class, Kind::Instance(Instance { key, fields }))
 }
 
 /// So many empty fields.

@@ -1,23 +1,24 @@
 //! What a statement does, as data.
-ghost use Rattle.std.specs.Prelude.{◌≡◌, ◌<◌};
+ghost use Rattle.std.specs.Prelude.{◌≡◌, ◌<◌, IfOk};
 ghost use Rattle.cf_contents.specs.Contents.{member_limit};
 ghost use Rattle.cf_contents.specs.Deeds.{binding, creating};
 ghost use Rattle.cf_body.specs.Bodies.{content_of, most_in};
-ghost use Rattle.cf_store.specs.Applies.{deed_by, IsNew};
+ghost use Rattle.cf_store.specs.Applies.{deed_by, IsAlone, IsNew};
 ghost use Rattle.cf_store.specs.declared.plan.Origin.TheVariants.{Nowhere};
 ghost use Rattle.cf_body.specs.declared.change.BodyChange.TheVariants.{Nothing};
 ghost use Rattle.cf_ids.specs.declared.answer.Answer.TheVariants.{Skip, Ok};
 
 use cf_body::{Body, BodyChange, Kind};
 use cf_ids::{Answer, ObjId, TypeId};
+use std::alloc::{AllocError as NoMemory, Global};
 
 /// Where the object comes from that a statement binds.
 #[derive(Drop)]
 pub enum Origin {
     /// There is none, and the variable is empty.
     Nowhere,
-    /// It is new, and has this body.
-    Fresh(Body),
+    /// It is new, and has this body, which stands behind a box, so that a deed is small.
+    Fresh(Box<Body>),
     /// It is there already; it may be finalised.
     There(ObjId),
 }
@@ -57,17 +58,16 @@ impl Plan {
     }
 
     /// It makes an object.
-    pub(crate) fn creating(class: TypeId, kind: Kind) -> Plan
+    pub(crate) fn creating(alloc: Global, class: TypeId, kind: Kind) -> Result<Plan, NoMemory>
         requires { most_in (content_of kind) < member_limit }
-        ensures is { deed_by result ≡ creating class (content_of kind) }
-        ensures change { result.change ≡ Nothing }
-        ensures new { IsNew result.origin }
+        ensures { IfOk result (λ d. IsAlone (creating class (content_of kind)) d) }
     {
-        Plan {
+        let body = Box::new(alloc, Body::new(class, kind))?;
+        Ok(Plan {
             answer: Answer::Skip,
-            origin: Origin::Fresh(Body::new(class, kind)),
+            origin: Origin::Fresh(body),
             change: BodyChange::Nothing,
-        }
+        })
     }
 
     /// It changes the first object that is used.
@@ -99,6 +99,7 @@ impl Plan {
 }
 
 /// Lets a deed be ready, or none.
+#[inline(always)]
 pub(crate) fn set_ready(ready: &mut Option<ReadyPlan>, deed: Option<ReadyPlan>)
     ensures { ready.new ≡ deed }
 {

@@ -87,7 +87,7 @@ fn found(store: &mut Store, origin: Origin) -> Option<ObjId>
 {
     match origin {
         Origin::Nowhere => None,
-        Origin::Fresh(body) => Some(store.make(body)),
+        Origin::Fresh(body) => Some(store.make(Box::into_inner(body))),
         Origin::There(object) => {
             if store.is_live(object) {
                 Some(object)

@@ -19,7 +19,7 @@ use Rattle.cf_world.specs.declared.next.Next.{Next as NextCode}
 use Rattle.cf_world.specs.declared.next.Next.TheVariants as nexts
 use Rattle.cf_world.specs.declared.found.Reserved.{Reserved}
 use Rattle.cf_world.specs.declared.begun.Begun.TheInside.{Inside}
-use Rattle.cf_world.specs.Begun.{HasGone, IsBegun, IsFound, IsReserved, ReservedIf, thread_of, view_of}
+use Rattle.cf_world.specs.Begun.{HasGone, IsBegun, IsFound, IsReserved, ReservedIf, reserved_of, thread_of, view_of}
 use Rattle.cf_world.proofs.Moving.{next_steps}
 
 -- ---- the action that may be done
@@ -94,7 +94,7 @@ module _ (w : Inside) (inv : IsBegun w) (r : Reserved) (found : IsFound w.ground
   pub below_limit : length w.ground.journal < w.limit
   below_limit = parts.below
 
-  module _ (w' : Inside) (limit : w'.limit ≡ w.limit) (gone : HasGone r w.ground w'.ground w'.frames.items) (none : w'.reserved ≡ None)
+  module _ (w' : Inside) (limit : w'.limit ≡ w.limit) (gone : HasGone r w.ground w'.ground w'.frames.items) (none : w'.has_room ≡ false)
       (gained_room : 2 ≤ vec_capacity w'.gained) (few : length w'.gained.items ≤ 2) (list_room : 2 ≤ vec_capacity w'.list) where
     longer : length w'.ground.journal ≡ length w.ground.journal + 1
     longer = ap length gone.entered.journal ∙ length-append w.ground.journal (entry_of w.ground.script r.thread (state_of w.ground) r.action ∷ [])
@@ -108,12 +108,12 @@ module _ (w : Inside) (inv : IsBegun w) (r : Reserved) (found : IsFound w.ground
       gained_room = gained_room;
       few = few;
       list_room = list_room;
-      reserved = subst (ReservedIf w'.ground w'.frames.items) (sym none) tt;
+      reserved = subst (λ (b : Bool). ReservedIf w'.ground w'.frames.items (cond b (Some w'.reserved) None)) (sym none) tt;
     }
 
     now_is : view_of w' ≡ record { script = Some w'.ground.script; limit = w.limit; journal = w'.ground.journal; gained = w'.gained.items; room = None }
     now_is =
-        ap (λ (o : Option Reserved). record { script = Some w'.ground.script; limit = w'.limit; journal = w'.ground.journal; gained = w'.gained.items; room = option_map thread_of o }) none
+        ap (λ (b : Bool). record { script = Some w'.ground.script; limit = w'.limit; journal = w'.ground.journal; gained = w'.gained.items; room = option_map thread_of (cond b (Some w'.reserved) None) }) none
         ∙ ap (λ (n : ℕ). record { script = Some w'.ground.script; limit = n; journal = w'.ground.journal; gained = w'.gained.items; room = None }) limit
 
     gains_same : gained_in w.ground r.thread ≡ gained_by (flow_in w.ground.script r.thread (state_of w.ground) r.action)
@@ -131,6 +131,16 @@ module _ (w : Inside) (inv : IsBegun w) (r : Reserved) (found : IsFound w.ground
         ∙ view_same w'.ground.script w.ground.script w.limit w'.ground.journal _ w'.gained.items _ gone.entered.script gone.entered.journal same
         ∙ sym (ap (λ (o : Option Action). entered_by (Some w.ground.script) o r.thread (λ before gained. before) (view_of w)) acting_is)
 
+-- ---- what room was made for
+
+has_room_by : (b : Bool) (r : Reserved) (t : ℕ) → option_map thread_of (cond b (Some r) None) ≡ Some t → cond b (Some r) None ≡ Some r
+has_room_by true r t e = refl
+has_room_by false r t e = absurd cc
+
+-- there is room for what was found last, where callers see that there is room
+pub room_here : (w : Inside) (now : WorldView) (t : ℕ) → view_of w ≡ now → now.room ≡ Some t → reserved_of w ≡ Some w.reserved
+room_here w now t is room = has_room_by w.has_room w.reserved t (ap (λ (v : WorldView). v.room) is ∙ room)
+
 -- ---- the same for the thread that callers name
 
 module _ (w : Inside) (now : WorldView) (t : ℕ) (is : view_of w ≡ now) (inv : IsBegun w) (r : Reserved) where
@@ -138,11 +148,11 @@ module _ (w : Inside) (now : WorldView) (t : ℕ) (is : view_of w ≡ now) (inv 
   pub acts_here : (P : Action → Type 0) → r.thread ≡ t → IsSomeAnd (acting now t) P → IsSomeAnd (acting (view_of w) r.thread) P
   acts_here P same acts = subst (λ (v : WorldView). IsSomeAnd (acting v r.thread) P) (sym is) (subst (λ (u : ℕ). IsSomeAnd (acting now u) P) (sym same) acts)
 
-  pub thread_here : w.reserved ≡ Some r → now.room ≡ Some t → r.thread ≡ t
-  thread_here e room = thread_is w.reserved r t e (ap (λ (v : WorldView). v.room) is ∙ room)
+  pub thread_here : reserved_of w ≡ Some r → now.room ≡ Some t → r.thread ≡ t
+  thread_here e room = thread_is (reserved_of w) r t e (ap (λ (v : WorldView). v.room) is ∙ room)
 
-  pub reserved_here : w.reserved ≡ Some r → IsReserved w.ground w.frames.items r
-  reserved_here e = reserved_is w.ground w.frames.items w.reserved r e inv.reserved
+  pub reserved_here : reserved_of w ≡ Some r → IsReserved w.ground w.frames.items r
+  reserved_here e = reserved_is w.ground w.frames.items (reserved_of w) r e inv.reserved
 
   pub applied_here : (v : WorldView) → r.thread ≡ t → v ≡ applied r.thread (view_of w) → v ≡ applied t now
   applied_here v same e = e ∙ ap (λ (u : ℕ). applied u (view_of w)) same ∙ ap (applied t) is

@@ -1,5 +1,5 @@
 -- A world whose script has begun is one again after an entry of the lead, and callers see the entry.
-use Rattle.std.proofs.Common.{◌≡◌, ℕ, ◌+◌, ◌<◌, ◌≤◌, ◌∙◌, List, [], ◌∷◌, ◌++◌, length, map, Option, Some, None, refl, sym, ap, subst, arith, length-append}
+use Rattle.std.proofs.Common.{false, ◌≡◌, ℕ, ◌+◌, ◌<◌, ◌≤◌, ◌∙◌, List, [], ◌∷◌, ◌++◌, length, map, Option, Some, None, refl, sym, ap, subst, arith, length-append}
 use Rattle.std.specs.Global.{Vec}
 use Rattle.cf_syntax.specs.declared.script.Script.{Script}
 use Rattle.cf_next.specs.declared.action.Action.{Action}
@@ -15,7 +15,7 @@ use Rattle.cf_world.specs.Leads.{HasPlaceFor, HasLed, lead_entry}
 pub has_place : (w : Inside) → IsBegun w → length w.ground.journal < w.limit → HasPlaceFor w.ground
 has_place w inv below = record { room = omega (arith, inv.room, below); short = omega (arith, inv.most, below) }
 
-module _ (w w' : Inside) (a : Action) (inv : IsBegun w) (h : HasLed a w.ground w'.ground) (frames : w'.frames ≡ w.frames) (limit : w'.limit ≡ w.limit) (gained : w'.gained ≡ w.gained) (list : w'.list ≡ w.list) (none : w'.reserved ≡ None) (below : length w.ground.journal < w.limit) where
+module _ (w w' : Inside) (a : Action) (inv : IsBegun w) (h : HasLed a w.ground w'.ground) (frames : w'.frames ≡ w.frames) (limit : w'.limit ≡ w.limit) (gained : w'.gained ≡ w.gained) (list : w'.list ≡ w.list) (none : w'.has_room ≡ false) (below : length w.ground.journal < w.limit) where
   longer : length w'.ground.journal ≡ length w.ground.journal + 1
   longer = ap length h.journal ∙ length-append w.ground.journal (lead_entry a ∷ [])
 

@@ -158,14 +158,14 @@ module _ (g : GroundView) (limit t : ℕ) where
   abbrev stand : Stand
   stand = stand_at t was.stands
 
-  pub looked_waiting : (flags_at t was.parts.flags).is_started ≡ false → IsLooked g limit t (Err nexts.Waiting)
-  looked_waiting e = (look_waiting g.script limit g.journal t e, refl)
+  pub looked_waiting : (flags_at t was.parts.flags).is_started ≡ false → nexts.Waiting ≡ next_of g.script limit g.journal t
+  looked_waiting e = look_waiting g.script limit g.journal t e
 
-  pub looked_done : (flags_at t was.parts.flags).is_started ≡ true → stand.is_done ≡ true → IsLooked g limit t (Err nexts.Done)
-  looked_done e done = (look_done g.script limit g.journal t e done, refl)
+  pub looked_done : (flags_at t was.parts.flags).is_started ≡ true → stand.is_done ≡ true → nexts.Done ≡ next_of g.script limit g.journal t
+  looked_done e done = look_done g.script limit g.journal t e done
 
-  pub looked_asleep : (flags_at t was.parts.flags).is_started ≡ true → stand.is_done ≡ false → sleeps was t ≡ true → IsLooked g limit t (Err nexts.Asleep)
-  looked_asleep e going asleep = (look_asleep g.script limit g.journal t e going asleep, refl)
+  pub looked_asleep : (flags_at t was.parts.flags).is_started ≡ true → stand.is_done ≡ false → sleeps was t ≡ true → nexts.Asleep ≡ next_of g.script limit g.journal t
+  looked_asleep e going asleep = look_asleep g.script limit g.journal t e going asleep
 
   module _ (started : (flags_at t was.parts.flags).is_started ≡ true) (awake : sleeps was t ≡ false) (d : Demand) (demands : demanded g.script was t ≡ Some d) where
     going : stand.is_done ≡ false
@@ -177,12 +177,12 @@ module _ (g : GroundView) (limit t : ℕ) where
     next_act : Next g.script was t ≡ Some act
     next_act = subst (λ (o : Option Demand). cond (can_go was t) (action_if g.script (facts_of was) t stand.frames o) None ≡ Some act) (sym demands) (rw (started, going, awake) refl)
 
-    pub looked_limit : limit ≤ length g.journal → IsLooked g limit t (Err nexts.Limit)
-    looked_limit at = (look_limit g.script limit g.journal t started going awake act next_act at, refl)
+    pub looked_limit : limit ≤ length g.journal → nexts.Limit ≡ next_of g.script limit g.journal t
+    looked_limit at = look_limit g.script limit g.journal t started going awake act next_act at
 
     module _ (short : length g.journal < limit) where
-      pub looked_full : makes_line (Some d) ≡ true → nat_le 65536 (length was.parts.objects) ≡ true → IsLooked g limit t (Err nexts.Full)
-      looked_full m full = (look_full g.script limit g.journal t started going awake act next_act short (ap makes_line demands ∙ m) full, refl)
+      pub looked_full : makes_line (Some d) ≡ true → nat_le 65536 (length was.parts.objects) ≡ true → nexts.Full ≡ next_of g.script limit g.journal t
+      looked_full m full = look_full g.script limit g.journal t started going awake act next_act short (ap makes_line demands ∙ m) full
 
       module _ (runs : MayRun g.script) (within : t < g.script.thread_count) (most : limit ≤ 4000000) (room : limit ≤ length g.journal + g.journal_room)
           (few : (makes_line (Some d) && nat_le 65536 (length was.parts.objects)) ≡ false) where
@@ -190,7 +190,7 @@ module _ (g : GroundView) (limit t : ℕ) where
         few_made true n e h = grind (arith, nat_tests)
         few_made false n e h = absurd cc
 
-        pub looked_acts : (r : Reserved) → r.thread ≡ t → r.action ≡ act → IsKept g.script (facts_of was) t stand r.found → IsLooked g limit t (Ok r)
+        pub looked_acts : (r : Reserved) → r.thread ≡ t → r.action ≡ act → IsKept g.script (facts_of was) t stand r.found → IsLooked g limit t (Ok tt) r
         looked_acts r thread action kept = (
           record {
             runs = runs;
@@ -266,6 +266,18 @@ module _ (g : GroundView) (t : ℕ) (frames : List Standing) (so : AreFrames g.s
 
   pub done_here : demanded g.script now t ≡ None → (stand_at t now.stands).is_done ≡ true
   done_here e = let plain = plain_now.stands t within in none_is_done g.script (facts_of now) t (stand_at t now.stands) plain.top [] plain.frames e
+
+  -- a thread that is not done does something next
+  pub goes_here : (limit : ℕ) → (flags_at t now.parts.flags).is_started ≡ true → sleeps now t ≡ false → (stand_at t now.stands).is_done ≡ false
+      → limit ≤ length g.journal → nexts.Limit ≡ next_of g.script limit g.journal t
+  goes_here limit started awake going at = by (demanded g.script now t) refl
+    where
+      by : (o : Option Demand) → demanded g.script now t ≡ o → nexts.Limit ≡ next_of g.script limit g.journal t
+      by None e = let both = sym (done_here e) ∙ going in absurd cc
+      by (Some d) e = looked_limit g limit t started awake d e at
+
+  pub is_done_here : (b : Bool) → b ≡ f.stand.is_done → b ≡ (stand_at t now.stands).is_done
+  is_done_here b e = e ∙ ap (λ (stand : Stand). stand.is_done) stand_is
 
   pub plain_step : (x : Step) → IsStep g.script (facts_of now) t (stand_at t now.stands) x → IsPlainStep x
   plain_step x h = plain_of (demand_of x) x (plain_demand g.script now t (demand_of x) runs.stage plain_now h.demand) refl

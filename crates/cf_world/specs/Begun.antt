@@ -25,6 +25,8 @@ use Rattle.cf_world.specs.Entering.{HasEntered, MayAct}
 use Rattle.cf_world.specs.Kept.{IsKept}
 use Rattle.cf_world.specs.declared.next.Next.{Next as NextCode}
 use Rattle.cf_world.specs.declared.next.Next.TheVariants as nexts
+use Rattle.cf_world.specs.declared.next.Halt.{Halt}
+use Rattle.cf_world.specs.declared.next.Halt.TheVariants as halts
 use Rattle.cf_world.specs.declared.found.Found.{Found}
 use Rattle.cf_world.specs.declared.found.Found.TheVariants as kept
 use Rattle.cf_world.specs.declared.found.Reserved.{Reserved}
@@ -34,6 +36,10 @@ use Rattle.cf_world.specs.declared.begun.Begun.TheInside.{Inside}
 abbrev pub thread_of : Reserved → ℕ
 thread_of r = r.thread
 
+-- what was found when room was made, if there is still room for that
+abbrev pub reserved_of : Inside → Option Reserved
+reserved_of w = cond w.has_room (Some w.reserved) None
+
 -- what callers see of a world whose script has begun
 abbrev pub view_of : Inside → WorldView
 view_of w = record {
@@ -41,7 +47,7 @@ view_of w = record {
   limit = w.limit;
   journal = w.ground.journal;
   gained = w.gained.items;
-  room = option_map thread_of w.reserved;
+  room = option_map thread_of (reserved_of w);
 }
 
 -- a statement's deed is ready where it has one: where it binds a variable, or keeps the counts as they are
@@ -174,9 +180,17 @@ pub record IsBegun (w : Inside) : Type 0 where
   pub gained_room : 2 ≤ vec_capacity w.gained
   pub few : length w.gained.items ≤ 2
   pub list_room : 2 ≤ vec_capacity w.list
-  pub reserved : ReservedIf w.ground w.frames.items w.reserved
+  pub reserved : ReservedIf w.ground w.frames.items (reserved_of w)
 
--- what a look at a thread finds: what it does next, if it may do it, or why it may do nothing
-abbrev pub IsLooked : GroundView → (limit t : ℕ) → Result Reserved NextCode → Type 0
-IsLooked g limit t (Ok r) = IsFound g r × (r.thread ≡ t) × (next_of g.script limit g.journal t ≡ nexts.Act r.action)
-IsLooked g limit t (Err n) = (n ≡ next_of g.script limit g.journal t) × (act_in n ≡ None)
+-- why a thread does nothing, as callers see it
+abbrev pub halted : Halt → NextCode
+halted halts.Asleep = nexts.Asleep
+halted halts.Waiting = nexts.Waiting
+halted halts.Done = nexts.Done
+halted halts.Limit = nexts.Limit
+halted halts.Full = nexts.Full
+
+-- what a look at a thread finds: what it does next, which is kept, if it may do it, or why it may do nothing
+abbrev pub IsLooked : GroundView → (limit t : ℕ) → Result (Unit {0}) Halt → Reserved → Type 0
+IsLooked g limit t (Ok u) r = IsFound g r × (r.thread ≡ t) × (next_of g.script limit g.journal t ≡ nexts.Act r.action)
+IsLooked g limit t (Err h) r = halted h ≡ next_of g.script limit g.journal t

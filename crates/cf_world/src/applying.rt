@@ -31,7 +31,7 @@ use crate::ground::Ground;
 use crate::looking::look;
 use crate::statements::put_all;
 use cf_ids::{Answer, Ended, ObjId, ThreadId, VarId};
-use cf_next::{Facts, Frames, Step, Used};
+use cf_next::{Facts, Frames, Step, Used, touch_of};
 use cf_syntax::{Ownership, Statement};
 
 impl Begun {
@@ -42,10 +42,7 @@ impl Begun {
         ensures entered { self.new ≡ applied t self.old }
         ensures legal { IsLegalWorld self.new }
     {
-        let Some(reserved) = self.reserved else {
-            return;
-        };
-        self.reserved = None;
+        self.has_room = false;
         self.gained.clear();
         self.list.clear();
         enter(
@@ -53,7 +50,7 @@ impl Begun {
             &mut self.frames,
             &mut self.gained,
             &mut self.list,
-            &reserved,
+            &self.reserved,
         );
         let _ = self.journal();
     }
@@ -65,11 +62,19 @@ impl Begun {
         ensures entered { self.new ≡ entered t self.old }
         ensures legal { IsLegalWorld self.new }
     {
-        let Ok(reserved) = look(&self.ground, self.frames.as_slice(), self.limit, t) else {
-            return;
-        };
-        self.reserved = None;
-        retain(&mut self.ground, &mut self.frames, &reserved, o);
+        match look(
+            &self.ground,
+            self.frames.as_slice(),
+            self.limit,
+            t,
+            &mut self.looked,
+        ) {
+            Ok(()) => {
+                self.has_room = false;
+                retain(&mut self.ground, &mut self.frames, &self.looked, o);
+            }
+            Err(_) => return,
+        }
         let _ = self.journal();
     }
 
@@ -81,11 +86,8 @@ impl Begun {
         ensures entered { self.new ≡ entered t self.old }
         ensures legal { IsLegalWorld self.new }
     {
-        let Some(reserved) = self.reserved else {
-            return;
-        };
-        self.reserved = None;
-        cut(&mut self.ground, &mut self.frames, &reserved, o, ended);
+        self.has_room = false;
+        cut(&mut self.ground, &mut self.frames, &self.reserved, o, ended);
         let _ = self.journal();
     }
 }
@@ -197,7 +199,7 @@ fn enter_statement(
     };
     let t = reserved.thread;
     let action = reserved.action;
-    match statement.ownership() {
+    match touch_of(statement) {
         Ownership::Keeps => ground.enter_deed(t, action, gained, list),
         Ownership::Binds(_) => ground.enter_binding(t, action, gained),
         Ownership::Retains(_) => {
@@ -398,6 +400,7 @@ fn object_of(frames: &[Frames], t: ThreadId, variable: &Option<VarId>) -> Option
 }
 
 /// What was kept, as the step that it was; a statement is looked up.
+#[inline(always)]
 fn step_of<'g>(ground: &'g Ground, found: &Found) -> Option<Step<'g>>
     ensures { IfSome (step_kept found.now) (λ x. result ≡ Some x) }
 {
@@ -447,6 +450,7 @@ fn step_of<'g>(ground: &'g Ground, found: &Found) -> Option<Step<'g>>
 }
 
 /// A thread moves on by an entry that is no statement; the ground is as before the entry.
+#[inline(always)]
 fn go_on(frames: &mut Vec<Frames>, ground: &Ground, t: ThreadId, found: &Found, answer: &Answer)
     requires frames { AreFrames ground.now.script (state_of ground.now) frames.old.items }
     requires thread { t < ground.now.script.thread_count }

@@ -24,7 +24,7 @@ use crate::next::{LeadNext, Next};
 use cf_graph::Edge;
 use cf_ids::{Answer, Ended, ObjId, ThreadId};
 use cf_model::{Action, Entry};
-use cf_next::{Frames, Step};
+use cf_next::{Frames, Step, touch_of};
 use cf_owncheck::Checked;
 use cf_syntax::{Ownership, Script};
 use std::alloc::{AllocError as NoMemory, Global};
@@ -41,8 +41,12 @@ pub(crate) struct Begun {
     pub(crate) gained: Vec<ObjId>,
     /// What an entry collects or gives out.
     pub(crate) list: Vec<u32>,
+    /// What the last look found.
+    pub(crate) looked: Reserved,
     /// What was found when room was made.
-    pub(crate) reserved: Option<Reserved>,
+    pub(crate) reserved: Reserved,
+    /// Whether there is still room for that.
+    pub(crate) has_room: bool,
 }
 
 impl Model for Begun {
@@ -76,7 +80,9 @@ impl Begun {
             limit,
             gained,
             list,
-            reserved: None,
+            looked: Reserved::blank(),
+            reserved: Reserved::blank(),
+            has_room: false,
         })
     }
 
@@ -143,9 +149,16 @@ impl Begun {
         requires { IsThread self.now t }
         ensures { result ≡ next_in self.now t }
     {
-        match &look(&self.ground, self.frames.as_slice(), self.limit, t) {
-            Ok(reserved) => Next::Act(reserved.action),
-            Err(next) => *next,
+        let mut looked = Reserved::blank();
+        match look(
+            &self.ground,
+            self.frames.as_slice(),
+            self.limit,
+            t,
+            &mut looked,
+        ) {
+            Ok(()) => Next::Act(looked.action),
+            Err(halt) => halt.next(),
         }
     }
 
@@ -156,13 +169,20 @@ impl Begun {
         ensures room { OnOk result (self.new ≡ prepared t self.old) }
         ensures refused { OnErr result (self.new ≡ self.old) }
     {
-        match &look(&self.ground, self.frames.as_slice(), self.limit, t) {
-            Ok(reserved) => {
-                reserve_for(alloc, &mut self.ground, &mut self.frames, reserved)?;
-                self.reserved = Some(*reserved);
-                Ok(Next::Act(reserved.action))
+        match look(
+            &self.ground,
+            self.frames.as_slice(),
+            self.limit,
+            t,
+            &mut self.looked,
+        ) {
+            Ok(()) => {
+                reserve_for(alloc, &mut self.ground, &mut self.frames, &self.looked)?;
+                self.reserved = self.looked;
+                self.has_room = true;
+                Ok(Next::Act(self.looked.action))
             }
-            Err(next) => Ok(*next),
+            Err(halt) => Ok(halt.next()),
         }
     }
 
@@ -262,7 +282,7 @@ fn needs_deed(ground: &Ground, block: u16, number: u32) -> bool
     ensures { IsNeeded (statement_at ground.now.script block number) result }
 {
     match ground.statement(block, number) {
-        Some(statement) => match statement.ownership() {
+        Some(statement) => match touch_of(statement) {
             Ownership::Keeps | Ownership::Binds(_) => true,
             Ownership::Retains(_) | Ownership::Releases(_) => false,
         },

@@ -41,3 +41,14 @@ pub(crate) struct Reserved {
     pub found: Found,
     pub action: Action,
 }
+
+impl Reserved {
+    /// What stands where nothing was found yet.
+    pub fn blank() -> Reserved {
+        Reserved {
+            thread: ThreadId::SETUP,
+            found: Found::Ends,
+            action: Action::Done,
+        }
+    }
+}

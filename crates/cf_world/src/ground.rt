@@ -199,9 +199,12 @@ impl Ground {
         requires { object < length (state_of self.now).parts.objects }
         ensures { result ≡ answer_of_cut ended (type_in (slice_get (state_of self.now).parts.objects object)) }
     {
-        match (ended, self.store.class(object)) {
-            (Ended::Last, Some(class)) => Answer::Final(class),
-            _ => Answer::More,
+        if matches!(ended, Ended::More) {
+            return Answer::More;
+        }
+        match self.store.class(object) {
+            Some(class) => Answer::Final(class),
+            None => Answer::More,
         }
     }
 

@@ -38,7 +38,7 @@ impl Begun {
         ensures entered { self.new ≡ led (actions.Tick time) self.old }
         ensures legal { IsLegalWorld self.new }
     {
-        self.reserved = None;
+        self.has_room = false;
         self.ground.enter_tick(time);
     }
 
@@ -49,7 +49,7 @@ impl Begun {
         ensures entered { self.new ≡ led actions.Stall self.old }
         ensures legal { IsLegalWorld self.new }
     {
-        self.reserved = None;
+        self.has_room = false;
         self.ground.enter_stall();
     }
 }

@@ -11,46 +11,51 @@ ghost use Rattle.cf_world.specs.Kept.{IsKept, IsPlainStep, IsPlaced};
 
 use crate::found::{Found, Reserved};
 use crate::ground::Ground;
-use crate::next::Next;
+use crate::next::Halt;
 use cf_ids::ThreadId;
 use cf_next::{Frames, Step};
 
-/// What a thread does next, as it is kept, or why it has no action that it may do. `limit` is that of the journal.
+/// Looks at what a thread does next, and keeps it, or tells why it has no action that it may do. `limit` is that of the
+/// journal.
+#[inline(always)]
 pub(crate) fn look(
     ground: &Ground,
     frames: &[Frames],
     limit: u32,
     t: ThreadId,
-) -> Result<Reserved, Next>
+    kept: &mut Reserved,
+) -> Result<(), Halt>
     requires thread { t < ground.now.script.thread_count }
     requires frames { AreFrames ground.now.script (state_of ground.now) frames.now }
     requires most { limit ≤ 4000000 }
     requires room { limit ≤ length ground.now.journal + ground.now.journal_room }
-    ensures { IsLooked ground.now limit t result }
+    ensures { IsLooked ground.now limit t result kept.new }
 {
     let flags = ground.flags(t);
     if !flags.is_started {
-        return Err(Next::Waiting);
+        return Err(Halt::Waiting);
     }
-    let frames = &frames[t.0 as usize];
     let script = ground.script();
-    let Some(step) = frames.step(script, ground) else {
-        return Err(Next::Done);
-    };
+    let frames = &frames[t.0 as usize];
+    if frames.is_done() {
+        return Err(Halt::Done);
+    }
     if flags.is_asleep() {
-        return Err(Next::Asleep);
+        return Err(Halt::Asleep);
     }
     if limit as usize <= ground.journal.len() {
-        return Err(Next::Limit);
+        return Err(Halt::Limit);
     }
-    if makes_object(&step) && ground.is_full() {
-        return Err(Next::Full);
+    let Some(step) = frames.step(script, ground) else {
+        return Err(Halt::Done);
+    };
+    if ground.is_full() && makes_object(&step) {
+        return Err(Halt::Full);
     }
-    Ok(Reserved {
-        thread: t,
-        found: found_of(&step, frames.block(script)),
-        action: frames.action(script, ground, &step),
-    })
+    kept.thread = t;
+    kept.found = found_of(&step, frames.block(script));
+    kept.action = frames.action(script, ground, &step);
+    Ok(())
 }
 
 /// Whether what a thread does next makes an object, or may make one.

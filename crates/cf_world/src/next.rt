@@ -1,4 +1,6 @@
 //! What a thread and what the lead do next.
+ghost use Rattle.std.specs.Prelude.{◌≡◌};
+ghost use Rattle.cf_world.specs.Begun.{halted};
 
 use cf_model::Action;
 
@@ -17,6 +19,32 @@ pub enum Next {
     Limit,
     /// Its action makes an object, and as many were made as one run may make.
     Full,
+}
+
+/// Why a thread has no action that it may do.
+#[derive(Clone, Copy)]
+pub(crate) enum Halt {
+    Asleep,
+    Waiting,
+    Done,
+    Limit,
+    Full,
+}
+
+impl Halt {
+    /// The same as callers see it.
+    #[inline(always)]
+    pub fn next(self) -> Next
+        ensures { result ≡ halted self }
+    {
+        match self {
+            Halt::Asleep => Next::Asleep,
+            Halt::Waiting => Next::Waiting,
+            Halt::Done => Next::Done,
+            Halt::Limit => Next::Limit,
+            Halt::Full => Next::Full,
+        }
+    }
 }
 
 /// What the lead does next, which moves time where all threads sleep.

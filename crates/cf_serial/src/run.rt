@@ -133,12 +133,16 @@ impl Run {
     }
 
     /// What the run does next; if a thread acts, there is room for that.
+    #[inline(always)]
     pub fn turn(&mut self, alloc: Global) -> Result<Turn, NoMemory>
         requires run { IsRun self.old }
         ensures run { OnOk result (IsRun self.new) }
         ensures same { OnOk result (IsSameJournal self.old self.new) }
         ensures goes { IfOk result (λ turn. Goes self.new turn) }
     {
+        if self.threads <= self.pointer {
+            return self.early_turn(alloc);
+        }
         match self.first_turn(alloc, self.pointer, self.threads)? {
             Some(turn) => Ok(turn),
             None => self.early_turn(alloc),
@@ -146,6 +150,7 @@ impl Run {
     }
 
     // What the run does next, if no thread from the pointer on can go on.
+    #[inline(always)]
     fn early_turn(&mut self, alloc: Global) -> Result<Turn, NoMemory>
         requires run { IsRun self.old }
         requires late { (u : ℕ) → self.old.pointer ≤ u → u < self.old.threads → can_act self.old u ≡ false }

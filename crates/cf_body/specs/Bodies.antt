@@ -6,8 +6,9 @@ use Rattle.cf_ids.specs.Words.{number_word}
 use Rattle.cf_contents.specs.Contents.{Content, Object, text_content, data_content, number_content, instance_content, array_content, dictionary_content, set_content, bag_content, heap_content, size_of, item_content}
 use Rattle.cf_contents.specs.Descriptions.{more_if, member_word, pair_word, cell_word, row_word}
 use Rattle.cf_contents.specs.Stores.{Held}
+use Rattle.cf_body.specs.Items.{item_of}
 use Rattle.cf_body.specs.declared.body.Kind.{Kind}
-use Rattle.cf_body.specs.declared.body.Kind.TheVariants.{Text, Data, Number, Instance, Array, Dictionary, Set, Bag, Heap}
+use Rattle.cf_body.specs.declared.body.Kind.TheVariants.{Text, Data, Number, Instance, Array, Dictionary, Set, Bag, Heap, Item}
 
 -- what a body is to the store: its object, whether that is finalised, how many of its slots it has given up, and how
 -- many more units, bytes, elements, pairs or members come in without memory
@@ -37,6 +38,7 @@ content_of (Dictionary pairs) = dictionary_content pairs.plain pairs.items
 content_of (Set set) = set_content set.plain set.members
 content_of (Bag bag) = bag_content bag.plain bag.rows
 content_of (Heap heap) = heap_content heap.plain heap.adds heap.rows
+content_of (Item i) = item_content i.handler i.info i.valid (item_of i.state)
 
 -- how many more units, bytes, elements or pairs come in without memory
 abbrev pub room_of : Kind → ℕ
@@ -49,8 +51,9 @@ room_of (Dictionary pairs) = pairs.room
 room_of (Set set) = set.room
 room_of (Bag bag) = bag.room
 room_of (Heap heap) = heap.room
+room_of (Item i) = 0
 
--- how many members there are that are listed: fields, elements, pairs or rows, and of an item its info
+-- how many members there are that are listed: fields, elements, pairs or rows
 abbrev pub members_in : Content → ℕ
 members_in (text_content mutable units) = 0
 members_in (data_content mutable bytes) = 0
@@ -61,7 +64,7 @@ members_in (dictionary_content plain pairs) = length pairs
 members_in (set_content plain members) = length members
 members_in (bag_content plain rows) = length rows
 members_in (heap_content plain adds rows) = 0
-members_in (item_content handler info valid item) = 1
+members_in (item_content handler info valid item) = 0
 
 -- what stays below the limit: of an instance how many fields it has, of an item one, of others their size
 abbrev pub most_in : Content → ℕ
@@ -87,7 +90,7 @@ words_of (dictionary_content plain pairs) = map pair_word pairs
 words_of (set_content plain members) = map cell_word members
 words_of (bag_content plain rows) = map row_word rows
 words_of (heap_content plain adds rows) = []
-words_of (item_content handler info valid item) = member_word info ∷ []
+words_of (item_content handler info valid item) = []
 
 -- the members in brackets, by their words
 abbrev pub listed : Content → List ℕ

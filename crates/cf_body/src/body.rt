@@ -4,6 +4,7 @@ ghost use Rattle.cf_contents.specs.Contents.{member_limit};
 ghost use Rattle.cf_body.specs.Bodies.{content_of, held_of, most_in};
 ghost use Rattle.cf_contents.specs.Stores.{live};
 
+use crate::item::LoopItem;
 use crate::pairs::Pairs;
 use cf_array::Array;
 use cf_data::Bytes;
@@ -43,6 +44,8 @@ pub enum Kind {
     Bag(MemberBag),
     /// The elements of a heap.
     Heap(ElementHeap),
+    /// An item of a run loop.
+    Item(LoopItem),
 }
 
 /// The body of an object. Contracts see the object, whether it is finalised, how many of its slots it has

@@ -8,6 +8,7 @@ ghost use Rattle.cf_body.specs.Bodies.{content_of, object_in, counted_list};
 
 use crate::body::{Body, Kind};
 use crate::classes::class_name;
+use crate::item::push_item;
 use crate::members::{members, push_members, push_number};
 use cf_members::ElementHeap;
 use cf_number::NumKind;
@@ -50,6 +51,7 @@ fn push_content(alloc: Global, out: &mut Vec<u8>, kind: &Kind) -> Result<(), NoM
             push_counted(alloc, out, kind)
         }
         Kind::Heap(heap) => push_heap(alloc, out, heap),
+        Kind::Item(item) => push_item(out, item),
     }
 }
 

@@ -63,7 +63,7 @@ fn reserve(kind: &mut Kind, change: &BodyChange) -> Result<(), NoMemory>
         Kind::Set(set) => set.reserve(more),
         Kind::Bag(bag) => bag.reserve(more),
         Kind::Heap(heap) => heap.reserve(more),
-        Kind::Number(_) | Kind::Instance(_) => Ok(()),
+        Kind::Number(_) | Kind::Instance(_) | Kind::Item(_) => Ok(()),
     }
 }
 
@@ -84,6 +84,7 @@ fn change_kind(kind: &mut Kind, change: BodyChange) -> Moved
         Kind::Set(set) => change_set(set, change),
         Kind::Bag(bag) => change_bag(bag, change),
         Kind::Heap(heap) => change_heap(heap, change),
+        Kind::Item(_) => Moved::nothing(),
     }
 }
 

@@ -7,6 +7,7 @@ ghost use Rattle.cf_body.specs.Bodies.{content_of, room_of, held_of};
 ghost use Rattle.cf_contents.specs.Stores.{body_finalised, body_dropped, left_to};
 
 use crate::body::{Body, Kind};
+use crate::item::info_slot;
 use crate::pairs::Pairs;
 use cf_ids::ObjId;
 use cf_members::{ElementHeap, MemberBag, MemberSet};
@@ -71,6 +72,7 @@ fn slot_in(kind: &Kind, k: usize) -> Option<ObjId>
         Kind::Set(set) => set_slot(set, k),
         Kind::Bag(bag) => bag_slot(bag, k),
         Kind::Heap(heap) => heap_slot(heap, k),
+        Kind::Item(item) => info_slot(item, k),
         _ => None,
     }
 }

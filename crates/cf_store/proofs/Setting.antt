@@ -140,29 +140,37 @@ stays_at : (change : BodyChange) (old new : BodyView) → new.content ≡ old.co
     → IsReadyAt change (Some old) → IsReadyAt change (Some new)
 stays_at change old new content room h = (rw content h.0, record { memory = rw room h.1.memory; members = rw content h.1.members })
 
-stays_in : (change : BodyChange) (bodies : List BodyView) (o p : ℕ) (old new : BodyView)
-    → slice_get bodies o ≡ Some old → new.content ≡ old.content → new.room ≡ old.room
+stays_in : (change : BodyChange) (bodies : List BodyView) (o p : ℕ) (old new : BodyView) → slice_get bodies o ≡ Some old
+    → (IsReadyAt change (Some old) → IsReadyAt change (Some new))
     → IsReadyAt change (slice_get bodies p) → IsReadyAt change (slice_get (slice_set bodies o new) p)
-stays_in change [] o p old new is content room h = h
-stays_in change (b ∷ bs) zero zero old new is content room h = let same : b ≡ old = cc in stays_at change old new content room (rw same at h)
-stays_in change (b ∷ bs) zero (suc p) old new is content room h = h
-stays_in change (b ∷ bs) (suc o) zero old new is content room h = h
-stays_in change (b ∷ bs) (suc o) (suc p) old new is content room h = stays_in change bs o p old new is content room h
+stays_in change [] o p old new is step h = h
+stays_in change (b ∷ bs) zero zero old new is step h = let same : b ≡ old = cc in step (rw same at h)
+stays_in change (b ∷ bs) zero (suc p) old new is step h = h
+stays_in change (b ∷ bs) (suc o) zero old new is step h = h
+stays_in change (b ∷ bs) (suc o) (suc p) old new is step h = stays_in change bs o p old new is step h
 
 stays_ready : (change : BodyChange) (bodies : List BodyView) (object : Option ℕ) (o : ℕ) (old new : BodyView)
-    → slice_get bodies o ≡ Some old → new.content ≡ old.content
-    → new.room ≡ old.room → IsReadyAt change (body_at bodies object)
+    → slice_get bodies o ≡ Some old → (IsReadyAt change (Some old) → IsReadyAt change (Some new))
+    → IsReadyAt change (body_at bodies object)
     → IsReadyAt change (body_at (slice_set bodies o new) object)
-stays_ready change bodies None o old new is content room h = h
-stays_ready change bodies (Some p) o old new is content room h = stays_in change bodies o p old new is content room h
+stays_ready change bodies None o old new is step h = h
+stays_ready change bodies (Some p) o old new is step h = stays_in change bodies o p old new is step h
+
+-- what is ready stays so if it does where one body is another
+pub ready_set : (ready : Option ReadyPlan) (bodies : List BodyView) (o : ℕ) (old new : BodyView) → o < length bodies
+    → old ≡ get_or bodies o old
+    → ((change : BodyChange) → IsReadyAt change (Some old) → IsReadyAt change (Some new)) → IsReadyIn bodies ready
+    → IsReadyIn (slice_set bodies o new) ready
+ready_set None bodies o old new within is step h = tt
+ready_set (Some r) bodies o old new within is step h =
+    (h.0, stays_ready r.deed.change bodies r.object o old new (slice_get_read bodies (length bodies) o old refl within is) (step r.deed.change) h.1)
 
 pub ready_stays : (ready : Option ReadyPlan) (bodies : List BodyView) (o : ℕ) (old new : BodyView) → o < length bodies
     → old ≡ get_or bodies o old
     → new.content ≡ old.content → new.room ≡ old.room → IsReadyIn bodies ready
     → IsReadyIn (slice_set bodies o new) ready
-ready_stays None bodies o old new within is content room h = tt
-ready_stays (Some r) bodies o old new within is content room h =
-    (h.0, stays_ready r.deed.change bodies r.object o old new (slice_get_read bodies (length bodies) o old refl within is) content room h.1)
+ready_stays ready bodies o old new within is content room h =
+    ready_set ready bodies o old new within is (λ change. stays_at change old new content room) h
 
 -- a live object has a body
 pub live_within : (bodies : List BodyView) (o : ℕ) → is_live_in (map held_of bodies) o ≡ true → o < length bodies

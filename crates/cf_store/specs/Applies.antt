@@ -2,11 +2,12 @@
 use Rattle.std.specs.Prelude.{◌≡◌, ℕ, List, slice_get, Option, None, Some}
 use Rattle.cf_contents.specs.Keys.{Numbered}
 use Rattle.cf_contents.specs.Deeds as deeds
-use Rattle.cf_body.specs.Bodies.{BodyView, object_in, held_of}
+use Rattle.cf_body.specs.Bodies.{BodyView, object_in}
 use Rattle.cf_body.specs.Changes.{done_of, CanBe, HasRoom}
-use Rattle.cf_contents.specs.Stores.{live, Ready}
+use Rattle.cf_contents.specs.Stores.{Ready}
 use Rattle.cf_body.specs.declared.change.BodyChange.{BodyChange}
 use Rattle.cf_body.specs.declared.change.BodyChange.TheVariants.{Nothing}
+use Rattle.cf_store.specs.Sources.{IsNewBody}
 use Rattle.cf_store.specs.declared.plan.Origin.{Origin}
 use Rattle.cf_store.specs.declared.plan.Origin.TheVariants.{Nowhere, Fresh, There}
 use Rattle.cf_store.specs.declared.plan.Plan.{Plan}
@@ -29,10 +30,10 @@ origin_of Nowhere = deeds.nowhere
 origin_of (Fresh b) = deeds.fresh (object_in b.value)
 origin_of (There o) = deeds.there o
 
--- a new body that a deed makes is live and has given up nothing
+-- a body that a deed makes is a new one
 abbrev pub IsNew : Origin → Type 0
 IsNew Nowhere = Unit {0}
-IsNew (Fresh b) = held_of b.value ≡ live (object_in b.value)
+IsNew (Fresh b) = IsNewBody b.value
 IsNew (There o) = Unit {0}
 
 -- a deed of the program, as the definitions have it

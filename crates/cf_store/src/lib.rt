@@ -4,6 +4,8 @@
 mod bodies;
 mod content_plans;
 mod heap_plans;
+mod index;
+mod items;
 mod making;
 mod member_plans;
 mod pair_plans;

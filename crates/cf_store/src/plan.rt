@@ -3,7 +3,9 @@ ghost use Rattle.std.specs.Prelude.{◌≡◌, ◌<◌, IfOk};
 ghost use Rattle.cf_contents.specs.Contents.{member_limit};
 ghost use Rattle.cf_contents.specs.Deeds.{binding, creating};
 ghost use Rattle.cf_body.specs.Bodies.{content_of, most_in};
+ghost use Rattle.cf_body.specs.Items.{item_in};
 ghost use Rattle.cf_store.specs.Applies.{deed_by, IsAlone, IsNew};
+ghost use Rattle.cf_store.specs.Sources.{IsNewItem};
 ghost use Rattle.cf_store.specs.declared.plan.Origin.TheVariants.{Nowhere};
 ghost use Rattle.cf_body.specs.declared.change.BodyChange.TheVariants.{Nothing};
 ghost use Rattle.cf_ids.specs.declared.answer.Answer.TheVariants.{Skip, Ok};
@@ -59,7 +61,8 @@ impl Plan {
 
     /// It makes an object.
     pub(crate) fn creating(alloc: Global, class: TypeId, kind: Kind) -> Result<Plan, NoMemory>
-        requires { most_in (content_of kind) < member_limit }
+        requires few { most_in (content_of kind) < member_limit }
+        requires new { IsNewItem (item_in (content_of kind)) }
         ensures { IfOk result (λ d. IsAlone (creating class (content_of kind)) d) }
     {
         let body = Box::new(alloc, Body::new(class, kind))?;

@@ -6,9 +6,11 @@ ghost use Rattle.cf_contents.specs.Deeds.{object_of, coming_in, going_out, taken
 ghost use Rattle.cf_body.specs.Bodies.{held_of};
 ghost use Rattle.cf_body.specs.Changes.{done_of};
 ghost use Rattle.cf_store.specs.Applies.{IsReadyAt, IsDeed, body_at, ready_by};
+ghost use Rattle.cf_store.specs.Sources.{IsNewBody};
 ghost use Rattle.cf_contents.specs.Stores.{Held, MayGrow, objects_of, ready_deed, with_body, body_finalised, body_dropped, bodies_changed, is_live_in, given_up_in, left_in};
 
 use crate::bodies::{change_body, make_room, plan_among, sort_bodies};
+use crate::index::SourceIndex;
 use crate::plan::{Origin, Plan, ReadyPlan, set_ready};
 use cf_body::{Body, Moved};
 use cf_ids::{Answer, ObjId, TypeId};
@@ -29,30 +31,33 @@ pub struct Edited {
     pub gave: [Option<ObjId>; 2],
 }
 
-/// The bodies of all objects that were made, by number, and the deed for which room was made.
+/// The bodies of all objects that were made, by number, the deed for which room was made, and the table of the sources
+/// among the bodies.
 #[derive(Drop)]
 pub struct Store {
-    bodies: Vec<Body>,
-    ready: Option<ReadyPlan>,
+    pub(crate) bodies: Vec<Body>,
+    pub(crate) ready: Option<ReadyPlan>,
+    pub(crate) sources: SourceIndex,
 }
 
 impl Model for Store {
-    ghost use Rattle.std.specs.Prelude.{◌-◌, map, vec_len, vec_capacity};
+    ghost use Rattle.std.specs.Prelude.{◌-◌, map, min, vec_len, vec_capacity};
     ghost use Rattle.std.specs.Option.{option_map};
     ghost use Rattle.cf_contents.specs.Stores.{StoreView};
 
     ghost Value = { StoreView };
 
     ghost use Rattle.cf_body.specs.Bodies.{held_of};
-    ghost use Rattle.cf_store.specs.Applies.{ready_by, IsReadyIn};
+    ghost use Rattle.cf_store.specs.Applies.{ready_by};
+    ghost use Rattle.cf_store.specs.Kept.{IsKept};
 
     ghost view = { λ s. record {
       bodies = map held_of s.bodies.items;
       ready = option_map ready_by s.ready;
-      room = vec_capacity s.bodies - vec_len s.bodies;
+      room = min (vec_capacity s.bodies - vec_len s.bodies) s.sources.room;
     } };
 
-    ghost invariant = { λ s. IsReadyIn s.bodies.items s.ready };
+    ghost invariant = { λ s. IsKept s.bodies.items s.ready s.sources.sources };
 }
 
 impl Store {
@@ -63,6 +68,7 @@ impl Store {
         Store {
             bodies: Vec::new(alloc),
             ready: None,
+            sources: SourceIndex::new(alloc),
         }
     }
 
@@ -150,19 +156,21 @@ impl Store {
         self.bodies[place].drop_slot()
     }
 
-    /// Makes the next object, of this body. It takes no memory.
+    /// Makes the next object, of this new body. It takes no memory.
     pub fn make(&mut self, body: Body) -> ObjId
         requires room { 0 < self.old.room }
         requires few { length self.old.bodies < 65536 }
+        requires new { IsNewBody body }
         ensures number { result ≡ length self.old.bodies }
         ensures bodies { self.new.bodies ≡ self.old.bodies ++ held_of body ∷ [] }
         ensures ready { self.new.ready ≡ None }
         ensures room { self.new.room + 1 ≡ self.old.room }
     {
-        let number = self.bodies.len() as u32;
+        let number = ObjId(self.bodies.len() as u32);
         set_ready(&mut self.ready, None);
+        self.sources.make(number, &body);
         self.bodies.push_reserved(body);
-        ObjId(number)
+        number
     }
 
     /// Makes room for what a statement does: `used` are the objects of the variables that it uses, and `classes`
@@ -184,6 +192,7 @@ impl Store {
         ensures refused { OnErr result (self.new.ready ≡ self.old.ready) }
     {
         self.bodies.reserve(1)?;
+        self.sources.reserve()?;
         let ready = plan_among(alloc, classes, &self.bodies, statement, used)?;
         make_room(&mut self.bodies, ready.object, &ready.deed.change)?;
         set_ready(&mut self.ready, Some(ready));

@@ -2,5 +2,5 @@
 use Rattle.std.proofs.Common.{arith}
 use Rattle.cf_store.proofs.making.make_instance.Goals as goal
 
-pub creating-requires : goal.creating-requires
-creating-requires c = omega (arith, c.in_ok-fields.ensures.few)
+pub creating-requires-clause-few : goal.creating-requires-clause-few
+creating-requires-clause-few c = omega (arith, c.in_ok-fields.ensures.few)

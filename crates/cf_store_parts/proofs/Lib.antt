@@ -1,0 +1,2 @@
+-- The files of lemmas of cf_store_parts.
+mod Growing

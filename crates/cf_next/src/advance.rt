@@ -198,28 +198,9 @@ pub(crate) fn finish_statement(
         (receivers_of statement.now list.now)) stack.old.frames }
 {
     let receivers = if is_post(statement) { list } else { &[] };
-    finish_line(stack, touch_of(statement), object_in(answer), receivers);
+    finish_line(stack, statement.ownership(), object_in(answer), receivers);
     if is_entered(answer) {
         begin_run(stack, statement, time);
-    }
-}
-
-/// What a statement does to the count of a variable. That of the forms that change a collection, which is nothing, is
-/// found without a list of the statement's words.
-#[inline(always)]
-pub fn touch_of(statement: &Statement) -> Ownership
-    ensures { result ≡ ownership_of statement.now }
-{
-    match statement {
-        Statement::ArrAppend { .. }
-        | Statement::ArrInsert { .. }
-        | Statement::ArrSet { .. }
-        | Statement::ArrRemove { .. }
-        | Statement::DictAdd { .. }
-        | Statement::DictSet { .. }
-        | Statement::SetAdd { .. }
-        | Statement::SetRemove { .. } => Ownership::Keeps,
-        _ => statement.ownership(),
     }
 }
 

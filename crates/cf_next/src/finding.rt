@@ -119,54 +119,8 @@ pub(crate) fn object_at(stack: &Stack, variable: Option<VarId>) -> Option<ObjId>
     }
 }
 
-/// The objects of the variables that a statement uses. Those of the forms that count references, and of those that
-/// change a collection, are found without a list of the statement's words.
+/// The objects of the variables that a statement uses.
 fn used_by(stack: &Stack, statement: &Statement) -> Used
-    ensures { objects_of result ≡ used_objects (top_frame stack.now.frames).bindings (says statement.now) }
-{
-    match statement {
-        Statement::Retain { variable }
-        | Statement::Release { variable }
-        | Statement::ArrRemove { variable, .. } => {
-            Used::of([stack.object(*variable), None, None])
-        }
-        Statement::ArrAppend { variable, element }
-        | Statement::ArrInsert {
-            variable,
-            element,
-            ..
-        }
-        | Statement::ArrSet {
-            variable,
-            element,
-            ..
-        }
-        | Statement::SetAdd { variable, element }
-        | Statement::SetRemove { variable, element } => Used::of([
-            stack.object(*variable),
-            stack.object(*element),
-            None,
-        ]),
-        Statement::DictAdd {
-            variable,
-            key,
-            value,
-        }
-        | Statement::DictSet {
-            variable,
-            key,
-            value,
-        } => Used::of([
-            stack.object(*variable),
-            stack.object(*key),
-            stack.object(*value),
-        ]),
-        _ => used_in_words(stack, statement),
-    }
-}
-
-/// The same by the words of the statement.
-fn used_in_words(stack: &Stack, statement: &Statement) -> Used
     ensures { objects_of result ≡ used_objects (top_frame stack.now.frames).bindings (says statement.now) }
 {
     let [first, second, third] = statement.uses();

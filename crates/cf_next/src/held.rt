@@ -9,7 +9,6 @@ ghost use Rattle.cf_next.specs.Next.{top_frame};
 ghost use Rattle.cf_next.specs.Stands.{look};
 ghost use Rattle.cf_next.specs.Views.{block_in, kind_of, work_of, works_of};
 
-use crate::advance::touch_of;
 use crate::frames::Frames;
 use crate::lines::{Line, kind_line};
 use crate::object::MaybeObject;
@@ -38,7 +37,7 @@ fn ownership(line: &Line) -> Ownership
     match line {
         Line::Begins => Ownership::Binds(VarId(0)),
         Line::Claims { variable, .. } => Ownership::Binds(*variable),
-        Line::Says(statement) => touch_of(statement),
+        Line::Says(statement) => statement.ownership(),
         Line::Packs { variable, .. } => match variable {
             Some(variable) => Ownership::Releases(*variable),
             None => Ownership::Keeps,

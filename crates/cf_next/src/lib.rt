@@ -19,7 +19,6 @@ mod turn;
 mod work;
 
 pub use action::Action;
-pub use advance::touch_of;
 pub use facts::Facts;
 pub use frames::Frames;
 pub use object::{MaybeObject, Used};

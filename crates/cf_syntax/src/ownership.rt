@@ -1,6 +1,6 @@
 //! What a statement names, uses, makes and does to the counts of variables.
 ghost use Rattle.std.specs.Prelude.{◌≡◌};
-ghost use Rattle.cf_syntax.specs.Mentions.{mentions_of, thread_mention, info_mention, used, present, bound_in, ownership_of, used_by, makes_object, pad};
+ghost use Rattle.cf_syntax.specs.Mentions.{mentions_of, thread_mention, info_mention, used, present, ownership_of, used_by, makes_object, pad};
 
 use crate::mention::{Mention, Ownership, ThreadWord};
 use crate::statement::Statement;
@@ -45,16 +45,6 @@ fn packed(places: [Option<VarId>; 3]) -> [Option<VarId>; 3]
         [None, Some(second), third] => [Some(second), third, None],
         [Some(first), None, third] => [Some(first), third, None],
         [Some(first), Some(second), third] => [Some(first), Some(second), third],
-    }
-}
-
-/// What the first of some words does to a variable's count.
-fn bound_in(mentions: &[Option<Mention>; 3]) -> Ownership
-    ensures { result ≡ bound_in mentions.now }
-{
-    match mentions {
-        [Some(Mention::Binds(variable)), _, _] => Ownership::Binds(*variable),
-        _ => Ownership::Keeps,
     }
 }
 
@@ -254,18 +244,79 @@ impl Statement {
     }
 
     /// What the statement does to a variable's count.
+    #[inline(always)]
     pub fn ownership(&self) -> Ownership
         ensures { result ≡ ownership_of self.now }
     {
         match self {
             Statement::Retain { variable } => Ownership::Retains(*variable),
             Statement::Release { variable } => Ownership::Releases(*variable),
-            _ => bound_in(&self.mentions()),
+            Statement::MakeString { variable, .. }
+            | Statement::MakeMstring { variable, .. }
+            | Statement::MakeData { variable, .. }
+            | Statement::MakeMdata { variable, .. }
+            | Statement::MakeNumber { variable, .. }
+            | Statement::MakeArray { variable, .. }
+            | Statement::MakeDict { variable, .. }
+            | Statement::MakeSet { variable, .. }
+            | Statement::MakeBag { variable, .. }
+            | Statement::MakeHeap { variable, .. }
+            | Statement::MakeSource { variable, .. }
+            | Statement::MakeTimer { variable, .. }
+            | Statement::MakeObserver { variable, .. }
+            | Statement::New { variable, .. }
+            | Statement::StrSub { variable, .. }
+            | Statement::ArrTake { variable, .. }
+            | Statement::DictTake { variable, .. }
+            | Statement::SetTake { variable, .. }
+            | Statement::HeapTake { variable, .. }
+            | Statement::FieldTake { variable, .. } => Ownership::Binds(*variable),
+            _ => Ownership::Keeps,
         }
     }
 
-    /// The variables that the statement uses, in the order of its words, then nothing.
+    /// The variables that the statement uses, in the order of its words, then nothing. Those of the forms that come most
+    /// often are found without a list of its words.
+    #[inline(always)]
     pub fn uses(&self) -> [Option<VarId>; 3]
+        ensures { result ≡ pad (used_by self.now) }
+    {
+        match self {
+            Statement::Retain { variable }
+            | Statement::Release { variable }
+            | Statement::ArrRemove { variable, .. } => [Some(*variable), None, None],
+            Statement::ArrAppend { variable, element }
+            | Statement::ArrInsert {
+                variable,
+                element,
+                ..
+            }
+            | Statement::ArrSet {
+                variable,
+                element,
+                ..
+            }
+            | Statement::SetAdd { variable, element }
+            | Statement::SetRemove { variable, element }
+            | Statement::HeapAdd { variable, element } => {
+                [Some(*variable), Some(*element), None]
+            }
+            Statement::DictAdd {
+                variable,
+                key,
+                value,
+            }
+            | Statement::DictSet {
+                variable,
+                key,
+                value,
+            } => [Some(*variable), Some(*key), Some(*value)],
+            _ => self.used_words(),
+        }
+    }
+
+    /// The same by its words.
+    fn used_words(&self) -> [Option<VarId>; 3]
         ensures { result ≡ pad (used_by self.now) }
     {
         let [first, second, third] = self.mentions();

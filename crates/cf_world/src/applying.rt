@@ -31,7 +31,7 @@ use crate::ground::Ground;
 use crate::looking::look;
 use crate::statements::put_all;
 use cf_ids::{Answer, Ended, ObjId, ThreadId, VarId};
-use cf_next::{Facts, Frames, Step, Used, touch_of};
+use cf_next::{Facts, Frames, Step, Used};
 use cf_syntax::{Ownership, Statement};
 
 impl Begun {
@@ -199,7 +199,7 @@ fn enter_statement(
     };
     let t = reserved.thread;
     let action = reserved.action;
-    match touch_of(statement) {
+    match statement.ownership() {
         Ownership::Keeps => ground.enter_deed(t, action, gained, list),
         Ownership::Binds(_) => ground.enter_binding(t, action, gained),
         Ownership::Retains(_) => {

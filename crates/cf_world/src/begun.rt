@@ -24,7 +24,7 @@ use crate::next::{LeadNext, Next};
 use cf_graph::Edge;
 use cf_ids::{Answer, Ended, ObjId, ThreadId};
 use cf_model::{Action, Entry};
-use cf_next::{Frames, Step, touch_of};
+use cf_next::{Frames, Step};
 use cf_owncheck::Checked;
 use cf_syntax::{Ownership, Script};
 use std::alloc::{AllocError as NoMemory, Global};
@@ -282,7 +282,7 @@ fn needs_deed(ground: &Ground, block: u16, number: u32) -> bool
     ensures { IsNeeded (statement_at ground.now.script block number) result }
 {
     match ground.statement(block, number) {
-        Some(statement) => match touch_of(statement) {
+        Some(statement) => match statement.ownership() {
             Ownership::Keeps | Ownership::Binds(_) => true,
             Ownership::Retains(_) | Ownership::Releases(_) => false,
         },

@@ -23,11 +23,6 @@ pub line_by : (classes : List ClassLine) (names same : Names) (b : Opened) (line
 unfolding statement_of
 line_by classes names same b line ws r h e en eh = rw (e, en, eh) refl
 
-pub no_form : (classes : List ClassLine) (names : Names) (b : Opened) (line : ℕ) (ws : List (List ℕ)) (reason : Reason)
-    → form_of ws ≡ Err reason → with_line classes names b line ws ≡ Err reason
-unfolding statement_of
-no_form classes names b line ws reason e = rw e refl
-
 -- one that fails, and one that is there
 pub line_fails : (b : Opened) (line : ℕ) (u : Result (With Statement) Reason) (all : Result (With Opened) Reason)
     (fault : LineFault)

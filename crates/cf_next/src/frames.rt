@@ -134,6 +134,14 @@ impl Frames {
         }
     }
 
+    /// The phase of the last entry of the innermost run; none before its first, and none if there is no run.
+    pub fn last(&self) -> Option<Phase>
+        ensures { result ≡ option_and_then (λ r. r.last) (innermost_run self.now.stand.frames) }
+    {
+        let run = self.stack.run()?;
+        run.last
+    }
+
     /// The deadline of the innermost run, in ticks; none if it has none or there is no run.
     pub fn deadline(&self) -> Option<u64>
         ensures { result ≡ option_and_then (λ r. r.deadline) (innermost_run self.now.stand.frames) }

@@ -47,11 +47,13 @@ module _ {A : Type 0} (ps : List A) (k : ℕ) where
       let more : m ≡ cond {A = ℕ} (f x) 1 0 = one ∙ ap (λ (c : Bool). cond {A = ℕ} c 1 0) is in
       omega (arith, so_far, more, length-filter_more f ps k x (there x e), ap (λ (y : A). cond {A = ℕ} (f y) 1 0) (get_or_from_slice_get ps k x x (sym e)))
 
-  pub passed_all : (f : A → Bool) (n : ℕ) → None ≡ slice_get ps k → n ≡ length (filter f (take k ps)) → n ≡ length (filter f ps)
+  pub passed_all : (f : A → Bool) (n : ℕ) → None ≡ slice_get ps k → n ≡ length (filter f (take k ps))
+      → n ≡ length (filter f ps)
   passed_all f n e so_far = so_far ∙ ap (λ (xs : List A). length (filter f xs)) (take_all k ps (none-past ps k e))
 
 -- the first place that holds an item is the common items exactly if they hold it
-pub first_common : (f : Place → Bool) (modes : List ℕ) → (Some Common ≡ slice_get (filter f (places modes)) 0) → f Common ≡ true
+pub first_common : (f : Place → Bool) (modes : List ℕ) → (Some Common ≡ slice_get (filter f (places modes)) 0)
+    → f Common ≡ true
 first_common f modes e = by (f Common) e
   where
     no_mode : (ms : List ℕ) → Some Common ≡ slice_get (filter f (map Mode ms)) 0 → ⊥
@@ -64,14 +66,18 @@ first_common f modes e = by (f Common) e
         here true q rest = cc
         here false q rest = rest q
 
-    by : (b : Bool) → Some Common ≡ slice_get (cond b (Common ∷ filter f (map Mode modes)) (filter f (map Mode modes))) 0 → b ≡ true
+    by : (b : Bool)
+        → Some Common ≡ slice_get (cond b (Common ∷ filter f (map Mode modes)) (filter f (map Mode modes))) 0 → b ≡ true
     by true q = refl
     by false q = absurd (no_mode modes q)
 
-pub not_common : (f : Place → Bool) (modes : List ℕ) → (Some Common ≡ slice_get (filter f (places modes)) 0 → ⊥) → f Common ≡ false
+pub not_common : (f : Place → Bool) (modes : List ℕ) → (Some Common ≡ slice_get (filter f (places modes)) 0 → ⊥)
+    → f Common ≡ false
 not_common f modes h = by (f Common) h
   where
-    by : (b : Bool) → (Some Common ≡ slice_get (cond b (Common ∷ filter f (map Mode modes)) (filter f (map Mode modes))) 0 → ⊥) → b ≡ false
+    by : (b : Bool)
+        → (Some Common ≡ slice_get (cond b (Common ∷ filter f (map Mode modes)) (filter f (map Mode modes))) 0 → ⊥)
+        → b ≡ false
     by true h = absurd (h refl)
     by false h = refl
 

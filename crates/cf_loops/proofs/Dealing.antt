@@ -127,7 +127,8 @@ module _ (s : Script) (p q : Parts) (es fs : List Reference) (loops : List Loop)
       }
 
 -- holdings come into a loop, and references into its places
-pub loops_get : (s : Script) (p q : Parts) (es : List Reference) (loops : List Loop) (by u : ℕ) (m : Loop) (ns : List Holding)
+pub loops_get : (s : Script) (p q : Parts) (es : List Reference) (loops : List Loop) (by u : ℕ) (m : Loop)
+    (ns : List Holding)
     → AreLoops s p es loops → u < length loops → KeepsKinds p.objects q.objects
     → m.held ≡ with_these ns (loop_at u loops).held → IsOrdered m.held → All (IsItem s q) ns
     → ((t : ℕ) → (t ≡ u → ⊥) → common_modes s t q ≡ common_modes s t p) → m.common_modes ≡ common_modes s u q
@@ -141,7 +142,8 @@ loops_get s p q es loops by u m ns h within kinds is order new commons own_commo
     (loop_gets s p q es fs u (loop_at u loops) m ns kinds (h.loops_are u) is order new (came u)) commons own_commons
 
 -- an item leaves places of a loop, and references to it leave them for a thread
-pub loops_lose : (s : Script) (p : Parts) (es : List Reference) (loops : List Loop) (by u i : ℕ) (m : Loop) (ps : List Place)
+pub loops_lose : (s : Script) (p : Parts) (es : List Reference) (loops : List Loop) (by u i : ℕ) (m : Loop)
+    (ps : List Place)
     → AreLoops s p es loops → u < length loops
     → m.held ≡ without i ps (loop_at u loops).held → m.common_modes ≡ (loop_at u loops).common_modes
     → AreLoops s p (flowed (grows [] (moves_to (owed by) (present_of (held_at u i ps) es))) es) (set loops u m)

@@ -56,7 +56,8 @@ used_quiet : (p : Parts) (o : Option ℕ) (deal : ℕ → Deal) → ((n : ℕ) �
 used_quiet p None deal h = none_moved (skipping p) refl refl
 used_quiet p (Some o) deal h = h o
 
-thing_quiet : (p : Parts) (o : Option ℕ) (deal : ℕ → Thing → Deal) → ((n : ℕ) (x : Thing) → IsQuiet (deal n x)) → IsQuiet (with_thing p o deal)
+thing_quiet : (p : Parts) (o : Option ℕ) (deal : ℕ → Thing → Deal) → ((n : ℕ) (x : Thing) → IsQuiet (deal n x))
+    → IsQuiet (with_thing p o deal)
 thing_quiet p None deal h = none_moved (skipping p) refl refl
 thing_quiet p (Some i) deal h = by (thing_at p i)
   where
@@ -64,7 +65,8 @@ thing_quiet p (Some i) deal h = by (thing_at p i)
     by None = none_moved (skipping p) refl refl
     by (Some x) = h i x
 
-filter_quiet : (p : Parts) (v object : Option ℕ) (deal : Option ℕ → Deal) → ((o : Option ℕ) → IsQuiet (deal o)) → IsQuiet (with_filter p v object deal)
+filter_quiet : (p : Parts) (v object : Option ℕ) (deal : Option ℕ → Deal) → ((o : Option ℕ) → IsQuiet (deal o))
+    → IsQuiet (with_filter p v object deal)
 filter_quiet p None object deal h = h None
 filter_quiet p (Some v) object deal h = used_quiet p object (λ o. deal (Some o)) (λ o. h (Some o))
 
@@ -86,7 +88,8 @@ stop_quiet st w =
     either IsQuiet (has_run (stand_at w st.stands).frames) (record (okay (wake_parts st.parts w)) { stops = Some w }) (answering st.parts answers.Idle)
     (none_moved (record (okay (wake_parts st.parts w)) { stops = Some w }) refl refl) (none_moved (answering st.parts answers.Idle) refl refl)
 
-deal_quiet : (s : Script) (t : ℕ) (st : State) (x : Statement) (used : List (Option ℕ)) → LeavesLoops x → IsQuiet (deal_of s t st x used)
+deal_quiet : (s : Script) (t : ℕ) (st : State) (x : Statement) (used : List (Option ℕ)) → LeavesLoops x
+    → IsQuiet (deal_of s t st x used)
 deal_quiet s t st (forms.Add v u m) used h = absurd h
 deal_quiet s t st (forms.Drop v u m) used h = absurd h
 deal_quiet s t st (forms.Common u m) used h = absurd h
@@ -140,17 +143,20 @@ release_elsewhere : (t d v : ℕ) (st : State) (o : Option ℕ) → IsElsewhere 
 release_elsewhere t d v st None = (tt, tt)
 release_elsewhere t d v st (Some o) = cut_elsewhere t (variable t d v) st o (eq-eqb t t refl)
 
-statement_elsewhere : (s : Script) (t d : ℕ) (st : State) (x : Statement) (used : List (Option ℕ)) (o : Ownership) → LeavesLoops x
+statement_elsewhere : (s : Script) (t d : ℕ) (st : State) (x : Statement) (used : List (Option ℕ)) (o : Ownership)
+    → LeavesLoops x
     → IsElsewhere (statement_step s t d st x used o).flow
 statement_elsewhere s t d st x used Keeps h = deal_elsewhere t (deal_of s t st x used) (posts_of st.parts x used) (deal_quiet s t st x used h)
 statement_elsewhere s t d st x used (Binds v) h = bind_elsewhere t d v st.parts (bound_of s st.parts x used)
 statement_elsewhere s t d st x used (Retains v) h = retain_elsewhere t d v st (first_of used)
 statement_elsewhere s t d st x used (Releases v) h = release_elsewhere t d v st (first_of used)
 
-moved_elsewhere : (t : ℕ) (k : Holder) (rs es : List Reference) → (IsPlaceOfLoop k → ⊥) → AllOf t rs → MovesElsewhere (moves_to k (own_references t rs es))
+moved_elsewhere : (t : ℕ) (k : Holder) (rs es : List Reference) → (IsPlaceOfLoop k → ⊥) → AllOf t rs
+    → MovesElsewhere (moves_to k (own_references t rs es))
 moved_elsewhere t k rs es apart of = elsewhere_to k (own_references t rs es) apart (elsewhere_own t (own_references t rs es) (own_are t rs es of).thread)
 
-claim_elsewhere : (t k d v : ℕ) (st : State) (o : Option ℕ) → IsElsewhere (claim_step st (parcel t k) o (variable t d v)).flow
+claim_elsewhere : (t k d v : ℕ) (st : State) (o : Option ℕ)
+    → IsElsewhere (claim_step st (parcel t k) o (variable t d v)).flow
 claim_elsewhere t k d v st None = (tt, tt)
 claim_elsewhere t k d v st (Some o) = (tt, (λ x. x, λ x. x, tt))
 
@@ -158,11 +164,13 @@ packed_of : (t d : ℕ) (v : Option ℕ) → IsOf t (packed_holder t d v)
 packed_of t d None = eq-eqb t t refl
 packed_of t d (Some v) = eq-eqb t t refl
 
-pack_elsewhere : (t d u k : ℕ) (v : Option ℕ) (st : State) (o : Option ℕ) → IsElsewhere (pack_step t st (packed_holder t d v) o (parcel u k)).flow
+pack_elsewhere : (t d u k : ℕ) (v : Option ℕ) (st : State) (o : Option ℕ)
+    → IsElsewhere (pack_step t st (packed_holder t d v) o (parcel u k)).flow
 pack_elsewhere t d u k v st None = (tt, tt)
 pack_elsewhere t d u k v st (Some o) = (tt, moved_elsewhere t (parcel u k) (held_by (packed_holder t d v) o ∷ []) st.edges (λ x. x) (packed_of t d v, tt))
 
-line_elsewhere : (s : Script) (t d : ℕ) (st : State) (bs : List Binding) (x : BlockLine) → LineLeavesLoops x → IsElsewhere (line_step s t d st bs x).flow
+line_elsewhere : (s : Script) (t d : ℕ) (st : State) (bs : List Binding) (x : BlockLine) → LineLeavesLoops x
+    → IsElsewhere (line_step s t d st bs x).flow
 line_elsewhere s t d st bs (begins v) h = (tt, tt)
 line_elsewhere s t d st bs (claims k v) h = claim_elsewhere t k d v st (first_held (parcel t k) st.edges)
 line_elsewhere s t d st bs (packs u k v) h = pack_elsewhere t d u k v st (object_at bs v)
@@ -179,7 +187,8 @@ close_elsewhere st (of_run r) = (tt, tt)
 close_elsewhere st of_block = (tt, tt)
 close_elsewhere st (of_handler k) = (tt, tt)
 
-pub step_elsewhere : (s : Script) (t : ℕ) (st : State) (fs : List Frame) (d : Demand) → DemandLeavesLoops d → IsElsewhere (step_of s t st fs d).flow
+pub step_elsewhere : (s : Script) (t : ℕ) (st : State) (fs : List Frame) (d : Demand) → DemandLeavesLoops d
+    → IsElsewhere (step_of s t st fs d).flow
 step_elsewhere s t st fs (does x) h = line_elsewhere s t (depth_of fs) st (bindings_of fs) x h
 step_elsewhere s t st fs ends h = (tt, tt)
 step_elsewhere s t st fs returns h =

@@ -41,11 +41,13 @@ thread_references loops t = loop_references t (loop_at t loops).held
 
 -- ---- as edges
 
-each_edge : (t : ℕ) (q : Place) (is : List Item) → edges_of (map (held_by (holder_at t q)) (map (λ i. i.id) is)) ≡ map (edge_from t q) is
+each_edge : (t : ℕ) (q : Place) (is : List Item)
+    → edges_of (map (held_by (holder_at t q)) (map (λ i. i.id) is)) ≡ map (edge_from t q) is
 each_edge t q [] = refl
 each_edge t q (i ∷ is) = ap (λ (es : List Edge). edge_from t q i ∷ es) (each_edge t q is)
 
-edges_below : (f : ℕ → List Reference) (g : ℕ → List Edge) (n : ℕ) → ((k : ℕ) → edges_of (f k) ≡ g k) → edges_of (below f n) ≡ below g n
+edges_below : (f : ℕ → List Reference) (g : ℕ → List Edge) (n : ℕ) → ((k : ℕ) → edges_of (f k) ≡ g k)
+    → edges_of (below f n) ≡ below g n
 edges_below f g zero h = ap edges_of (below-none f) ∙ sym (below-none g)
 edges_below f g (suc n) h =
     ap edges_of (below-suc f n) ∙ map-append edge_of (below f n) (f n)
@@ -80,10 +82,12 @@ own_place t j q (h ∷ hs) = by (eqb (rank h.place) (rank q)) refl (own_place t 
         holders_apart (held_by (holder_at t q) j) (held_by (holder_at t h.place) h.item.id) (λ k. places_apart t t h.place q (eqb-false (rank h.place) (rank q) e) (sym k)) in
         omega (arith, rest, none)
 
-other_place : (r : Reference) (t : ℕ) (p : Place) (hs : List Holding) → (r.holder ≡ holder_at t p → ⊥) → weigh (one r) (place_references t hs p) ≡ 0
+other_place : (r : Reference) (t : ℕ) (p : Place) (hs : List Holding) → (r.holder ≡ holder_at t p → ⊥)
+    → weigh (one r) (place_references t hs p) ≡ 0
 other_place r t p hs apart = other_weigh r (holder_at t p) (ids_at p hs) apart
 
-no_loop_of : (r : Reference) (t : ℕ) (hs : List Holding) → ((p : Place) → r.holder ≡ holder_at t p → ⊥) → weigh (one r) (loop_references t hs) ≡ 0
+no_loop_of : (r : Reference) (t : ℕ) (hs : List Holding) → ((p : Place) → r.holder ≡ holder_at t p → ⊥)
+    → weigh (one r) (loop_references t hs) ≡ 0
 no_loop_of r t hs apart =
     omega (
       arith,
@@ -154,7 +158,8 @@ module _ (s : Script) (st : State) (loops : List Loop) (h : AreLoops s st.parts 
       by_place (λ r. IsPlaceOfLoop r.holder → weigh (one r) (below (thread_references loops) (length loops)) ≡ weigh (one r) st.edges)
       (λ t j q is. of_threads t j q) (λ r apart is. absurd (apart is))
 
-  no_others : (r : Reference) → (IsPlaceOfLoop r.holder → ⊥) → weigh (one r) (below (thread_references loops) (length loops)) ≡ 0
+  no_others : (r : Reference) → (IsPlaceOfLoop r.holder → ⊥)
+      → weigh (one r) (below (thread_references loops) (length loops)) ≡ 0
   no_others r apart =
       weigh_none (one r) (thread_references loops) (length loops)
       (λ u lt. no_loop_of r u (loop_at u loops).held (λ p e. apart (subst IsPlaceOfLoop (sym e) (place_of_loop u p))))

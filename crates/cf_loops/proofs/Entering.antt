@@ -130,14 +130,16 @@ module _ (s : Script) (st : State) (loops : List Loop) (t : ℕ) (m : Loop) (h :
   abbrev with_common : ℕ → Parts
   with_common n = record st.parts { commons = record { thread = t; mode = n } ∷ st.parts.commons }
 
-  gained_are : (n : ℕ) → map (λ i. i.id) (common_gained n l.held) ≡ items_gained (λ i. has (in_mode t n) i st.edges) (common_items st t)
+  gained_are : (n : ℕ)
+      → map (λ i. i.id) (common_gained n l.held) ≡ items_gained (λ i. has (in_mode t n) i st.edges) (common_items st t)
   gained_are n =
       sym (filter_map (λ i. not (holds_at l.held i (Mode n))) (λ (i : Item). i.id) (items_at Common l.held))
       ∙ filter_agree (λ i. not (holds_at l.held i (Mode n))) (λ i. not (has (in_mode t n) i st.edges)) (λ i. ap not (sym (held_is s st.parts st.edges t l is_loop (Mode n) i))) (ids_at Common l.held)
       ∙ ap (filter (λ i. not (has (in_mode t n) i st.edges))) (items_told s st.parts st.edges t l is_loop Common)
 
   -- the objects to which references enter
-  pub none_gained : (n : ℕ) → is_common t st.parts.commons n ≡ true → map (λ r. r.object) (common_deal st t n).enters ≡ []
+  pub none_gained : (n : ℕ) → is_common t st.parts.commons n ≡ true
+      → map (λ r. r.object) (common_deal st t n).enters ≡ []
   none_gained n e = rw e refl
 
   pub all_gained : (n : ℕ) → is_common t st.parts.commons n ≡ false
@@ -166,7 +168,8 @@ module _ (s : Script) (st : State) (loops : List Loop) (t : ℕ) (m : Loop) (h :
       here : (k : ℕ) → eqb t u ≡ false → is_common u (with_common n).commons k ≡ is_common u st.parts.commons k
       here k e = rw e refl
 
-  own_common : (n : ℕ) → n < length s.modes → is_common t st.parts.commons n ≡ false → with_mode n l.common_modes ≡ common_modes s t (with_common n)
+  own_common : (n : ℕ) → n < length s.modes → is_common t st.parts.commons n ≡ false
+      → with_mode n l.common_modes ≡ common_modes s t (with_common n)
   own_common n lt off =
       ap (with_mode n) commons
       ∙ range_more (is_common t st.parts.commons) (is_common t (with_common n).commons) n (length s.modes) 0 (omega arith) (omega (arith, lt)) off
@@ -178,7 +181,8 @@ module _ (s : Script) (st : State) (loops : List Loop) (t : ℕ) (m : Loop) (h :
       rest : (k : ℕ) → eqb n k ≡ false → is_common t (with_common n).commons k ≡ is_common t st.parts.commons k
       rest k e = and_off (eqb t t) (eqb n k) e
         where
-          and_off : (a b : Bool) → b ≡ false → cond (a && b) true (is_common t st.parts.commons k) ≡ is_common t st.parts.commons k
+          and_off : (a b : Bool) → b ≡ false
+              → cond (a && b) true (is_common t st.parts.commons k) ≡ is_common t st.parts.commons k
           and_off true true f = absurd cc
           and_off true false f = refl
           and_off false b f = refl
@@ -189,7 +193,8 @@ module _ (s : Script) (st : State) (loops : List Loop) (t : ℕ) (m : Loop) (h :
       → AfterDeal s st by (common_deal st t n) (set loops t m)
   common_follows by n lt told is modes = cases (is_among n l.common_modes) (sym told) is modes
     where
-      cases : (b : Bool) → is_common t st.parts.commons n ≡ b → m.held ≡ cond b l.held (with_these (each_in (Mode n) (common_gained n l.held)) l.held)
+      cases : (b : Bool) → is_common t st.parts.commons n ≡ b
+          → m.held ≡ cond b l.held (with_these (each_in (Mode n) (common_gained n l.held)) l.held)
           → m.common_modes ≡ cond b l.common_modes (with_mode n l.common_modes) → AfterDeal s st by (common_deal st t n) (set loops t m)
       cases true e is modes = rw e (unchanged is modes)
       cases false e is modes =

@@ -56,7 +56,8 @@ module _ (s : Script) (st : State) (loops : List Loop) (t i : ℕ) (l : Loop) (h
       present_all (held_at t i (filter (λ q. has (holder_at t q) i st.edges) (places modes))) st.edges
       (no_more t i (λ q. has (holder_at t q) i st.edges) modes st.edges rises (λ p q e. ap (λ (k : Place). has (holder_at t k) i st.edges) (same_place p q e)) (λ q e. e))
 
-  common_left : map (λ r. r.object) (present_of (held_at t i (places_dropped s t i st Common)) st.edges) ≡ replicate (length (shared_places i l)) i
+  common_left : map (λ r. r.object)
+      (present_of (held_at t i (places_dropped s t i st Common)) st.edges) ≡ replicate (length (shared_places i l)) i
   common_left =
       let commons = commons_found s st.parts st.edges loops t l h found in
       let ps = places_dropped s t i st Common in
@@ -64,7 +65,8 @@ module _ (s : Script) (st : State) (loops : List Loop) (t i : ℕ) (l : Loop) (h
       ∙ objects_at t i ps
       ∙ ap (λ (qs : List Place). replicate (length qs) i) (sym (shared_told s st.parts st.edges t l is_loop h.few commons i ∙ left_told s st.parts st.edges t l is_loop h.few commons i))
 
-  chosen : (b c : Bool) (x y : Deal) (n : ℕ) → b ≡ c → (b ≡ true → map (λ r. r.object) x.leaves ≡ replicate n i) → y.leaves ≡ []
+  chosen : (b c : Bool) (x y : Deal) (n : ℕ) → b ≡ c → (b ≡ true → map (λ r. r.object) x.leaves ≡ replicate n i)
+      → y.leaves ≡ []
       → map (λ r. r.object) (cond b x y).leaves ≡ replicate (cond c n 0) i
   chosen true c x y n e h none = h refl ∙ ap (λ (d : Bool). replicate (cond d n 0) i) e
   chosen false c x y n e h none = ap (map (λ (r : Reference). r.object)) none ∙ ap (λ (d : Bool). replicate (cond d n 0) i) e
@@ -101,7 +103,8 @@ low_place (Mode n) low =
         eq-eqb _ _ (sym is)
 
 -- without what is of an item, and without it in each of its places
-pub others_are : (i : ℕ) (held : List Holding) → AreLow held → others i held ≡ without i (filter (holds_at held i) (places all_modes)) held
+pub others_are : (i : ℕ) (held : List Holding) → AreLow held
+    → others i held ≡ without i (filter (holds_at held i) (places all_modes)) held
 others_are i held low =
     filter_same (λ h. not (eqb h.item.id i)) (λ h. not (list_any (λ p. is_of i p h) (filter (holds_at held i) (places all_modes)))) held
     (λ k d lt. ap not (each (get_or held k d) (low k d lt) (self_held held k d lt)))
@@ -121,7 +124,8 @@ others_are i held low =
         → eqb h.item.id i ≡ list_any (λ p. is_of i p h) (filter (holds_at held i) (places all_modes))
     each h small own = by (eqb h.item.id i) refl
       where
-        by : (b : Bool) → eqb h.item.id i ≡ b → b ≡ list_any (λ p. is_of i p h) (filter (holds_at held i) (places all_modes))
+        by : (b : Bool) → eqb h.item.id i ≡ b
+            → b ≡ list_any (λ p. is_of i p h) (filter (holds_at held i) (places all_modes))
         by true e =
             let ps = filter (holds_at held i) (places all_modes) in
             let here : holds_at held i h.place ≡ true = ap (λ (n : ℕ). holds_at held n h.place) (sym (eqb-true h.item.id i e)) ∙ own in
@@ -149,7 +153,8 @@ module _ (s : Script) (st : State) (loops : List Loop) (i : ℕ) (h : AreLoops s
       ap (weigh (one (held_by (holder_at t q) j))) all_are
       ∙ weigh_one (one (held_by (holder_at t q) j)) refs_of s.thread_count t lt (λ u apart. other_thread t u j q apart)
 
-  of_no_thread : (t j : ℕ) (q : Place) → s.thread_count ≤ t → weigh (one (held_by (holder_at t q) j)) (every_place s i st.edges) ≡ 0
+  of_no_thread : (t j : ℕ) (q : Place) → s.thread_count ≤ t
+      → weigh (one (held_by (holder_at t q) j)) (every_place s i st.edges) ≡ 0
   of_no_thread t j q le =
       ap (weigh (one (held_by (holder_at t q) j))) all_are
       ∙ weigh_none (one (held_by (holder_at t q) j)) refs_of s.thread_count (λ u lt. other_thread t u j q (λ e. absurd (omega (arith, e, lt, le))))

@@ -39,7 +39,8 @@ place_view (in_mode t m) = of_loop t (Mode m)
 place_view (in_common t) = of_loop t Common
 
 -- a reference of another holder is none of a loop
-pub no_place : (r : Reference) (t : ℕ) (hs : List Holding) → (IsPlaceOfLoop r.holder → ⊥) → weigh (one r) (references_of t hs) ≡ 0
+pub no_place : (r : Reference) (t : ℕ) (hs : List Holding) → (IsPlaceOfLoop r.holder → ⊥)
+    → weigh (one r) (references_of t hs) ≡ 0
 no_place r t [] apart = refl
 no_place r t (h ∷ hs) apart =
     omega (arith, holders_apart r (held_by (holder_at t h.place) h.item.id) (λ e. apart (subst IsPlaceOfLoop (sym e) (place_of_loop t h.place))), no_place r t hs apart)
@@ -55,7 +56,8 @@ by_place P place other r = by r.holder r.object (place_view r.holder) refl
 
 -- ---- the places of an item
 
-each_before : (i : ℕ) (ps : List Place) → AllPairs (λ p q. rank p < rank q) ps → AllPairs Before (in_each (record { id = i; kind = Source }) ps)
+each_before : (i : ℕ) (ps : List Place) → AllPairs (λ p q. rank p < rank q) ps
+    → AllPairs Before (in_each (record { id = i; kind = Source }) ps)
 each_before i [] rises = λ a b d lt below. absurd (omega arith)
 each_before i (p ∷ ps) rises =
     let item : Item = record { id = i; kind = Source } in
@@ -71,7 +73,8 @@ holds_each : (i j : ℕ) (q : Place) (ps : List Place)
 holds_each i j q [] h = absurd cc
 holds_each i j q (p ∷ ps) h = by (eqb (rank p) (rank q)) (eqb i j) refl refl h (holds_each i j q ps)
   where
-    by : (a b : Bool) → eqb (rank p) (rank q) ≡ a → eqb i j ≡ b → ((a && b) || holds_at (in_each (record { id = i; kind = Source }) ps) j q) ≡ true
+    by : (a b : Bool) → eqb (rank p) (rank q) ≡ a → eqb i j ≡ b
+        → ((a && b) || holds_at (in_each (record { id = i; kind = Source }) ps) j q) ≡ true
         → (holds_at (in_each (record { id = i; kind = Source }) ps) j q ≡ true → (i ≡ j) × (list_any (λ p. eqb (rank p) (rank q)) ps ≡ true))
         → (i ≡ j) × ((eqb (rank p) (rank q) || list_any (λ p. eqb (rank p) (rank q)) ps) ≡ true)
     by true true e f h rest = (eqb-true i j f, rw e refl)

@@ -71,7 +71,8 @@ ids_tell q k (h ∷ hs) = by (eqb (rank h.place) (rank q)) (ids_tell q k hs)
     by true rest = ap (λ (b : Bool). eqb h.item.id k || b) rest
     by false rest = rest
 
-items_above : (q : Place) (h : Holding) (hs : List Holding) → rank h.place ≡ rank q → All (Before h) hs → All (λ b. h.item.id < b.id) (items_at q hs)
+items_above : (q : Place) (h : Holding) (hs : List Holding) → rank h.place ≡ rank q → All (Before h) hs
+    → All (λ b. h.item.id < b.id) (items_at q hs)
 items_above q h [] e all = All-nil _
 items_above q h (x ∷ xs) e all = by (eqb (rank x.place) (rank q)) refl (items_above q h xs e (All-tail (Before h) x xs all))
   where
@@ -99,7 +100,8 @@ ids_rise (x ∷ xs) pairs =
     (ids_rise xs (λ i j d lt below. pairs (suc i) (suc j) d (omega arith) (omega arith)))
 
 -- what has a kind was made
-made_of_kind : (obs : List Object) (i : ℕ) (k : ItemKind) → kind_in (thing_of (slice_get obs i)) ≡ Some k → i < length obs
+made_of_kind : (obs : List Object) (i : ℕ) (k : ItemKind) → kind_in (thing_of (slice_get obs i)) ≡ Some k
+    → i < length obs
 made_of_kind obs i k e = elim (cases_lt i (length obs)) [
   | inl lt ↦ lt
   | inr le ↦ absurd (none (slice_get obs i) (slice_get_past obs i le) e)
@@ -186,7 +188,8 @@ module _ (s : Script) (p : Parts) (es : List Reference) (t : ℕ) (l : Loop) (h 
   unfolding all_modes
   low_places i = places_long (holds_at l.held i) (length s.modes) MODES few (λ k le. none_past s p es t l h i k le)
 
-  holds_told : (i : ℕ) (modes : List ℕ) → filter (λ q. has (holder_at t q) i es) (places modes) ≡ filter (holds_at l.held i) (places modes)
+  holds_told : (i : ℕ) (modes : List ℕ)
+      → filter (λ q. has (holder_at t q) i es) (places modes) ≡ filter (holds_at l.held i) (places modes)
   holds_told i modes = filter_agree (λ q. has (holder_at t q) i es) (holds_at l.held i) (λ q. held_is s p es t l h q i) (places modes)
 
   -- the places of an item
@@ -203,10 +206,12 @@ module _ (s : Script) (p : Parts) (es : List Reference) (t : ℕ) (l : Loop) (h 
         ∙ filter_turned (is_shared l.common_modes) (holds_at l.held i) all
         ∙ ap (filter (holds_at l.held i)) (ap (λ (cs : List ℕ). filter (is_shared cs) all) commons ∙ shared_modes f (length s.modes) ∙ ap places (sym commons))
 
-    pub left_told : (i : ℕ) → places_left i Common l ≡ filter (λ q. has (holder_at t q) i es) (places (common_modes s t p))
+    pub left_told : (i : ℕ)
+        → places_left i Common l ≡ filter (λ q. has (holder_at t q) i es) (places (common_modes s t p))
     left_told i = sym (holds_told i l.common_modes) ∙ ap (λ (cs : List ℕ). filter (λ q. has (holder_at t q) i es) (places cs)) commons
 
-    pub gained_told : (i : ℕ) → places_gained i Common l ≡ filter (λ q. not (has (holder_at t q) i es)) (places (common_modes s t p))
+    pub gained_told : (i : ℕ)
+        → places_gained i Common l ≡ filter (λ q. not (has (holder_at t q) i es)) (places (common_modes s t p))
     gained_told i =
         filter_agree (λ q. not (holds_at l.held i q)) (λ q. not (has (holder_at t q) i es)) (λ q. ap not (sym (held_is s p es t l h q i))) (places l.common_modes)
         ∙ ap (λ (cs : List ℕ). filter (λ q. not (has (holder_at t q) i es)) (places cs)) commons
@@ -234,17 +239,20 @@ common_told s p es loops t m l h found lt =
 
 -- ---- a loop that is read by its index, and put back
 
-pub at_read : (loops items : List Loop) (t k : ℕ) (x : Loop) → items ≡ loops → k ≡ t → t < length loops → x ≡ get_or items k x → x ≡ loop_at t loops
+pub at_read : (loops items : List Loop) (t k : ℕ) (x : Loop) → items ≡ loops → k ≡ t → t < length loops
+    → x ≡ get_or items k x → x ≡ loop_at t loops
 at_read loops items t k x same at within is =
     let here : x ≡ get_or loops t x = is ∙ ap (λ (ls : List Loop). get_or ls k x) same ∙ ap (λ (n : ℕ). get_or loops n x) at in
     get_or_read loops t x within here no_loop
 
-pub at_set : (P : List Loop → Type 0) (loops items : List Loop) (t k : ℕ) (m : Loop) → items ≡ loops → k ≡ t → P (set loops t m) → P (set items k m)
+pub at_set : (P : List Loop → Type 0) (loops items : List Loop) (t k : ℕ) (m : Loop) → items ≡ loops → k ≡ t
+    → P (set loops t m) → P (set items k m)
 at_set P loops items t k m same at h = subst P (ap (λ (ls : List Loop). set ls t m) (sym same) ∙ ap (λ (n : ℕ). set items n m) (sym at)) h
 
 -- ---- how many places an item enters
 
-pub added_count : (s : Script) (st : State) (loops : List Loop) (t i : ℕ) (l : Loop) → AreLoops s st.parts st.edges loops → Some l ≡ slice_get loops t
+pub added_count : (s : Script) (st : State) (loops : List Loop) (t i : ℕ) (l : Loop)
+    → AreLoops s st.parts st.edges loops → Some l ≡ slice_get loops t
     → (length l.common_modes ≤ MODES) × (1 + length l.common_modes - length (shared_places i l) ≡ length (places_added s t i st Common))
 added_count s st loops t i l h found =
     let is = loop_found s st.parts st.edges loops t l h found in

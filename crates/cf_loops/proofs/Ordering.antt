@@ -25,7 +25,8 @@ pairs_tail h hs pairs = λ a b d lt below. pairs (suc a) (suc b) d (omega arith)
 before_numbers : (a b x y : ℕ) → (ltb a b || (eqb a b && ltb x y)) ≡ true → (a ≤ b) × (a ≡ b → x < y)
 before_numbers a b x y h = (grind (arith, nat_tests), λ e. grind (arith, nat_tests))
 
-after_numbers : (a b x y : ℕ) → (ltb a b || (eqb a b && ltb x y)) ≡ false → (eqb a b && eqb x y) ≡ false → (b ≤ a) × (b ≡ a → y < x)
+after_numbers : (a b x y : ℕ) → (ltb a b || (eqb a b && ltb x y)) ≡ false → (eqb a b && eqb x y) ≡ false
+    → (b ≤ a) × (b ≡ a → y < x)
 after_numbers a b x y h k = (grind (arith, nat_tests), λ e. grind (arith, nat_tests))
 
 before_new : (n h : Holding) → stands_before n.item.id n.place h ≡ true → Before h n
@@ -53,13 +54,15 @@ all_with_one P n (h ∷ hs) new all = by (stands_before n.item.id n.place h) (al
     by true rest = All-cons P h (with_one n hs) (All-head P h hs all) rest
     by false rest = All-cons P n (h ∷ hs) new all
 
-pairs_with_one : (n : Holding) (hs : List Holding) → AllPairs Before hs → holds_at hs n.item.id n.place ≡ false → AllPairs Before (with_one n hs)
+pairs_with_one : (n : Holding) (hs : List Holding) → AllPairs Before hs → holds_at hs n.item.id n.place ≡ false
+    → AllPairs Before (with_one n hs)
 pairs_with_one n [] pairs absent = AllPairs-cons Before n [] (All-nil (Before n)) pairs
 pairs_with_one n (h ∷ hs) pairs absent =
     let parts = or_parts (is_of n.item.id n.place h) (holds_at hs n.item.id n.place) absent in
     by (stands_before n.item.id n.place h) refl parts.0 (pairs_with_one n hs (pairs_tail h hs pairs) parts.1)
   where
-    by : (b : Bool) → stands_before n.item.id n.place h ≡ b → is_of n.item.id n.place h ≡ false → AllPairs Before (with_one n hs)
+    by : (b : Bool) → stands_before n.item.id n.place h ≡ b → is_of n.item.id n.place h ≡ false
+        → AllPairs Before (with_one n hs)
         → AllPairs Before (cond b (h ∷ with_one n hs) (n ∷ h ∷ hs))
     by true t other rest = AllPairs-cons Before h (with_one n hs) (all_with_one (Before h) n hs (before_new n h t) (pairs_head h hs pairs)) rest
     by false f other rest =

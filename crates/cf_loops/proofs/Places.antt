@@ -30,7 +30,8 @@ filter_fewer f g (x ∷ xs) h some = by (g x) (f x) refl refl some (filter_fewer
     by false true e d some rest = omega (arith, rest some)
     by false false e d some rest = omega (arith, rest some)
 
-filter_of_kept : {A : Type 0} (f g : A → Bool) (xs : List A) → ((x : A) → f x ≡ true → g x ≡ true) → filter f (filter g xs) ≡ filter f xs
+filter_of_kept : {A : Type 0} (f g : A → Bool) (xs : List A) → ((x : A) → f x ≡ true → g x ≡ true)
+    → filter f (filter g xs) ≡ filter f xs
 filter_of_kept f g [] h = refl
 filter_of_kept f g (x ∷ xs) h = by (f x) (g x) refl refl (filter_of_kept f g xs h)
   where
@@ -87,7 +88,8 @@ nothing : (ps : List Place) → length ps ≤ 0 → ps ≡ []
 nothing [] le = refl
 nothing (p ∷ ps) le = absurd (omega arith)
 
-pub leaving_end : (i : ℕ) (start now : Loop) → IsLeaving i start now → None ≡ slice_get (places_at i now) 0 → HasLeft i start now
+pub leaving_end : (i : ℕ) (start now : Loop) → IsLeaving i start now → None ≡ slice_get (places_at i now) 0
+    → HasLeft i start now
 leaving_end i start now so_far none = record {
   held = λ low.
       leaves_none i now.held

@@ -23,11 +23,13 @@ filter_same {A} f g (x ∷ xs) h =
     let P : A → Type 0 = λ y. f y ≡ g y in
     rw (All-head P x xs h, filter_same f g xs (All-tail P x xs h)) refl
 
-pub any_map : {A B : Type 0} (f : B → Bool) (g : A → B) (xs : List A) → list_any f (map g xs) ≡ list_any (λ x. f (g x)) xs
+pub any_map : {A B : Type 0} (f : B → Bool) (g : A → B) (xs : List A)
+    → list_any f (map g xs) ≡ list_any (λ x. f (g x)) xs
 any_map f g [] = refl
 any_map f g (x ∷ xs) = rw (any_map f g xs) refl
 
-pub filter_map : {A B : Type 0} (f : B → Bool) (g : A → B) (xs : List A) → filter f (map g xs) ≡ map g (filter (λ x. f (g x)) xs)
+pub filter_map : {A B : Type 0} (f : B → Bool) (g : A → B) (xs : List A)
+    → filter f (map g xs) ≡ map g (filter (λ x. f (g x)) xs)
 filter_map f g [] = refl
 filter_map f g (x ∷ xs) = by (f (g x)) (filter_map f g xs)
   where
@@ -69,7 +71,8 @@ not_above a xs h = list_any_none (λ x. eqb x a) xs (λ k d lt. apart_from (get_
     apart_from x lt = grind (arith, nat_tests)
 
 -- numbers in order that are those of a range which pass a test
-pub range_passes : (f : ℕ → Bool) (n a : ℕ) (xs : List ℕ) → AllPairs (λ x y. x < y) xs → All (λ x. (a ≤ x) × (x < a + n)) xs
+pub range_passes : (f : ℕ → Bool) (n a : ℕ) (xs : List ℕ) → AllPairs (λ x y. x < y) xs
+    → All (λ x. (a ≤ x) × (x < a + n)) xs
     → ((k : ℕ) → a ≤ k → f k ≡ list_any (λ x. eqb x k) xs) → filter f (range_with_len a n) ≡ xs
 range_passes f zero a [] rises within agree = refl
 range_passes f zero a (x ∷ xs) rises within agree = let w = within 0 x (omega arith) in absurd (omega (arith, w.0, w.1))
@@ -116,7 +119,8 @@ first_mode m (x ∷ xs) h = let f : ltb x m ≡ false = above x (All-head (λ y.
     above y lt = grind (arith, nat_tests)
 
 -- one more of them
-pub range_more : (f g : ℕ → Bool) (m n a : ℕ) → a ≤ m → m < a + n → f m ≡ false → g m ≡ true → ((k : ℕ) → (k ≡ m → ⊥) → g k ≡ f k)
+pub range_more : (f g : ℕ → Bool) (m n a : ℕ) → a ≤ m → m < a + n → f m ≡ false → g m ≡ true
+    → ((k : ℕ) → (k ≡ m → ⊥) → g k ≡ f k)
     → with_mode m (filter f (range_with_len a n)) ≡ filter g (range_with_len a n)
 range_more f g m zero a le lt off on same = absurd (omega arith)
 range_more f g m (suc n) a le lt off on same = elim (eqb_tells a m) [
@@ -138,7 +142,8 @@ range_more f g m (suc n) a le lt off on same = elim (eqb_tells a m) [
     later_kept : (xs : List ℕ) → All (λ x. m < x) xs → All (λ x. m < x) (filter f xs)
     later_kept xs h = All-filter f (λ x. m < x) xs h
 
-    by : (b : Bool) → f a ≡ b → a + 1 ≤ m → g a ≡ f a → with_mode m (filter f (range_with_len (a + 1) n)) ≡ filter g (range_with_len (a + 1) n)
+    by : (b : Bool) → f a ≡ b → a + 1 ≤ m → g a ≡ f a
+        → with_mode m (filter f (range_with_len (a + 1) n)) ≡ filter g (range_with_len (a + 1) n)
         → with_mode m (filter f (range_with_len a (suc n))) ≡ filter g (range_with_len a (suc n))
     by true e below is rest =
         let t : ltb a m ≡ true = lt-ltb a m (omega arith) in

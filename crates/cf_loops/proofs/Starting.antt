@@ -30,7 +30,8 @@ empty_loop s p t l e = record {
   ordered = rw e (record { in_order = λ a b d lt below. absurd (omega arith); below = All-nil _ });
 }
 
-not_default : (t k n a : ℕ) → eqb 0 k ≡ false → is_common t (map (λ t. record { thread = t; mode = 0 }) (range_with_len a n)) k ≡ false
+not_default : (t k n a : ℕ) → eqb 0 k ≡ false
+    → is_common t (map (λ t. record { thread = t; mode = 0 }) (range_with_len a n)) k ≡ false
 not_default t k zero a e = refl
 not_default t k (suc n) a e = both (eqb a t) (eqb 0 k) e ∙ not_default t k n (a + 1) e
   where
@@ -51,10 +52,12 @@ is_default t k (suc n) a e le lt = elim (eqb_tells a t) [
     above : (b u : ℕ) → b ≤ u → (b ≡ u → ⊥) → b + 1 ≤ u
     above b u le apart = omega arith
 
-default_is : (t k n : ℕ) → t < n → is_common t (map (λ t. record { thread = t; mode = 0 }) (range_with_len 0 n)) k ≡ (eqb 0 k || false)
+default_is : (t k n : ℕ) → t < n
+    → is_common t (map (λ t. record { thread = t; mode = 0 }) (range_with_len 0 n)) k ≡ (eqb 0 k || false)
 default_is t k n lt = by (eqb 0 k) refl
   where
-    by : (b : Bool) → eqb 0 k ≡ b → is_common t (map (λ t. record { thread = t; mode = 0 }) (range_with_len 0 n)) k ≡ (b || false)
+    by : (b : Bool) → eqb 0 k ≡ b
+        → is_common t (map (λ t. record { thread = t; mode = 0 }) (range_with_len 0 n)) k ≡ (b || false)
     by true e = is_default t k n 0 e (omega arith) (omega (arith, lt))
     by false e = not_default t k n 0 e
 

@@ -42,7 +42,8 @@ elsewhere_flow r (grows enters moves) is all =
     (omega (arith, elsewhere_all r enters is all.0, rest.0), rest.1)
 elsewhere_flow r (shrinks q) is apart = (refl, elsewhere_one r q is apart)
 
-pub places_stay : (flow : Flow) (es : List Reference) → IsElsewhere flow → IsThere flow es → SamePlaces es (flowed flow es)
+pub places_stay : (flow : Flow) (es : List Reference) → IsElsewhere flow → IsThere flow es
+    → SamePlaces es (flowed flow es)
 places_stay flow es apart there r is =
     let none = elsewhere_flow r flow is apart in
     omega (arith, weigh-flow (one r) flow es there, none.0, none.1)
@@ -56,7 +57,8 @@ pub elsewhere_map : (k : Holder) (xs : List ℕ) → (IsPlaceOfLoop k → ⊥) �
 elsewhere_map k [] apart = tt
 elsewhere_map k (x ∷ xs) apart = (apart, elsewhere_map k xs apart)
 
-pub elsewhere_to : (k : Holder) (rs : List Reference) → (IsPlaceOfLoop k → ⊥) → AllElsewhere rs → MovesElsewhere (moves_to k rs)
+pub elsewhere_to : (k : Holder) (rs : List Reference) → (IsPlaceOfLoop k → ⊥) → AllElsewhere rs
+    → MovesElsewhere (moves_to k rs)
 elsewhere_to k [] apart all = tt
 elsewhere_to k (r ∷ rs) apart all = (all.0, apart, elsewhere_to k rs apart all.1)
 
@@ -80,7 +82,8 @@ kinds_made [] more i k e = absurd cc
 kinds_made (ob ∷ obs) more zero k e = e
 kinds_made (ob ∷ obs) more (suc i) k e = kinds_made obs more i k e
 
-item_kind : (change : Change) (handler : ℕ) (info : Option ℕ) (valid : Bool) (item : Item) (k : ItemKind) → kind_of item ≡ k → KeepsKind change k
+item_kind : (change : Change) (handler : ℕ) (info : Option ℕ) (valid : Bool) (item : Item) (k : ItemKind)
+    → kind_of item ≡ k → KeepsKind change k
     → kind_in (thing_in (content_after change (item_content handler info valid item))) ≡ Some k
 item_kind unchanged handler info valid item k e fits = ap (λ (j : ItemKind). Some j) e
 item_kind (in_text x) handler info valid item k e fits = ap (λ (j : ItemKind). Some j) e

@@ -31,7 +31,8 @@ pub place_of_loop : (t : ℕ) (q : Place) → IsPlaceOfLoop (holder_at t q)
 place_of_loop t Common = tt
 place_of_loop t (Mode m) = tt
 
-pub items_kept : (s : Script) (p q : Parts) (hs : List Holding) → KeepsKinds p.objects q.objects → All (IsItem s p) hs → All (IsItem s q) hs
+pub items_kept : (s : Script) (p q : Parts) (hs : List Holding) → KeepsKinds p.objects q.objects → All (IsItem s p) hs
+    → All (IsItem s q) hs
 items_kept s p q hs kinds = All-weaker (IsItem s p) (IsItem s q) (λ h is. record { place = is.place; kind = kinds h.item.id h.item.kind is.kind }) hs
 
 pub loop_kept : (s : Script) (p q : Parts) (es fs : List Reference) (t : ℕ) (l : Loop) → SameItems p q

@@ -57,7 +57,8 @@ pub threads_apart : (t u : ℕ) (p q : Place) → (t ≡ u → ⊥) → holder_a
 threads_apart t u p q apart e = apart (sym (thread_is t p) ∙ ap thread_in e ∙ thread_is u q)
 
 -- the reference of a place to an item, weighed by another of the same loop
-one_of : (t i j : ℕ) (p q : Place) → one (held_by (holder_at t q) i) (held_by (holder_at t p) j) ≡ counted (eqb (rank p) (rank q) && eqb j i)
+one_of : (t i j : ℕ) (p q : Place)
+    → one (held_by (holder_at t q) i) (held_by (holder_at t p) j) ≡ counted (eqb (rank p) (rank q) && eqb j i)
 one_of t i j p q = elim (eqb_tells (rank p) (rank q)) [
   | inl e ↦
       let here : one (held_by (holder_at t q) i) (held_by (holder_at t p) j) ≡ counted (eqb j i) =
@@ -71,7 +72,8 @@ one_of t i j p q = elim (eqb_tells (rank p) (rank q)) [
 -- ---- lists of holdings
 
 -- the references of another thread's loop
-pub other_loop : (t u i : ℕ) (q : Place) (hs : List Holding) → (t ≡ u → ⊥) → weigh (one (held_by (holder_at t q) i)) (references_of u hs) ≡ 0
+pub other_loop : (t u i : ℕ) (q : Place) (hs : List Holding) → (t ≡ u → ⊥)
+    → weigh (one (held_by (holder_at t q) i)) (references_of u hs) ≡ 0
 other_loop t u i q [] apart = refl
 other_loop t u i q (h ∷ hs) apart =
     omega (arith, holders_apart (held_by (holder_at t q) i) (held_by (holder_at u h.place) h.item.id) (threads_apart t u q h.place apart), other_loop t u i q hs apart)
@@ -81,7 +83,8 @@ pub each_place : (t : ℕ) (i : Item) (ps : List Place) → references_of t (in_
 each_place t i [] = refl
 each_place t i (p ∷ ps) = ap (λ (rs : List Reference). held_by (holder_at t p) i.id ∷ rs) (each_place t i ps)
 
-pub each_item : (t : ℕ) (p : Place) (is : List Item) → references_of t (each_in p is) ≡ map (held_by (holder_at t p)) (map (λ i. i.id) is)
+pub each_item : (t : ℕ) (p : Place) (is : List Item)
+    → references_of t (each_in p is) ≡ map (held_by (holder_at t p)) (map (λ i. i.id) is)
 each_item t p [] = refl
 each_item t p (i ∷ is) = ap (λ (rs : List Reference). held_by (holder_at t p) i.id ∷ rs) (each_item t p is)
 
@@ -90,7 +93,8 @@ weigh-with_one : (g : Reference → ℕ) (t : ℕ) (n : Holding) (hs : List Hold
 weigh-with_one g t n [] = omega arith
 weigh-with_one g t n (h ∷ hs) = by (stands_before n.item.id n.place h) (weigh-with_one g t n hs)
   where
-    by : (b : Bool) → weigh g (references_of t (with_one n hs)) ≡ weigh g (references_of t hs) + g (held_by (holder_at t n.place) n.item.id)
+    by : (b : Bool)
+        → weigh g (references_of t (with_one n hs)) ≡ weigh g (references_of t hs) + g (held_by (holder_at t n.place) n.item.id)
         → weigh g (references_of t (cond b (h ∷ with_one n hs) (n ∷ h ∷ hs))) ≡ weigh g (references_of t (h ∷ hs)) + g (held_by (holder_at t n.place) n.item.id)
     by true rest = omega (arith, rest)
     by false rest = omega arith
@@ -101,11 +105,13 @@ weigh-with_these g t [] hs = omega arith
 weigh-with_these g t (n ∷ ns) hs = omega (arith, weigh-with_these g t ns (with_one n hs), weigh-with_one g t n hs)
 
 -- something is weighed exactly if it is held
-pub held_weighs : (t i : ℕ) (q : Place) (hs : List Holding) → ltb 0 (weigh (one (held_by (holder_at t q) i)) (references_of t hs)) ≡ holds_at hs i q
+pub held_weighs : (t i : ℕ) (q : Place) (hs : List Holding)
+    → ltb 0 (weigh (one (held_by (holder_at t q) i)) (references_of t hs)) ≡ holds_at hs i q
 held_weighs t i q [] = refl
 held_weighs t i q (h ∷ hs) = by (is_of i q h) refl (one_of t i h.item.id h.place q) (held_weighs t i q hs)
   where
-    by : (b : Bool) → is_of i q h ≡ b → one (held_by (holder_at t q) i) (held_by (holder_at t h.place) h.item.id) ≡ counted (is_of i q h)
+    by : (b : Bool) → is_of i q h ≡ b
+        → one (held_by (holder_at t q) i) (held_by (holder_at t h.place) h.item.id) ≡ counted (is_of i q h)
         → ltb 0 (weigh (one (held_by (holder_at t q) i)) (references_of t hs)) ≡ holds_at hs i q
         → ltb 0 (weigh (one (held_by (holder_at t q) i)) (references_of t (h ∷ hs))) ≡ (is_of i q h || holds_at hs i q)
     by true e w rest = lt-ltb 0 _ (omega (arith, w, ap counted e)) ∙ ap (λ (b : Bool). b || holds_at hs i q) (sym e)
@@ -115,7 +121,8 @@ held_weighs t i q (h ∷ hs) = by (is_of i q h) refl (one_of t i h.item.id h.pla
         ap (ltb 0) same ∙ rest ∙ ap (λ (b : Bool). b || holds_at hs i q) (sym e)
 
 -- holdings in order have each item once in a place
-none_after : (i : ℕ) (q : Place) (h : Holding) (hs : List Holding) → is_of i q h ≡ true → All (Before h) hs → holds_at hs i q ≡ false
+none_after : (i : ℕ) (q : Place) (h : Holding) (hs : List Holding) → is_of i q h ≡ true → All (Before h) hs
+    → holds_at hs i q ≡ false
 none_after i q h hs t all = list_any_none (is_of i q) hs (λ k d lt. other (all k d lt))
   where
     other : {x : Holding} → Before h x → is_of i q x ≡ false
@@ -135,7 +142,8 @@ held_once t i q [] pairs = refl
 held_once t i q (h ∷ hs) pairs =
     by (is_of i q h) refl (one_of t i h.item.id h.place q) (held_once t i q hs (pairs_tail h hs pairs))
   where
-    by : (b : Bool) → is_of i q h ≡ b → one (held_by (holder_at t q) i) (held_by (holder_at t h.place) h.item.id) ≡ counted (is_of i q h)
+    by : (b : Bool) → is_of i q h ≡ b
+        → one (held_by (holder_at t q) i) (held_by (holder_at t h.place) h.item.id) ≡ counted (is_of i q h)
         → weigh (one (held_by (holder_at t q) i)) (references_of t hs) ≡ counted (holds_at hs i q)
         → weigh (one (held_by (holder_at t q) i)) (references_of t (h ∷ hs)) ≡ counted (is_of i q h || holds_at hs i q)
     by true e w rest =
@@ -152,7 +160,8 @@ held_once t i q (h ∷ hs) pairs =
 -- ---- references that leave
 
 -- of those that are asked for, those that are there, each as often as both have it
-pub present_weighs : (rs es : List Reference) (r : Reference) → weigh (one r) (present_of rs es) ≡ min (weigh (one r) rs) (weigh (one r) es)
+pub present_weighs : (rs es : List Reference) (r : Reference)
+    → weigh (one r) (present_of rs es) ≡ min (weigh (one r) rs) (weigh (one r) es)
 present_weighs [] es r = omega arith
 present_weighs (q ∷ rs) es r = by (ltb 0 (weigh (one q) es)) refl (λ fs. present_weighs rs fs r)
   where
@@ -174,7 +183,8 @@ present_weighs (q ∷ rs) es r = by (ltb 0 (weigh (one q) es)) refl (λ fs. pres
         zero_from n h = grind (arith, nat_tests)
 
 -- what is all there is taken as it is
-pub present_all : (rs es : List Reference) → ((r : Reference) → weigh (one r) rs ≤ weigh (one r) es) → present_of rs es ≡ rs
+pub present_all : (rs es : List Reference) → ((r : Reference) → weigh (one r) rs ≤ weigh (one r) es)
+    → present_of rs es ≡ rs
 present_all [] es h = refl
 present_all (q ∷ rs) es h =
     let own : one q q ≡ 1 = ap counted (same-refl q) in

@@ -36,11 +36,13 @@ pub record Reached (s : Script) (c : Counts) (ns : List ℕ) (xs : List Statemen
   pub fault : statements_fault s lines ns xs ≡ all
   pub rest : lines ++ map says xs ≡ whole
 
-pub reached_start : (s : Script) (c : Counts) (ns : List ℕ) (xs : List Statement) (earlier : List BlockLine) → Counted c earlier
+pub reached_start : (s : Script) (c : Counts) (ns : List ℕ) (xs : List Statement) (earlier : List BlockLine)
+    → Counted c earlier
     → Reached s c ns xs (statements_fault s earlier ns xs) (earlier ++ map says xs)
 reached_start s c ns xs earlier counted = record { lines = earlier; counted = counted; fault = refl; rest = refl }
 
-pub reached_more : (s : Script) (c after : Counts) (ns : List ℕ) (x : Statement) (xs : List Statement) (all : Option Refusal) (whole : List BlockLine)
+pub reached_more : (s : Script) (c after : Counts) (ns : List ℕ) (x : Statement) (xs : List Statement)
+    (all : Option Refusal) (whole : List BlockLine)
     → Reached s c ns (x ∷ xs) all whole
     → ((e : List BlockLine) → Counted c e → None ≡ line_fault s e (says x))
     → ((e : List BlockLine) (y : BlockLine) → line_ownership y ≡ ownership_of x → Counted c e → Counted after (e ++ y ∷ []))
@@ -53,19 +55,22 @@ reached_more s c after ns x xs all whole r fits counts =
       rest = append_assoc r.lines (says x ∷ []) (map says xs) ∙ r.rest;
     }
 
-pub reached_fault : (s : Script) (c : Counts) (ns : List ℕ) (x : Statement) (xs : List Statement) (all : Option Refusal) (whole : List BlockLine) (reason : Reason)
+pub reached_fault : (s : Script) (c : Counts) (ns : List ℕ) (x : Statement) (xs : List Statement) (all : Option Refusal)
+    (whole : List BlockLine) (reason : Reason)
     → Reached s c ns (x ∷ xs) all whole
     → ((e : List BlockLine) → Counted c e → Some reason ≡ line_fault s e (says x))
     → all ≡ Some (record { line = slice_index ns 0; reason = reason })
 reached_fault s c ns x xs all whole reason r faulty =
     sym r.fault ∙ or_some (on_line (slice_index ns 0) (line_fault s r.lines (says x))) _ _ (ap (on_line (slice_index ns 0)) (sym (faulty r.lines r.counted)))
 
-pub reached_end : (s : Script) (c : Counts) (ns : List ℕ) (all : Option Refusal) (whole : List BlockLine) → Reached s c ns [] all whole
+pub reached_end : (s : Script) (c : Counts) (ns : List ℕ) (all : Option Refusal) (whole : List BlockLine)
+    → Reached s c ns [] all whole
     → (None ≡ all) × Counted c whole
 reached_end s c ns all whole r = (r.fault, subst (Counted c) (sym (append-nil r.lines) ∙ r.rest) r.counted)
 
 -- the same at a place of the lists
-pub at_place : (s : Script) (c : Counts) (ns : List ℕ) (xs : List Statement) (i : ℕ) (x : Statement) (all : Option Refusal) (whole : List BlockLine)
+pub at_place : (s : Script) (c : Counts) (ns : List ℕ) (xs : List Statement) (i : ℕ) (x : Statement)
+    (all : Option Refusal) (whole : List BlockLine)
     → i < length xs → x ≡ get_or xs i x → Reached s c (drop i ns) (drop i xs) all whole
     → Reached s c (drop i ns) (x ∷ drop (i + 1) xs) all whole
 at_place s c ns xs i x all whole lt is r =
@@ -89,7 +94,8 @@ pub taking_start : (setup own : Counts) (thread place line : ℕ) (us : List Giv
 taking_start setup own thread place line us before mine a b =
     record { before = before; mine = mine; place = place; setup_counted = a; own_counted = b; fault = refl; packs_rest = refl; claims_rest = refl }
 
-pub taking_more : (setup own setup' own' : Counts) (thread line : ℕ) (u : Given) (us : List Given) (all : Option Refusal) (packed claimed : List BlockLine)
+pub taking_more : (setup own setup' own' : Counts) (thread line : ℕ) (u : Given) (us : List Given)
+    (all : Option Refusal) (packed claimed : List BlockLine)
     → Taking setup own thread line (u ∷ us) all packed claimed
     → ((before mine : List BlockLine) → Counted setup before → Counted own mine → None ≡ given_fault before mine u.setup u.own)
     → ((before : List BlockLine) (thread place : ℕ) → Counted setup before → Counted setup' (before ++ packs thread place u.setup ∷ []))
@@ -107,7 +113,8 @@ taking_more setup own setup' own' thread line u us all packed claimed t fits pac
       claims_rest = append_assoc t.mine (claims t.place u.own ∷ []) (claims_from (t.place + 1) us) ∙ t.claims_rest;
     }
 
-pub taking_fault : (setup own : Counts) (thread line : ℕ) (u : Given) (us : List Given) (all : Option Refusal) (packed claimed : List BlockLine) (reason : Reason)
+pub taking_fault : (setup own : Counts) (thread line : ℕ) (u : Given) (us : List Given) (all : Option Refusal)
+    (packed claimed : List BlockLine) (reason : Reason)
     → Taking setup own thread line (u ∷ us) all packed claimed
     → ((before mine : List BlockLine) → Counted setup before → Counted own mine → Some reason ≡ given_fault before mine u.setup u.own)
     → all ≡ Some (record { line = line; reason = reason })
@@ -119,7 +126,8 @@ pub record Taken (setup own : Counts) (all : Option Refusal) (packed claimed : L
   pub setup_counted : Counted setup packed
   pub own_counted : Counted own claimed
 
-pub taking_end : (setup own : Counts) (thread line : ℕ) (all : Option Refusal) (packed claimed : List BlockLine) → Taking setup own thread line [] all packed claimed
+pub taking_end : (setup own : Counts) (thread line : ℕ) (all : Option Refusal) (packed claimed : List BlockLine)
+    → Taking setup own thread line [] all packed claimed
     → Taken setup own all packed claimed
 taking_end setup own thread line all packed claimed t = record {
   fault = t.fault;
@@ -127,7 +135,8 @@ taking_end setup own thread line all packed claimed t = record {
   own_counted = subst (Counted own) (sym (append-nil t.mine) ∙ t.claims_rest) t.own_counted;
 }
 
-pub at_word : (setup own : Counts) (thread line : ℕ) (us : List Given) (i : ℕ) (u : Given) (all : Option Refusal) (packed claimed : List BlockLine)
+pub at_word : (setup own : Counts) (thread line : ℕ) (us : List Given) (i : ℕ) (u : Given) (all : Option Refusal)
+    (packed claimed : List BlockLine)
     → i < length us → u ≡ get_or us i u → Taking setup own thread line (drop i us) all packed claimed
     → Taking setup own thread line (u ∷ drop (i + 1) us) all packed claimed
 at_word setup own thread line us i u all packed claimed lt is t =
@@ -167,12 +176,14 @@ at_block s setup bs i b all lt is t =
 
 -- ---- at the end of the lists, and the room of counts
 
-pub reached_last : (s : Script) (c : Counts) (ns : List ℕ) (xs : List Statement) (i : ℕ) (all : Option Refusal) (whole : List BlockLine)
+pub reached_last : (s : Script) (c : Counts) (ns : List ℕ) (xs : List Statement) (i : ℕ) (all : Option Refusal)
+    (whole : List BlockLine)
     → length xs ≤ i → Reached s c ns (drop i xs) all whole → (None ≡ all) × Counted c whole
 reached_last s c ns xs i all whole le r =
     reached_end s c ns all whole (subst (λ (ys : List Statement). Reached s c ns ys all whole) (drop_all i xs le) r)
 
-pub taking_last : (setup own : Counts) (thread line : ℕ) (us : List Given) (i : ℕ) (all : Option Refusal) (packed claimed : List BlockLine)
+pub taking_last : (setup own : Counts) (thread line : ℕ) (us : List Given) (i : ℕ) (all : Option Refusal)
+    (packed claimed : List BlockLine)
     → length us ≤ i → Taking setup own thread line (drop i us) all packed claimed → Taken setup own all packed claimed
 taking_last setup own thread line us i all packed claimed le t =
     taking_end setup own thread line all packed claimed (subst (λ (vs : List Given). Taking setup own thread line vs all packed claimed) (drop_all i us le) t)
@@ -185,11 +196,13 @@ room_at_least c n m le room = record {
 }
 
 -- one more is left before a place than after it
-pub one_left : {A : Type 0} (xs : List A) (i : ℕ) (d : A) → i < length xs → length (drop i xs) ≡ length (drop (i + 1) xs) + 1
+pub one_left : {A : Type 0} (xs : List A) (i : ℕ) (d : A) → i < length xs
+    → length (drop i xs) ≡ length (drop (i + 1) xs) + 1
 one_left xs i d lt = omega (arith, ap length (drop_more xs i d lt))
 
 -- a word after `uses` that is no variable of setup changes no count
-pub packed_none : (c : Counts) (before : List BlockLine) (thread place : ℕ) → Counted c before → Counted c (before ++ packs thread place None ∷ [])
+pub packed_none : (c : Counts) (before : List BlockLine) (thread place : ℕ) → Counted c before
+    → Counted c (before ++ packs thread place None ∷ [])
 packed_none c before thread place counted =
     counted_more c c Keeps before (packs thread place None) refl counted (record {
       binds = λ v small. omega arith;

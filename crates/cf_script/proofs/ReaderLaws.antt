@@ -45,7 +45,8 @@ unfolding statement_line
 line_placed r b ws result names after h =
     placed_in r b (statement_of r.classes [] (is_handler b.kind) r.names ws) result (record { names = names; value = after }) h
 
-pub placed : (r s : Reading) (o : Option Opened) (b : Opened) (ws : List (List ℕ)) (result : Result (Unit {0}) LineFault)
+pub placed : (r s : Reading) (o : Option Opened) (b : Opened) (ws : List (List ℕ))
+    (result : Result (Unit {0}) LineFault)
     → o ≡ Some b → is_word ws 0 (codes "end") ≡ false
     → GivesAs (λ _. s) result (statement_line [] r b ws)
     → GivesAs (λ _. s) result (place_line [] r o ws)

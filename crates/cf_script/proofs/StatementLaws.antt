@@ -16,7 +16,8 @@ abbrev pub put : Opened → ℕ → Result (With Statement) Reason → Result (W
 put b line found = found >>= (λ s. Ok (record { names = s.names; value = with_statement b s.value line }))
 
 -- a line is a statement of its form, by names that are the same
-pub line_by : (classes : List ClassLine) (names same : Names) (b : Opened) (line : ℕ) (ws : List (List ℕ)) (r : FormWord)
+pub line_by : (classes : List ClassLine) (names same : Names) (b : Opened) (line : ℕ) (ws : List (List ℕ))
+    (r : FormWord)
     (h : Bool)
     → form_of ws ≡ Ok r → same ≡ names → h ≡ is_handler b.kind
     → with_line classes names b line ws ≡ put b line (statement_in classes h same r ws)

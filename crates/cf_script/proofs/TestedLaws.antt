@@ -91,7 +91,8 @@ some_at test (x ∷ names) t e = tests (test x) t e (some_at test names)
     tests false t e rest = rest t (omega (arith, e))
 
 -- a word stands where its number says
-pub word_numbered : (limit : ℕ) (word : List ℕ) (names : List (List ℕ)) (place : ℕ) → number_in limit word names ≡ Ok place
+pub word_numbered : (limit : ℕ) (word : List ℕ) (names : List (List ℕ)) (place : ℕ)
+    → number_in limit word names ≡ Ok place
     → word_at (with_name names word) place ≡ word
 word_numbered limit word names place e =
     let n = position_or_len (bytes_eq word) names in

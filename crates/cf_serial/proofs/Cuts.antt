@@ -38,7 +38,8 @@ CutsAs (Some o) (shrinks r) = r.object ≡ o
 
 -- ---- what is there is found
 
-first_if : (b : Bool) (t o : ℕ) (r : Reference) (rs : List Reference) → ((eqb r.object o) && is_thread t (owner_of r.holder)) ≡ b
+first_if : (b : Bool) (t o : ℕ) (r : Reference) (rs : List Reference)
+    → ((eqb r.object o) && is_thread t (owner_of r.holder)) ≡ b
     → 0 < counted b + weigh (from_thread t o) rs → (0 < weigh (from_thread t o) rs → first_from t o rs ≡ None → ⊥)
     → cond b (Some r) (first_from t o rs) ≡ None → ⊥
 first_if true t o r rs e some rest none = cc
@@ -100,12 +101,14 @@ claim_cuts : (st : State) (h : Holder) (object : Option ℕ) (k : Holder) → Cu
 claim_cuts st h None k = tt
 claim_cuts st h (Some o) k = tt
 
-pack_cuts : (t : ℕ) (st : State) (h : Holder) (object : Option ℕ) (k : Holder) → CutsAs None (pack_step t st h object k).flow
+pack_cuts : (t : ℕ) (st : State) (h : Holder) (object : Option ℕ) (k : Holder)
+    → CutsAs None (pack_step t st h object k).flow
 pack_cuts t st h None k = tt
 pack_cuts t st h (Some o) k = tt
 
 -- what a demand takes away is what its action says
-pub demand_cuts : (s : Script) (t : ℕ) (st : State) (fs : List Frame) (owners : List Owner) (d : Demand) → IsPlainDemand d
+pub demand_cuts : (s : Script) (t : ℕ) (st : State) (fs : List Frame) (owners : List Owner) (d : Demand)
+    → IsPlainDemand d
     → MayUseAll st t owners (action_uses (action_in s (facts_of st) t fs d))
     → CutsAs (cut_of (action_in s (facts_of st) t fs d)) (step_of s t st fs d).flow
 demand_cuts s t st fs owners _ (is_claim k v) may = claim_cuts st (parcel t k) (first_held (parcel t k) st.edges) (variable t (depth_of fs) v)

@@ -175,7 +175,8 @@ module _ (r : Run) (run : IsRun r) (t : ℕ) (a : Action) (pick : picks r ≡ So
   abbrev world_after : List ℕ → WorldView
   world_after gained = record { script = r.world.script; limit = r.world.limit; journal = es ++ e ∷ []; gained = gained; room = None }
 
-  pub entered_is : (w : WorldView) (g : List ℕ → List ℕ → List ℕ) → w ≡ entered_by r.world.script (acting r.world t) t g r.world
+  pub entered_is : (w : WorldView) (g : List ℕ → List ℕ → List ℕ)
+      → w ≡ entered_by r.world.script (acting r.world t) t g r.world
       → w ≡ world_after (g r.world.gained (gained_by (flow_in s t st a)))
   entered_is w g is =
       is ∙ ap (λ (o : Option Script). entered_by o (acting r.world t) t g r.world) run.begun
@@ -207,7 +208,8 @@ module _ (r : Run) (run : IsRun r) (t : ℕ) (a : Action) (pick : picks r ≡ So
     few = λ o. omega (arith, degrees o, few o, run.few o, length-append es (e ∷ []));
   }
 
-  stepped : (gained : List ℕ) (n : NumbersView) → IsRun (run_of (world_after gained) n) → IsStep r (run_of (world_after gained) n)
+  stepped : (gained : List ℕ) (n : NumbersView) → IsRun (run_of (world_after gained) n)
+      → IsStep r (run_of (world_after gained) n)
   stepped gained n h = record { run = h; script = refl; limit = refl; more = length-append es (e ∷ []) }
 
   pub clock_stays : (w : WorldView) (gained : List ℕ) (n : NumbersView) (now : Option (List ℕ)) → w ≡ world_after gained
@@ -286,7 +288,8 @@ module _ (r : Run) (run : IsRun r) (t : ℕ) (a : Action) (pick : picks r ≡ So
       | inr past ↦ index-past r.numbers.items p (omega (arith, run.numbers_are.size, past)) ∙ sym (none_unless (degree p st.edges) (length st.parts.objects) p (made_before p) (omega (arith, past)))
     ]
 
-    pub made_is : (w : WorldView) (more : List ℕ) → w ≡ world_after more → made_by w.script w.journal ≡ length after.parts.objects
+    pub made_is : (w : WorldView) (more : List ℕ) → w ≡ world_after more
+        → made_by w.script w.journal ≡ length after.parts.objects
     made_is w more is =
         ap (λ (v : WorldView). made_by v.script v.journal) is ∙ ap (λ (x : Option Script). made_by x (es ++ e ∷ [])) run.begun
 

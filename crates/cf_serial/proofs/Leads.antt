@@ -67,7 +67,8 @@ due_if false true o date e = date_if o date e
 due_if false false o date e = absurd cc
 
 -- the lead does nothing after a stall
-over_if : (done stalled : Bool) (next : journals.LeadNext) → (cond (done || stalled) journals.over next ≡ journals.over) ⊎ (stalled ≡ false)
+over_if : (done stalled : Bool) (next : journals.LeadNext)
+    → (cond (done || stalled) journals.over next ≡ journals.over) ⊎ (stalled ≡ false)
 over_if true stalled next = inl refl
 over_if false true next = inl refl
 over_if false false next = inr refl
@@ -108,7 +109,8 @@ module _ (r : Run) (run : IsRun r) (none : picks r ≡ None) where
   ends_by : (ending : _) → EndsBy (Some s) r.world.limit es ending → EndsBy r.world.script r.world.limit es ending
   ends_by ending h = subst (λ (o : Option Script). EndsBy o r.world.limit es ending) (sym run.begun) h
 
-  over_if_stalled : (b : Bool) → r.stalled ≡ b → lead_next s es ≡ journals.over → Goes r (lead_turn_by leads.Over b (r.world.limit - length es))
+  over_if_stalled : (b : Bool) → r.stalled ≡ b → lead_next s es ≡ journals.over
+      → Goes r (lead_turn_by leads.Over b (r.world.limit - length es))
   over_if_stalled true e over = ends_by endings.Stalled ((sym run.stalled_is ∙ e), tt)
   over_if_stalled false e over = ends_by endings.Done ((lead_tells s es).whole run.owned run.serial.legal (sym run.stalled_is ∙ e) over, tt)
 
@@ -125,7 +127,8 @@ module _ (r : Run) (run : IsRun r) (none : picks r ≡ None) where
       let some : 0 < r.world.limit - length es = grind (arith, nat_tests) in
       goes (omega (arith, some))
 
-  goes_by : (lead : LeadNext) → lead_in r.world ≡ lead → Goes r (lead_turn_by lead r.stalled (r.world.limit - length es))
+  goes_by : (lead : LeadNext) → lead_in r.world ≡ lead
+      → Goes r (lead_turn_by lead r.stalled (r.world.limit - length es))
   goes_by leads.Over e = over_if_stalled r.stalled refl (lead_over (lead_next s es) (lead_is ∙ e))
   goes_by leads.Busy e = absurd ((lead_tells s es).waits (pointer_of s es) (pointer_most s es) none_here (lead_busy (lead_next s es) (lead_is ∙ e)))
   goes_by (leads.Tick date) e =

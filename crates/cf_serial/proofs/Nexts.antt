@@ -38,7 +38,8 @@ or_some (Some c) p d e n = no_none n
 or_last : (o : Option Demand) (d : Demand) → or_else o (Some d) ≡ None → ⊥
 or_last o d n = or_some o (Some d) d refl n
 
-frames_demand : (s : Script) (facts : Facts) (t : ℕ) (f : Frame) (fs : List Frame) → frame_demand s facts t (f ∷ fs) ≡ None → ⊥
+frames_demand : (s : Script) (facts : Facts) (t : ℕ) (f : Frame) (fs : List Frame)
+    → frame_demand s facts t (f ∷ fs) ≡ None → ⊥
 frames_demand s facts t f fs n = or_last _ _ n
 
 or_frames : (o p : Option Demand) → (p ≡ None → ⊥) → or_else o p ≡ None → ⊥

@@ -34,7 +34,8 @@ started s limit threads n stage owned most threads_are few none = record {
   few = λ o. omega arith;
 }
 
-pub begun_run : (s : Script) (limit threads : ℕ) (n : NumbersView) (w : WorldView) → w ≡ begun_world s limit → IsOfStage s
+pub begun_run : (s : Script) (limit threads : ℕ) (n : NumbersView) (w : WorldView) → w ≡ begun_world s limit
+    → IsOfStage s
     → Owned s → limit ≤ 4000000 → threads ≡ s.thread_count → threads ≤ THREADS → n.items ≡ [] → IsRun (run_of w threads n)
 begun_run s limit threads n w is stage owned most threads_are few none =
     subst (λ (v : WorldView). IsRun (run_of v threads n)) (sym is) (started s limit threads n stage owned most threads_are few none)

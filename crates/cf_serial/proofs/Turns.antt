@@ -27,7 +27,8 @@ use Rattle.cf_serial.proofs.Nexts.{NextTells, ends_at_limit, ends_full, next_tel
 
 -- ---- room changes nothing else
 
-next_same : (o : Option Script) (w : WorldView) (room : Option ℕ) (t : ℕ) → next_by o (record w { room = room }) t ≡ next_by o w t
+next_same : (o : Option Script) (w : WorldView) (room : Option ℕ) (t : ℕ)
+    → next_by o (record w { room = room }) t ≡ next_by o w t
 next_same None w room t = refl
 next_same (Some s) w room t = refl
 
@@ -121,7 +122,8 @@ module _ (r : Run) (run : IsRun r) where
     acts : (n : Next) → n ≡ next_in r.world t → acting r.world t ≡ act_in n
     acts n e = ap act_in (sym e)
 
-    waits : (n : Next) → n ≡ next_in r.world t → act_in n ≡ None → can_go st t ≡ false → TurnOf (prepared_run t r) t None
+    waits : (n : Next) → n ≡ next_in r.world t → act_in n ≡ None → can_go st t ≡ false
+        → TurnOf (prepared_run t r) t None
     waits n e none can = prepared_acts r t ∙ can_is t ∙ can
 
     ends : (n : Next) (ending : Ending) → n ≡ next_in r.world t → act_in n ≡ None → can_go st t ≡ true
@@ -194,7 +196,8 @@ module _ (r : Run) (run : IsRun r) where
       (λ u low high. none_can u (late u low (omega (arith, high, run.threads_are)))) (λ u high. none_can u (none u high))
 
 -- the turn of a thread that is picked
-pub turn_goes : (r q : Run) (t : ℕ) (turn : Turn) → q ≡ prepared_run t r → TurnOf q t (Some turn) → picks r ≡ Some t → Goes q turn
+pub turn_goes : (r q : Run) (t : ℕ) (turn : Turn) → q ≡ prepared_run t r → TurnOf q t (Some turn) → picks r ≡ Some t
+    → Goes q turn
 turn_goes r q t turn is h pick = h.1 (ap picks is ∙ prepared_picks r t ∙ pick)
 
 pub turn_can : (r q : Run) (t : ℕ) (turn : Turn) → q ≡ prepared_run t r → TurnOf q t (Some turn) → can_act r t ≡ true

@@ -38,7 +38,8 @@ pub record IsRun (r : Run) : Type 0 where
   pub stalled_is : r.stalled ≡ has_stalled r.world.journal
   pub asleep : has_stalled r.world.journal ≡ true → all_sleep script (After script r.world.journal) ≡ true
   pub pointer_is : r.pointer ≡ pointer_of script r.world.journal
-  pub numbers_are : AreDegrees (length (After script r.world.journal).parts.objects) (After script r.world.journal).edges r.numbers.items
+  pub numbers_are : AreDegrees (length (After script r.world.journal).parts.objects)
+      (After script r.world.journal).edges r.numbers.items
   pub few : (o : ℕ) → degree o (After script r.world.journal).edges ≤ 2 * length r.world.journal
 
 -- ---- what comes next

@@ -255,7 +255,8 @@ invalid_step o valid (observer_item mask repeats order) = refl
 
 -- ---- what no statement changes
 
-stays_item : (change : BodyChange) (c : Content) → CanBe change c → item_in (content_after (done_of change) c) ≡ item_in c
+stays_item : (change : BodyChange) (c : Content) → CanBe change c
+    → item_in (content_after (done_of change) c) ≡ item_in c
 stays_item Nothing c can = refl
 stays_item (Text at len text) (text_content true units) can = refl
 stays_item (Text at len text) (text_content false units) can = refl

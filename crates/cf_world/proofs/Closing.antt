@@ -28,14 +28,16 @@ pub record Acted (s : Script) (limit : ℕ) (journal : List Entry) (t : ℕ) (a 
   pub next : Next s (After s journal) t ≡ Some a
   pub below : length journal < limit
 
-pass : (b : Bool) (n rest : NextCode) (a : Action) → act_in n ≡ None → act_in (cond b n rest) ≡ Some a → (b ≡ false) × (act_in rest ≡ Some a)
+pass : (b : Bool) (n rest : NextCode) (a : Action) → act_in n ≡ None → act_in (cond b n rest) ≡ Some a
+    → (b ≡ false) × (act_in rest ≡ Some a)
 pass true n rest a none e = absurd cc
 pass false n rest a none e = (refl, e)
 
 not_at : (m n : ℕ) → nat_le m n ≡ false → n < m
 not_at m n e = grind (arith, nat_tests)
 
-pub act_parts : (s : Script) (limit : ℕ) (journal : List Entry) (t : ℕ) (a : Action) → act_in (next_of s limit journal t) ≡ Some a → Acted s limit journal t a
+pub act_parts : (s : Script) (limit : ℕ) (journal : List Entry) (t : ℕ) (a : Action)
+    → act_in (next_of s limit journal t) ≡ Some a → Acted s limit journal t a
 act_parts s limit journal t a e =
     let st = After s journal in
     let p = pass (not (flags_at t st.parts.flags).is_started) nexts.Waiting _ a refl e in
@@ -43,7 +45,8 @@ act_parts s limit journal t a e =
     let r = pass (sleeps st t) nexts.Asleep _ a refl q.1 in
     by (Next s st t) refl r.1
   where
-    by : (o : Option Action) → Next s (After s journal) t ≡ o → act_in (next_if s limit journal t o) ≡ Some a → Acted s limit journal t a
+    by : (o : Option Action) → Next s (After s journal) t ≡ o → act_in (next_if s limit journal t o) ≡ Some a
+        → Acted s limit journal t a
     by None is e = absurd cc
     by (Some b) is e =
         let p = pass (nat_le limit (length journal)) nexts.Limit _ a refl e in
@@ -69,10 +72,12 @@ pub some_act : (o : Option Action) (P : Action → Type 0) → IsSomeAnd o P →
 some_act None P h = absurd h
 some_act (Some a) P h = record { action = a; is = refl; holds = h }
 
-pub thread_is : (o : Option Reserved) (r : Reserved) (t : ℕ) → o ≡ Some r → option_map thread_of o ≡ Some t → r.thread ≡ t
+pub thread_is : (o : Option Reserved) (r : Reserved) (t : ℕ) → o ≡ Some r → option_map thread_of o ≡ Some t
+    → r.thread ≡ t
 thread_is o r t e h = let both : ◌≡◌ {A = Option ℕ} (Some r.thread) (Some t) = sym (ap (option_map thread_of) e) ∙ h in cc
 
-pub reserved_is : (g : GroundView) (frames : List Standing) (o : Option Reserved) (r : Reserved) → o ≡ Some r → ReservedIf g frames o → IsReserved g frames r
+pub reserved_is : (g : GroundView) (frames : List Standing) (o : Option Reserved) (r : Reserved) → o ≡ Some r
+    → ReservedIf g frames o → IsReserved g frames r
 reserved_is g frames o r e h = subst (ReservedIf g frames) e h
 
 module _ (w : Inside) (inv : IsBegun w) (r : Reserved) (found : IsFound w.ground r) (P : Action → Type 0) (acts : IsSomeAnd (acting (view_of w) r.thread) P) where
@@ -133,19 +138,22 @@ module _ (w : Inside) (inv : IsBegun w) (r : Reserved) (found : IsFound w.ground
 
 -- ---- what room was made for
 
-has_room_by : (b : Bool) (r : Reserved) (t : ℕ) → option_map thread_of (cond b (Some r) None) ≡ Some t → cond b (Some r) None ≡ Some r
+has_room_by : (b : Bool) (r : Reserved) (t : ℕ) → option_map thread_of (cond b (Some r) None) ≡ Some t
+    → cond b (Some r) None ≡ Some r
 has_room_by true r t e = refl
 has_room_by false r t e = absurd cc
 
 -- there is room for what was found last, where callers see that there is room
-pub room_here : (w : Inside) (now : WorldView) (t : ℕ) → view_of w ≡ now → now.room ≡ Some t → reserved_of w ≡ Some w.reserved
+pub room_here : (w : Inside) (now : WorldView) (t : ℕ) → view_of w ≡ now → now.room ≡ Some t
+    → reserved_of w ≡ Some w.reserved
 room_here w now t is room = has_room_by w.has_room w.reserved t (ap (λ (v : WorldView). v.room) is ∙ room)
 
 -- ---- the same for the thread that callers name
 
 module _ (w : Inside) (now : WorldView) (t : ℕ) (is : view_of w ≡ now) (inv : IsBegun w) (r : Reserved) where
   -- the action that may be done is that of the thread
-  pub acts_here : (P : Action → Type 0) → r.thread ≡ t → IsSomeAnd (acting now t) P → IsSomeAnd (acting (view_of w) r.thread) P
+  pub acts_here : (P : Action → Type 0) → r.thread ≡ t → IsSomeAnd (acting now t) P
+      → IsSomeAnd (acting (view_of w) r.thread) P
   acts_here P same acts = subst (λ (v : WorldView). IsSomeAnd (acting v r.thread) P) (sym is) (subst (λ (u : ℕ). IsSomeAnd (acting now u) P) (sym same) acts)
 
   pub thread_here : reserved_of w ≡ Some r → now.room ≡ Some t → r.thread ≡ t

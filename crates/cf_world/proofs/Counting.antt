@@ -43,7 +43,8 @@ pub record Enters (s : Script) (t : ℕ) (st : State) (x : Answer) (gained : Lis
   pub follows : Follows s (done_by s t st demand) bodies rows flags time
 
 -- what it tells, by its step
-pub enters_by : (s : Script) (t : ℕ) (st : State) (d : Demand) (step : Step) (x : Answer) (bodies : List Held) (rows : List (List (Option ℕ))) (flags : List Flags) (time : ℕ)
+pub enters_by : (s : Script) (t : ℕ) (st : State) (d : Demand) (step : Step) (x : Answer) (bodies : List Held)
+    (rows : List (List (Option ℕ))) (flags : List Flags) (time : ℕ)
     → demanded s st t ≡ Some d → step_of s t st (frames_at t st) d ≡ step → step_answer step st ≡ x → Follows s (done_by s t st d) bodies rows flags time
     → Enters s t st x (gained_by step.flow) bodies rows flags time
 enters_by s t st d step x bodies rows flags time e is told follows = record {
@@ -78,7 +79,8 @@ module _ (s : Script) (t : ℕ) (st : State) (bodies : List Held) (rows : List (
   same_mirrors = record { objects_are = h.mirrors.objects_are; live = h.mirrors.live; given_up = h.mirrors.given_up }
 
   -- references enter and move, and the rows of the parcels follow
-  pub grows_follows : (d : Demand) (x : Answer) (enters : List Reference) (moves : List Move) (rows' : List (List (Option ℕ)))
+  pub grows_follows : (d : Demand) (x : Answer) (enters : List Reference) (moves : List Move)
+      (rows' : List (List (Option ℕ)))
       → step_of s t st (frames_at t st) d ≡ flowing st x (grows enters moves) → HasPlaces s rows'
       → ((u k : ℕ) → parcel_at rows' u k ≡ first_held (parcel u k) (flowed (grows enters moves) st.edges)) → Follows s (done_by s t st d) bodies rows' flags time
   grows_follows d x enters moves rows' is has at =
@@ -97,7 +99,8 @@ module _ (s : Script) (t : ℕ) (st : State) (bodies : List Held) (rows : List (
   statement_is x w e = ap (statement_step s t (depth_of (frames_at t st)) st x (used_objects (bindings_of (frames_at t st)) (says x))) e
 
   -- a retain
-  retained : (d : Demand) (v : Holder) (object : Option ℕ) → ((u k : ℕ) (o : ℕ) → PassesBy (parcel u k) (grows (held_by v o ∷ []) []))
+  retained : (d : Demand) (v : Holder) (object : Option ℕ)
+      → ((u k : ℕ) (o : ℕ) → PassesBy (parcel u k) (grows (held_by v o ∷ []) []))
       → demanded s st t ≡ Some d → step_of s t st (frames_at t st) d ≡ retain_step v st object
       → Enters s t st (answer_for object) (present (object ∷ [])) bodies rows flags time
   retained d v None passes e is =
@@ -106,7 +109,8 @@ module _ (s : Script) (t : ℕ) (st : State) (bodies : List Held) (rows : List (
       enters_by s t st d (flowing st answers.Ok (grows (held_by v o ∷ []) [])) answers.Ok bodies rows flags time e is refl
       (quiet_follows d answers.Ok (held_by v o ∷ []) [] is (λ u k. passes u k o))
 
-  pub retain_enters : (x : Statement) (v : ℕ) (object : Option ℕ) → demanded s st t ≡ Some (does (says x)) → ownership_of x ≡ Retains v
+  pub retain_enters : (x : Statement) (v : ℕ) (object : Option ℕ) → demanded s st t ≡ Some (does (says x))
+      → ownership_of x ≡ Retains v
       → first_of (used_objects (bindings_of (frames_at t st)) (says x)) ≡ object
       → Enters s t st (answer_for object) (present (object ∷ [])) bodies rows flags time
   retain_enters x v object e w is =
@@ -123,7 +127,8 @@ module _ (s : Script) (t : ℕ) (st : State) (bodies : List Held) (rows : List (
       (quiet_follows (does (says x)) answers.Skip [] [] step_is (λ u k. tt))
 
   -- the end of a block
-  flags_after : (b : Bool) (flags' : List Flags) → map flags_of flags' ≡ cond b (start_all (map flags_of flags)) (map flags_of flags)
+  flags_after : (b : Bool) (flags' : List Flags)
+      → map flags_of flags' ≡ cond b (start_all (map flags_of flags)) (map flags_of flags)
       → map flags_of flags' ≡ (cond b (record st.parts { flags = start_all st.parts.flags }) st.parts).flags
   flags_after true flags' e = e ∙ ap start_all h.flags_are
   flags_after false flags' e = e ∙ h.flags_are

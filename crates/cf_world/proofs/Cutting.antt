@@ -57,11 +57,13 @@ module _ (o n before : ℕ) (less : n + 1 ≡ before) where
   end_is : (b : Bool) → (n == 0) ≡ b → ended_at before ≡ cond b Last More
   end_is b e = ap (λ (c : Bool). cond c Last More) (ap (λ (k : ℕ). k == 1) (sym less) ∙ last_if n b e)
 
-  answers_if : (class : ℕ) (b : Bool) → (n == 0) ≡ b → cond b (answers.Final class) answers.More ≡ answer_of_cut (ended_at before) class
+  answers_if : (class : ℕ) (b : Bool) → (n == 0) ≡ b
+      → cond b (answers.Final class) answers.More ≡ answer_of_cut (ended_at before) class
   answers_if class true e = ap (λ (d : Ended). answer_of_cut d class) (sym (end_is true e))
   answers_if class false e = ap (λ (d : Ended). answer_of_cut d class) (sym (end_is false e))
 
-  pub cut_answers : (class : ℕ) → cond (n == 0) (answers.Final class) answers.More ≡ answer_of_cut (ended_at before) class
+  pub cut_answers : (class : ℕ)
+      → cond (n == 0) (answers.Final class) answers.More ≡ answer_of_cut (ended_at before) class
   cut_answers class = answers_if class (n == 0) refl
 
   mirrors_if : (p : Parts) (bodies : List Held) (b : Bool) → (n == 0) ≡ b → o < length p.objects → Mirrors p bodies
@@ -82,13 +84,15 @@ first_none : (t o : ℕ) (es : List Reference) → first_from t o es ≡ None �
 first_none t o [] e = refl
 first_none t o (r ∷ rs) e = by ((eqb r.object o) && is_thread t (owner_of r.holder)) refl e (first_none t o rs)
   where
-    by : (b : Bool) → ((eqb r.object o) && is_thread t (owner_of r.holder)) ≡ b → cond b (Some r) (first_from t o rs) ≡ None
+    by : (b : Bool) → ((eqb r.object o) && is_thread t (owner_of r.holder)) ≡ b
+        → cond b (Some r) (first_from t o rs) ≡ None
         → (first_from t o rs ≡ None → weigh (from_thread t o) rs ≡ 0) → weigh (from_thread t o) (r ∷ rs) ≡ 0
     by true test e rest = absurd cc
     by false test e rest = let none : from_thread t o r ≡ 0 = ap counted test in omega (arith, none, rest e)
 
 -- a thread that has references to an object has one that is taken
-pub own_some : (t : ℕ) (h : Holder) (o : ℕ) (es : List Reference) → 0 < weigh (from_thread t o) es → (r : Reference) × (own_reference t h o es ≡ Some r)
+pub own_some : (t : ℕ) (h : Holder) (o : ℕ) (es : List Reference) → 0 < weigh (from_thread t o) es
+    → (r : Reference) × (own_reference t h o es ≡ Some r)
 own_some t h o es some = by (has h o es)
   where
     by_first : (q : Option Reference) → first_from t o es ≡ q → (r : Reference) × (first_from t o es ≡ Some r)
@@ -162,7 +166,8 @@ module _ (s : Script) (t : ℕ) (st : State) (bodies : List Held) (rows : List (
     pub made : o < length st.parts.objects
     pub enters : Enters s t st (told o) [] (finalised_if (ended o) o bodies) rows flags time
 
-  cuts_by : (d : Demand) (k : Holder) (o : ℕ) → demanded s st t ≡ Some d → step_of s t st (frames_at t st) d ≡ cut_step t k st o → IsOf t k → MayTake st t o → Cuts o
+  cuts_by : (d : Demand) (k : Holder) (o : ℕ) → demanded s st t ≡ Some d
+      → step_of s t st (frames_at t st) d ≡ cut_step t k st o → IsOf t k → MayTake st t o → Cuts o
   cuts_by d k o e is of may =
       let taken = cut_taken t k st o of may in
       let made : o < length st.parts.objects = (live_of_test st o may.live).1 in
@@ -201,7 +206,8 @@ module _ (s : Script) (t : ℕ) (st : State) (bodies : List Held) (rows : List (
       pub first : slice_get (left_in bodies b) 0 ≡ Some o
       pub live : is_live_in (with_body body_dropped b bodies) o ≡ true
       pub made : o < length st.parts.objects
-      pub enters : Enters s t st (told o) [] (finalised_if (ended o) o (with_body body_dropped b bodies)) rows flags time
+      pub enters : Enters s t st (told o) []
+          (finalised_if (ended o) o (with_body body_dropped b bodies)) rows flags time
 
     pub drop_drops : (b k o : ℕ) → demanded s st t ≡ Some (drops b k o) → Drops b o
     drop_drops b k o e =

@@ -16,7 +16,9 @@ use Rattle.cf_model.specs.State.{stand_at}
 use Rattle.cf_world.specs.Referring.{HasVariables, AllHaveVariables, stands_of, thread_edge, thread_references, stand_references, variable_references}
 
 -- what is after one list more
-pub edges-more : (f : ℕ → List Reference) (n : ℕ) (start before after more : List Edge) → before ≡ start ++ edges_of (below f n) → after ≡ before ++ more → edges_of (f n) ≡ more → after ≡ start ++ edges_of (below f (n + 1))
+pub edges-more : (f : ℕ → List Reference) (n : ℕ) (start before after more : List Edge)
+    → before ≡ start ++ edges_of (below f n) → after ≡ before ++ more → edges_of (f n) ≡ more
+    → after ≡ start ++ edges_of (below f (n + 1))
 edges-more f n start before after more so_far is here =
     is ∙ ap (λ (es : List Edge). es ++ more) so_far ∙ append_assoc start (edges_of (below f n)) more
     ∙ ap (λ (es : List Edge). start ++ (edges_of (below f n) ++ es)) (sym here)
@@ -33,7 +35,8 @@ owed-edges : (t : ℕ) (os : List ℕ) → edges_of (map (held_by (owed t)) os) 
 owed-edges t [] = refl
 owed-edges t (o ∷ os) = ap (λ (es : List Edge). thread_edge t o ∷ es) (owed-edges t os)
 
-frame-edges : (s : Script) (t : ℕ) (f : Frame) (n : ℕ) → edges_of (below (variable_references s t f) n) ≡ map (thread_edge t) (below (variable_objects (passed_lines s f) f) n)
+frame-edges : (s : Script) (t : ℕ) (f : Frame) (n : ℕ)
+    → edges_of (below (variable_references s t f) n) ≡ map (thread_edge t) (below (variable_objects (passed_lines s f) f) n)
 frame-edges s t f zero = ap edges_of (below-none (variable_references s t f)) ∙ sym (ap (map (thread_edge t)) (below-none (variable_objects (passed_lines s f) f)))
 frame-edges s t f (suc n) =
     let os = variable_objects (passed_lines s f) f in
@@ -44,7 +47,8 @@ frame-edges s t f (suc n) =
     ∙ sym (map-append (thread_edge t) (below os n) (os n)) ∙ ap (map (thread_edge t)) (sym (below-suc os n))
 
 -- the edges of a thread lead to what it holds
-pub thread-edges : (s : Script) (t : ℕ) (stand : Stand) → edges_of (thread_references s t stand) ≡ map (thread_edge t) (held_objects s stand)
+pub thread-edges : (s : Script) (t : ℕ) (stand : Stand)
+    → edges_of (thread_references s t stand) ≡ map (thread_edge t) (held_objects s stand)
 thread-edges s t stand =
     let f = top_frame stand.frames in
     let os = owed_objects stand.work in
@@ -54,22 +58,30 @@ thread-edges s t stand =
     ∙ ap (λ (es : List Edge). map (thread_edge t) (frame_objects s f) ++ es) (owed-edges t os)
     ∙ sym (map-append (thread_edge t) (frame_objects s f) os)
 
-pub thread-added : (s : Script) (t : ℕ) (stand : Stand) (none objects : List ℕ) (before after : List Edge) → none ≡ [] → objects ≡ none ++ held_objects s stand → after ≡ before ++ map (thread_edge t) objects → after ≡ before ++ edges_of (thread_references s t stand)
+pub thread-added : (s : Script) (t : ℕ) (stand : Stand) (none objects : List ℕ) (before after : List Edge) → none ≡ []
+    → objects ≡ none ++ held_objects s stand → after ≡ before ++ map (thread_edge t) objects
+    → after ≡ before ++ edges_of (thread_references s t stand)
 thread-added s t stand none objects before after empty is added =
     added ∙ ap (λ (os : List ℕ). before ++ map (thread_edge t) os) (is ∙ ap (λ (xs : List ℕ). xs ++ held_objects s stand) empty)
     ∙ ap (λ (es : List Edge). before ++ es) (sym (thread-edges s t stand))
 
-stand-is : (frames : List Standing) (t : ℕ) (d : Standing) → t < length frames → stand_at t (stands_of frames) ≡ (get_or frames t d).stand
+stand-is : (frames : List Standing) (t : ℕ) (d : Standing) → t < length frames
+    → stand_at t (stands_of frames) ≡ (get_or frames t d).stand
 stand-is [] t d lt = absurd (omega arith)
 stand-is (f ∷ fs) zero d lt = refl
 stand-is (f ∷ fs) (suc t) d lt = stand-is fs t d (omega (arith, lt))
 
-pub threads-more : (s : Script) (frames : List Standing) (t : ℕ) (d : Standing) (start before after : List Edge) → t < length frames → before ≡ start ++ edges_of (below (stand_references s (stands_of frames)) t) → after ≡ before ++ edges_of (thread_references s t (get_or frames t d).stand) → after ≡ start ++ edges_of (below (stand_references s (stands_of frames)) (t + 1))
+pub threads-more : (s : Script) (frames : List Standing) (t : ℕ) (d : Standing) (start before after : List Edge)
+    → t < length frames → before ≡ start ++ edges_of (below (stand_references s (stands_of frames)) t)
+    → after ≡ before ++ edges_of (thread_references s t (get_or frames t d).stand)
+    → after ≡ start ++ edges_of (below (stand_references s (stands_of frames)) (t + 1))
 threads-more s frames t d start before after lt so_far is =
     edges-more (stand_references s (stands_of frames)) t start before after (edges_of (thread_references s t (get_or frames t d).stand)) so_far is
     (ap (λ (x : Stand). edges_of (thread_references s t x)) (stand-is frames t d lt))
 
-pub variables-more : (frames : List Standing) (t : ℕ) (d : Standing) → t < length frames → AllHaveVariables (stands_of frames) t → HasVariables (get_or frames t d).stand → AllHaveVariables (stands_of frames) (t + 1)
+pub variables-more : (frames : List Standing) (t : ℕ) (d : Standing) → t < length frames
+    → AllHaveVariables (stands_of frames) t → HasVariables (get_or frames t d).stand
+    → AllHaveVariables (stands_of frames) (t + 1)
 variables-more frames t d lt all here u less = elim (cases_lt u t) [
   | inl a ↦ all u a
   | inr le ↦
@@ -98,7 +110,11 @@ take-none [] (suc n) e = refl
 take-none (x ∷ os) zero e = absurd cc
 take-none (x ∷ os) (suc n) e = ap (λ (ys : List ℕ). x ∷ ys) (take-none os n e)
 
-pub slots-more : (b : ℕ) (os : List ℕ) (given place o : ℕ) (start before after : List Edge) → given ≤ place → slice_get os (place - given) ≡ Some o → before ≡ start ++ edges_of (map (held_by (slot b)) (take (place - given) os)) → after ≡ before ++ edge_of (held_by (slot b) o) ∷ [] → after ≡ start ++ edges_of (map (held_by (slot b)) (take (place + 1 - given) os))
+pub slots-more : (b : ℕ) (os : List ℕ) (given place o : ℕ) (start before after : List Edge) → given ≤ place
+    → slice_get os (place - given) ≡ Some o
+    → before ≡ start ++ edges_of (map (held_by (slot b)) (take (place - given) os))
+    → after ≡ before ++ edge_of (held_by (slot b) o) ∷ []
+    → after ≡ start ++ edges_of (map (held_by (slot b)) (take (place + 1 - given) os))
 slots-more b os given place o start before after le e so_far is =
     let next : place + 1 - given ≡ suc (place - given) = omega arith in
     let taken_now : take (place + 1 - given) os ≡ take (place - given) os ++ o ∷ [] = ap (λ (n : ℕ). take n os) next ∙ take-found os (place - given) o e in
@@ -106,5 +122,6 @@ slots-more b os given place o start before after le e so_far is =
     is ∙ ap (λ (es : List Edge). es ++ edge_of (held_by (slot b) o) ∷ []) so_far ∙ append_assoc start (edges_of rs) (edge_of (held_by (slot b) o) ∷ [])
     ∙ ap (λ (es : List Edge). start ++ es) (sym (map-append edge_of rs (held_by (slot b) o ∷ [])) ∙ ap edges_of (sym (map-append (held_by (slot b)) (take (place - given) os) (o ∷ []))) ∙ ap (λ (xs : List ℕ). edges_of (map (held_by (slot b)) xs)) (sym taken_now))
 
-pub slots-end : (b : ℕ) (os : List ℕ) (n : ℕ) (start now : List Edge) → slice_get os n ≡ None → now ≡ start ++ edges_of (map (held_by (slot b)) (take n os)) → now ≡ start ++ edges_of (map (held_by (slot b)) os)
+pub slots-end : (b : ℕ) (os : List ℕ) (n : ℕ) (start now : List Edge) → slice_get os n ≡ None
+    → now ≡ start ++ edges_of (map (held_by (slot b)) (take n os)) → now ≡ start ++ edges_of (map (held_by (slot b)) os)
 slots-end b os n start now e is = is ∙ ap (λ (xs : List ℕ). start ++ edges_of (map (held_by (slot b)) xs)) (take-none os n e)

@@ -29,7 +29,8 @@ use Rattle.cf_world.proofs.Cutting.{Cuts, Drops, owed_cuts, release_cuts, drop_d
 use Rattle.cf_world.proofs.Packing.{rows_with, pack_within, claim_within, claim_enters, pack_enters}
 
 -- what is done where something is found is done
-pub where_found : (f : ℕ → ℕ × ℕ) (found : Option ℕ) (o : ℕ) (result : Option (ℕ × ℕ)) (P : Type 0) → found ≡ Some o → result ≡ option_map f found → OnSome result P → P
+pub where_found : (f : ℕ → ℕ × ℕ) (found : Option ℕ) (o : ℕ) (result : Option (ℕ × ℕ)) (P : Type 0) → found ≡ Some o
+    → result ≡ option_map f found → OnSome result P → P
 where_found f found o None P e is h = absurd (none_some f found o e is)
   where
     none_some : (f : ℕ → ℕ × ℕ) (q : Option ℕ) (o : ℕ) → q ≡ Some o → ◌≡◌ {A = Option (ℕ × ℕ)} None (option_map f q) → ⊥
@@ -50,27 +51,32 @@ module _ (g : Inside) (t : ℕ) (inv : IsGround g) where
   pub is_sound : IsSound s st
   is_sound = sound s g.journal.items inv.script.owned
 
-  pub retain_tells : (object : Option ℕ) → IsRetain (view_of g) t object → Enters s t st (answer_for object) (present (object ∷ [])) g.store.bodies g.parcels g.flags.items g.time
+  pub retain_tells : (object : Option ℕ) → IsRetain (view_of g) t object
+      → Enters s t st (answer_for object) (present (object ∷ [])) g.store.bodies g.parcels g.flags.items g.time
   retain_tells object r = retain_enters s t st g.store.bodies g.parcels g.flags.items g.time inv.follows r.statement r.var object r.demands r.retains r.object_is
 
   pub skip_tells : IsSkip (view_of g) t → Enters s t st answers.Skip [] g.store.bodies g.parcels g.flags.items g.time
   skip_tells r = skip_enters s t st g.store.bodies g.parcels g.flags.items g.time inv.follows r.statement r.var r.demands r.releases r.empty
 
-  pub cut_tells : (o : ℕ) → IsCut (view_of g) t o → Cuts s t st g.store.bodies g.parcels g.flags.items g.time inv.follows o
+  pub cut_tells : (o : ℕ) → IsCut (view_of g) t o
+      → Cuts s t st g.store.bodies g.parcels g.flags.items g.time inv.follows o
   cut_tells o (inl r) = release_cuts s t st g.store.bodies g.parcels g.flags.items g.time inv.follows own is_sound r.statement r.var o r.demands r.releases r.object
   cut_tells o (inr e) = owed_cuts s t st g.store.bodies g.parcels g.flags.items g.time inv.follows own is_sound o e
 
   -- the same, by what is left
-  pub cut_entered : (o : ℕ) → IsCut (view_of g) t o → (ended : Ended) → ends_in (view_of g) o ended → (bodies : List Held) → bodies ≡ finalised_if ended o g.store.bodies
+  pub cut_entered : (o : ℕ) → IsCut (view_of g) t o → (ended : Ended) → ends_in (view_of g) o ended
+      → (bodies : List Held) → bodies ≡ finalised_if ended o g.store.bodies
       → Enters s t st (answer_of_cut ended (type_in (slice_get st.parts.objects o))) [] bodies g.parcels g.flags.items g.time
   cut_entered o r ended e bodies is =
       subst (λ (bs : List Held). Enters s t st (answer_of_cut ended (type_in (slice_get st.parts.objects o))) [] bs g.parcels g.flags.items g.time) (sym is)
       (subst (λ (d : Ended). Enters s t st (answer_of_cut d (type_in (slice_get st.parts.objects o))) [] (finalised_if d o g.store.bodies) g.parcels g.flags.items g.time) (sym e) (cut_tells o r).enters)
 
-  pub drop_tells : (b o : ℕ) → IsDrop (view_of g) t b o → Drops s t st g.store.bodies g.parcels g.flags.items g.time inv.follows own is_sound b o
+  pub drop_tells : (b o : ℕ) → IsDrop (view_of g) t b o
+      → Drops s t st g.store.bodies g.parcels g.flags.items g.time inv.follows own is_sound b o
   drop_tells b o r = drop_drops s t st g.store.bodies g.parcels g.flags.items g.time inv.follows own is_sound b r.place o r.demands
 
-  pub drop_entered : (b o : ℕ) → IsDrop (view_of g) t b o → (ended : Ended) → ends_in (view_of g) o ended → (left bodies : List Held) → left ≡ with_body body_dropped b g.store.bodies
+  pub drop_entered : (b o : ℕ) → IsDrop (view_of g) t b o → (ended : Ended) → ends_in (view_of g) o ended
+      → (left bodies : List Held) → left ≡ with_body body_dropped b g.store.bodies
       → bodies ≡ finalised_if ended o left → Enters s t st (answer_of_cut ended (type_in (slice_get st.parts.objects o))) [] bodies g.parcels g.flags.items g.time
   drop_entered b o r ended e left bodies dropped is =
       subst (λ (bs : List Held). Enters s t st (answer_of_cut ended (type_in (slice_get st.parts.objects o))) [] bs g.parcels g.flags.items g.time) (sym (is ∙ ap (finalised_if ended o) dropped))
@@ -82,7 +88,8 @@ module _ (g : Inside) (t : ℕ) (inv : IsGround g) where
   pub claim_place : (k : ℕ) → t < s.thread_count → IsClaim (view_of g) t k → k < length (uses_in (thread_block s t))
   claim_place k lt r = claim_within s t st (plain lt) k r.var r.demands
 
-  pub claim_here : (k : ℕ) → t < s.thread_count → IsClaim (view_of g) t k → (t < length g.parcels) × (k < length (get_or g.parcels t []))
+  pub claim_here : (k : ℕ) → t < s.thread_count → IsClaim (view_of g) t k
+      → (t < length g.parcels) × (k < length (get_or g.parcels t []))
   claim_here k lt r = (
     subst (λ (n : ℕ). t < n) (sym inv.follows.parcels_are.has.threads) lt,
     subst (λ (n : ℕ). k < n) (sym (inv.follows.parcels_are.has.places t lt)) (claim_place k lt r),
@@ -93,7 +100,8 @@ module _ (g : Inside) (t : ℕ) (inv : IsGround g) where
   claim_tells k lt r =
       claim_enters s t st g.store.bodies g.parcels g.flags.items g.time inv.follows k r.var r.demands lt (claim_place k lt r) (parcels_one s g.journal.items t k)
 
-  pub claim_entered : (k : ℕ) → t < s.thread_count → IsClaim (view_of g) t k → (rows : List (List (Option ℕ))) → rows ≡ rows_with g.parcels t k None
+  pub claim_entered : (k : ℕ) → t < s.thread_count → IsClaim (view_of g) t k → (rows : List (List (Option ℕ)))
+      → rows ≡ rows_with g.parcels t k None
       → Enters s t st (answer_for (parcel_at g.parcels t k)) [] g.store.bodies rows g.flags.items g.time
   claim_entered k lt r rows is =
       subst (λ (q : List (List (Option ℕ))). Enters s t st (answer_for (parcel_at g.parcels t k)) [] g.store.bodies q g.flags.items g.time) (sym is) (claim_tells k lt r)
@@ -101,7 +109,8 @@ module _ (g : Inside) (t : ℕ) (inv : IsGround g) where
   pub pack_place : (u k : ℕ) (object : Option ℕ) → t < s.thread_count → IsPack (view_of g) t u k object → IsWithin s u k
   pack_place u k object lt r = pack_within s t st (plain lt) u k r.var r.demands
 
-  pub pack_here : (u k : ℕ) (object : Option ℕ) → t < s.thread_count → IsPack (view_of g) t u k object → (u < length g.parcels) × (k < length (get_or g.parcels u []))
+  pub pack_here : (u k : ℕ) (object : Option ℕ) → t < s.thread_count → IsPack (view_of g) t u k object
+      → (u < length g.parcels) × (k < length (get_or g.parcels u []))
   pack_here u k object lt r =
       let within = pack_place u k object lt r in (
         subst (λ (n : ℕ). u < n) (sym inv.follows.parcels_are.has.threads) within.thread,
@@ -113,11 +122,13 @@ module _ (g : Inside) (t : ℕ) (inv : IsGround g) where
   pack_tells u k object lt r =
       pack_enters s t st g.store.bodies g.parcels g.flags.items g.time inv.follows u k r.var r.demands (pack_place u k object lt r) own is_sound object r.object_is
 
-  pub pack_entered : (u k : ℕ) (object : Option ℕ) → t < s.thread_count → IsPack (view_of g) t u k object → (rows : List (List (Option ℕ))) → rows ≡ packed_rows g.parcels u k object
+  pub pack_entered : (u k : ℕ) (object : Option ℕ) → t < s.thread_count → IsPack (view_of g) t u k object
+      → (rows : List (List (Option ℕ))) → rows ≡ packed_rows g.parcels u k object
       → Enters s t st (answer_for object) [] g.store.bodies rows g.flags.items g.time
   pack_entered u k object lt r rows is =
       subst (λ (q : List (List (Option ℕ))). Enters s t st (answer_for object) [] g.store.bodies q g.flags.items g.time) (sym is) (pack_tells u k object lt r)
 
-  pub end_tells : (flags : List Flags) → IsEnd (view_of g) t → map flags_of flags ≡ flags_at_end t (map flags_of g.flags.items)
+  pub end_tells : (flags : List Flags) → IsEnd (view_of g) t
+      → map flags_of flags ≡ flags_at_end t (map flags_of g.flags.items)
       → Enters s t st answers.Ok [] g.store.bodies g.parcels flags g.time
   end_tells flags e is = end_enters s t st g.store.bodies g.parcels g.flags.items g.time inv.follows flags e is

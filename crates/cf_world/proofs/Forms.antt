@@ -55,14 +55,17 @@ claim_case : (st : State) (h : Holder) (o : Option ℕ) (k : Holder) → Moves (
 claim_case st h None k = record { answer_is = refl; finals_are = refl; list_is = refl; stops = refl }
 claim_case st h (Some o) k = record { answer_is = refl; finals_are = refl; list_is = refl; stops = refl }
 
-pub claim_moves : (s : Script) (t : ℕ) (st : State) (k v : ℕ) → IsMove s t st (does (claims k v)) (answer_for (first_held (parcel t k) st.edges)) [] []
+pub claim_moves : (s : Script) (t : ℕ) (st : State) (k v : ℕ)
+    → IsMove s t st (does (claims k v)) (answer_for (first_held (parcel t k) st.edges)) [] []
 claim_moves s t st k v = claim_case st (parcel t k) (first_held (parcel t k) st.edges) (variable t (depth_of (frames_at t st)) v)
 
-pack_case : (t : ℕ) (st : State) (h : Holder) (o : Option ℕ) (k : Holder) → Moves (pack_step t st h o k) st (answer_for o) [] []
+pack_case : (t : ℕ) (st : State) (h : Holder) (o : Option ℕ) (k : Holder)
+    → Moves (pack_step t st h o k) st (answer_for o) [] []
 pack_case t st h None k = record { answer_is = refl; finals_are = refl; list_is = refl; stops = refl }
 pack_case t st h (Some o) k = record { answer_is = refl; finals_are = refl; list_is = refl; stops = refl }
 
-pub pack_moves : (s : Script) (t : ℕ) (st : State) (u k : ℕ) (v : Option ℕ) → IsMove s t st (does (packs u k v)) (answer_for (object_at (bindings_of (frames_at t st)) v)) [] []
+pub pack_moves : (s : Script) (t : ℕ) (st : State) (u k : ℕ) (v : Option ℕ)
+    → IsMove s t st (does (packs u k v)) (answer_for (object_at (bindings_of (frames_at t st)) v)) [] []
 pack_moves s t st u k v = pack_case t st (packed_holder t (depth_of (frames_at t st)) v) (object_at (bindings_of (frames_at t st)) v) (parcel u k)
 
 pub end_moves : (s : Script) (t : ℕ) (st : State) → IsMove s t st ends answers.Ok [] []
@@ -75,7 +78,8 @@ finals_for (Some o) = refl
 
 -- ---- a reference that is taken away
 
-pub finals_of_answer : (ended : Ended) (o class : ℕ) → finals_in (Some o) (answer_of_cut ended class) ≡ finals_of_cut ended o
+pub finals_of_answer : (ended : Ended) (o class : ℕ)
+    → finals_in (Some o) (answer_of_cut ended class) ≡ finals_of_cut ended o
 finals_of_answer More o class = refl
 finals_of_answer Last o class = refl
 
@@ -114,7 +118,8 @@ module _ (step : Step) (st : State) (o : ℕ) (h : Cuts step st o) where
   pub cut_live : IsBalanced st → IsLive st o
   cut_live balance = live_led st o balance (omega (arith, one_less))
 
-  pub cut_moves : (ended : Ended) → ended ≡ ended_at (degree o st.edges) → Moves step st (answer_of_cut ended (type_in (slice_get st.parts.objects o))) (finals_of_cut ended o) []
+  pub cut_moves : (ended : Ended) → ended ≡ ended_at (degree o st.edges)
+      → Moves step st (answer_of_cut ended (type_in (slice_get st.parts.objects o))) (finals_of_cut ended o) []
   cut_moves ended e =
       let class = type_in (slice_get st.parts.objects o) in
       let is : cond (eqb (degree o left) 0) Last More ≡ ended = sym (end_by (degree o left) (degree o st.edges) one_less) ∙ sym e in
@@ -137,12 +142,14 @@ first_none : (t o : ℕ) (es : List Reference) → first_from t o es ≡ None �
 first_none t o [] e = refl
 first_none t o (r ∷ rs) e = by ((eqb r.object o) && is_thread t (owner_of r.holder)) refl e (first_none t o rs)
   where
-    by : (b : Bool) → ((eqb r.object o) && is_thread t (owner_of r.holder)) ≡ b → cond b (Some r) (first_from t o rs) ≡ None
+    by : (b : Bool) → ((eqb r.object o) && is_thread t (owner_of r.holder)) ≡ b
+        → cond b (Some r) (first_from t o rs) ≡ None
         → (first_from t o rs ≡ None → weigh (from_thread t o) rs ≡ 0) → weigh (from_thread t o) (r ∷ rs) ≡ 0
     by true test e rest = absurd cc
     by false test e rest = let none : from_thread t o r ≡ 0 = ap counted test in omega (arith, none, rest e)
 
-some_own : (t : ℕ) (h : Holder) (o : ℕ) (es : List Reference) → 0 < weigh (from_thread t o) es → (r : Reference) × (own_reference t h o es ≡ Some r)
+some_own : (t : ℕ) (h : Holder) (o : ℕ) (es : List Reference) → 0 < weigh (from_thread t o) es
+    → (r : Reference) × (own_reference t h o es ≡ Some r)
 some_own t h o es some = by (has h o es)
   where
     by_first : (q : Option Reference) → first_from t o es ≡ q → (r : Reference) × (first_from t o es ≡ Some r)
@@ -174,7 +181,8 @@ module _ (s : Script) (t : ℕ) (st : State) (own : FitsByBlock s) (is_sound : I
   pub owed_cuts : (o : ℕ) → demanded s st t ≡ Some (owes o) → Cuts (step_of s t st (frames_at t st) (owes o)) st o
   owed_cuts o e = own_cuts t (owed t) st o (eq-eqb t t refl) (demand_may s t st is_sound own (owes o) e).0
 
-  pub drop_cuts : (b k o : ℕ) → demanded s st t ≡ Some (drops b k o) → Cuts (step_of s t st (frames_at t st) (drops b k o)) st o
+  pub drop_cuts : (b k o : ℕ) → demanded s st t ≡ Some (drops b k o)
+      → Cuts (step_of s t st (frames_at t st) (drops b k o)) st o
   drop_cuts b k o e = record {
     holder = slot b;
     flow = refl;
@@ -183,7 +191,8 @@ module _ (s : Script) (t : ℕ) (st : State) (own : FitsByBlock s) (is_sound : I
     stops = refl;
   }
 
-  said_cuts : (v o : ℕ) → demanded s st t ≡ Some (does (says (forms.Release v))) → first_of (used_objects (bindings_of (frames_at t st)) (says (forms.Release v))) ≡ Some o
+  said_cuts : (v o : ℕ) → demanded s st t ≡ Some (does (says (forms.Release v)))
+      → first_of (used_objects (bindings_of (frames_at t st)) (says (forms.Release v))) ≡ Some o
       → Cuts (release_step t (variable t (depth_of (frames_at t st)) v) st (first_of (used_objects (bindings_of (frames_at t st)) (says (forms.Release v))))) st o
   said_cuts v o e object =
       let may = (subst (λ (q : Option ℕ). MayUseAll st t [] (uses_if takes q)) (ap first_of (site_used s (frames_at t st) (says (forms.Release v))) ∙ object) (demand_may s t st is_sound own (does (says (forms.Release v))) e)).0 in
@@ -230,11 +239,13 @@ module _ (s : Script) (t : ℕ) (st : State) (x : Statement) (of : is_of_stage x
       by (Some o) = (refl, refl)
   quiet (Releases v) none = subst (λ (o : Option ℕ). Quiet (release_step t (variable t (depth_of (frames_at t st)) v) st o)) (sym none) (refl, refl)
 
-  pub said_moves : NoCut (ownership_of x) used → IsMove s t st (does (says x)) (step_answer (said (ownership_of x)) st) [] (said (ownership_of x)).list
+  pub said_moves : NoCut (ownership_of x) used
+      → IsMove s t st (does (says x)) (step_answer (said (ownership_of x)) st) [] (said (ownership_of x)).list
   said_moves none = let q = quiet (ownership_of x) none in record { answer_is = refl; finals_are = q.0; list_is = refl; stops = q.1 }
 
 -- all but a statement that acts on bodies list nothing
-pub lists_none : (s : Script) (t d : ℕ) (st : State) (x : Statement) (used : List (Option ℕ)) (w : Ownership) → (w ≡ Keeps → ⊥) → (statement_step s t d st x used w).list ≡ []
+pub lists_none : (s : Script) (t d : ℕ) (st : State) (x : Statement) (used : List (Option ℕ)) (w : Ownership)
+    → (w ≡ Keeps → ⊥) → (statement_step s t d st x used w).list ≡ []
 lists_none s t d st x used Keeps other = absurd (other refl)
 lists_none s t d st x used (Binds v) other = refl
 lists_none s t d st x used (Retains v) other = by (first_of used)
@@ -274,7 +285,8 @@ pub record Released (x : Statement) (used : List (Option ℕ)) (o : ℕ) : Type 
   pub releases : ownership_of x ≡ Releases var
   pub object : first_of used ≡ Some o
 
-some_cut : (x : Statement) (w : Ownership) (c : Option ℕ) (used : List (Option ℕ)) (o : ℕ) → ownership_of x ≡ w → CutBy w c used → c ≡ Some o → Released x used o
+some_cut : (x : Statement) (w : Ownership) (c : Option ℕ) (used : List (Option ℕ)) (o : ℕ) → ownership_of x ≡ w
+    → CutBy w c used → c ≡ Some o → Released x used o
 some_cut x Keeps c used o is h e = absurd cc
 some_cut x (Binds v) c used o is h e = absurd cc
 some_cut x (Retains v) c used o is h e = absurd cc
@@ -327,7 +339,8 @@ module _ (s : Script) (t : ℕ) (st : State) (x : Statement) (a : Action) (next 
 
 -- ---- a statement needs of the facts the time alone, and that not if it begins no run
 
-pub advanced_by_time : (f : Facts) (t time : ℕ) (x : Statement) (answer : Answer) (finals list : List ℕ) (stand : Stand) → ((n : ℕ) (b : Bool) → run_frames n (says x) b ≡ [])
+pub advanced_by_time : (f : Facts) (t time : ℕ) (x : Statement) (answer : Answer) (finals list : List ℕ) (stand : Stand)
+    → ((n : ℕ) (b : Bool) → run_frames n (says x) b ≡ [])
     → advanced (record f { time = time }) t (does (says x)) answer finals list stand ≡ advanced f t (does (says x)) answer finals list stand
 advanced_by_time f t time x answer finals list stand none =
     ap (λ (fs : List Frame). record { frames = fs ++ on_top (line_done f t (says x) answer list) stand.frames; work = bodies_of finals ++ owed_by (says x) list; is_done = false })

@@ -62,7 +62,8 @@ pub kept_as : (g : GroundView) (r : Reserved) (f : Kept) → IsFound g r → r.f
 kept_as g r f found e = subst (Keeps_ g r) e found.kept
 
 -- room for an entry that is no retain
-pub has_room : (g : GroundView) (frames : List Standing) (r : Reserved) (x : Found) → IsReserved g frames r → IsFoundStep g r x
+pub has_room : (g : GroundView) (frames : List Standing) (r : Reserved) (x : Found) → IsReserved g frames r
+    → IsFoundStep g r x
     → is_retain (action_in g.script (facts_of (state_of g)) r.thread (frames_at r.thread (state_of g)) (demand_of x)) ≡ false
     → HasRoom 0 (standing_at frames r.thread)
 has_room g frames r x reserved step plain =
@@ -70,11 +71,13 @@ has_room g frames r x reserved step plain =
     less_room 0 (standing_at frames r.thread) (omega arith) (room_two r.action (standing_at frames r.thread) (ap is_retain (sym is) ∙ plain) reserved.room)
 
 -- what was kept is the step that is found again
-pub found_here : (o : Option Found) (P : Found → Type 0) (x : Found) → IfSome o (λ y. ◌≡◌ {A = Option Found} (Some x) (Some y)) → IsSomeAnd o P → (o ≡ Some x) × P x
+pub found_here : (o : Option Found) (P : Found → Type 0) (x : Found)
+    → IfSome o (λ y. ◌≡◌ {A = Option Found} (Some x) (Some y)) → IsSomeAnd o P → (o ≡ Some x) × P x
 found_here None P x h k = absurd k
 found_here (Some y) P x h k = let same : x ≡ y = cc in (ap (λ (z : Found). Some z) (sym same), subst P (sym same) k)
 
-pub none_here : (o : Option Found) (P : Found → Type 0) → IfSome o (λ y. ◌≡◌ {A = Option Found} None (Some y)) → IsSomeAnd o P → ⊥
+pub none_here : (o : Option Found) (P : Found → Type 0) → IfSome o (λ y. ◌≡◌ {A = Option Found} None (Some y))
+    → IsSomeAnd o P → ⊥
 none_here None P h k = k
 none_here (Some y) P h k = cc
 
@@ -88,11 +91,13 @@ pub as_owed : (f : Kept) (o : ℕ) → IsOwes f o → (left : ℕ) × (f ≡ kep
 as_owed (kept.Owes p left) o h = (left, ap (λ (n : ℕ). kept.Owes n left) h)
 as_owed _ o h = absurd h
 
-moved_as : (g : GroundView) (r : Reserved) (frames : List Standing) (answer : Answer) (f : Kept) (x : Found) → r.found ≡ f → step_kept f ≡ Some x
+moved_as : (g : GroundView) (r : Reserved) (frames : List Standing) (answer : Answer) (f : Kept) (x : Found)
+    → r.found ≡ f → step_kept f ≡ Some x
     → IfSome (step_kept r.found) (MovesBy g r.thread answer frames) → MovesBy g r.thread answer frames x
 moved_as g r frames answer f x e is h = subst (λ (o : Option Found). IfSome o (MovesBy g r.thread answer frames)) (ap step_kept e ∙ is) h
 
-pub step_as : (g : GroundView) (r : Reserved) (f : Kept) (x : Found) → r.found ≡ f → step_kept f ≡ Some x → IsFoundStep g r x
+pub step_as : (g : GroundView) (r : Reserved) (f : Kept) (x : Found) → r.found ≡ f → step_kept f ≡ Some x
+    → IsFoundStep g r x
     → IsSomeAnd (step_kept r.found) (IsStep g.script (facts_of (state_of g)) r.thread (stand_at r.thread (state_of g).stands))
 step_as g r f x e is h = subst (λ (o : Option Found). IsSomeAnd o (IsStep g.script (facts_of (state_of g)) r.thread (stand_at r.thread (state_of g).stands))) (sym (ap step_kept e ∙ is)) h
 
@@ -105,14 +110,16 @@ module _ (g g' : GroundView) (frames : List Standing) (r : Reserved) (found : Is
   abbrev t : ℕ
   t = r.thread
 
-  pub claim_gone : (k v : ℕ) (object : Option ℕ) → r.found ≡ kept.Claims k v → object ≡ (known g).parcel t k → x ≡ answer_for object → HasGone r g g' frames
+  pub claim_gone : (k v : ℕ) (object : Option ℕ) → r.found ≡ kept.Claims k v → object ≡ (known g).parcel t k
+      → x ≡ answer_for object → HasGone r g g' frames
   claim_gone k v object e is told =
       let step : IsFoundStep g r (steps.Claims k v) = kept_as g r (kept.Claims k v) found e in
       let same : x ≡ answer_for (first_held (parcel t k) st.edges) = told ∙ ap answer_for is in
       gone_by g g' r (does (claims k v)) (answer_for (first_held (parcel t k) st.edges)) x [] (finals_in None x) [] frames found entered step.demand (claim_moves g.script t st k v) same
       (ap (finals_in None) same ∙ finals_for (first_held (parcel t k) st.edges)) (moved_as g r frames x (kept.Claims k v) (steps.Claims k v) e refl moved)
 
-  pub pack_gone : (u k : ℕ) (v : Option ℕ) (object : Option ℕ) → r.found ≡ kept.Packs u k v → object ≡ object_at (bindings_of (frames_at t st)) v → x ≡ answer_for object → HasGone r g g' frames
+  pub pack_gone : (u k : ℕ) (v : Option ℕ) (object : Option ℕ) → r.found ≡ kept.Packs u k v
+      → object ≡ object_at (bindings_of (frames_at t st)) v → x ≡ answer_for object → HasGone r g g' frames
   pack_gone u k v object e is told =
       let step : IsFoundStep g r (steps.Packs u k v) = kept_as g r (kept.Packs u k v) found e in
       let same : x ≡ answer_for (object_at (bindings_of (frames_at t st)) v) = told ∙ ap answer_for is in
@@ -124,7 +131,8 @@ module _ (g g' : GroundView) (frames : List Standing) (r : Reserved) (found : Is
       let step : IsFoundStep g r steps.Ends = kept_as g r kept.Ends found e in
       gone_by g g' r ends answers.Ok x [] (finals_in None x) [] frames found entered step.demand (end_moves g.script t st) told (ap (finals_in None) told) (moved_as g r frames x kept.Ends steps.Ends e refl moved)
 
-  pub owed_gone : (o left : ℕ) (ended : Ended) → r.found ≡ kept.Owes o left → ends_in g o ended → x ≡ answer_of_cut ended (type_in (slice_get st.parts.objects o)) → HasGone r g g' frames
+  pub owed_gone : (o left : ℕ) (ended : Ended) → r.found ≡ kept.Owes o left → ends_in g o ended
+      → x ≡ answer_of_cut ended (type_in (slice_get st.parts.objects o)) → HasGone r g g' frames
   owed_gone o left ended e end told =
       let step : IsFoundStep g r (steps.Owes o left) = kept_as g r (kept.Owes o left) found e in
       let cuts = owed_cuts g.script t st (owned_fits g.script found.runs.owned) (sound g.script g.journal found.runs.owned) o step.demand in
@@ -132,7 +140,8 @@ module _ (g g' : GroundView) (frames : List Standing) (r : Reserved) (found : Is
       (cut_moves (step_of g.script t st (frames_at t st) (owes o)) st o cuts ended end) told (ap (finals_in (Some o)) told ∙ finals_of_answer ended o _)
       (moved_as g r frames x (kept.Owes o left) (steps.Owes o left) e refl moved)
 
-  pub drop_gone : (b k o left : ℕ) (ended : Ended) → r.found ≡ kept.Drops b k o left → ends_in g o ended → x ≡ answer_of_cut ended (type_in (slice_get st.parts.objects o)) → HasGone r g g' frames
+  pub drop_gone : (b k o left : ℕ) (ended : Ended) → r.found ≡ kept.Drops b k o left → ends_in g o ended
+      → x ≡ answer_of_cut ended (type_in (slice_get st.parts.objects o)) → HasGone r g g' frames
   drop_gone b k o left ended e end told =
       let step : IsFoundStep g r (steps.Drops b k o left) = kept_as g r (kept.Drops b k o left) found e in
       let cuts = drop_cuts g.script t st (owned_fits g.script found.runs.owned) (sound g.script g.journal found.runs.owned) b k o step.demand in
@@ -182,7 +191,8 @@ module _ (g : GroundView) (r : Reserved) (found : IsFound g r) (b n : ℕ) (used
   pub staged : is_of_stage x ≡ true
   staged = line_of (frames_at u now) said.line
 
-  pub number_fits : (frames : List Standing) → AreFrames g.script now frames → (top_frame (standing_at frames u).stand.frames).number + 1 < 4294967296
+  pub number_fits : (frames : List Standing) → AreFrames g.script now frames
+      → (top_frame (standing_at frames u).stand.frames).number + 1 < 4294967296
   number_fits frames h = subst (λ (s : Stand). (top_frame s.frames).number + 1 < 4294967296) (sym (stand_here g.script now.stands frames u h)) (line_number (frames_at u now) said.line)
 
   pub objects_are : objects_of used ≡ objects
@@ -196,7 +206,8 @@ module _ (g : GroundView) (r : Reserved) (found : IsFound g r) (b n : ℕ) (used
   no_statement e = let both : ◌≡◌ {A = Option Statement} None (Some x) = e ∙ said.at in cc
 
   -- room, and what is listed
-  pub says_room : (frames : List Standing) (fin : Option ℕ) (more : ℕ) → HasRoomFor r.action (most_listed r.action) (standing_at frames u) → more ≤ 2
+  pub says_room : (frames : List Standing) (fin : Option ℕ) (more : ℕ)
+      → HasRoomFor r.action (most_listed r.action) (standing_at frames u) → more ≤ 2
       → (says_retain x ≡ true → (more ≡ 0) × (fin ≡ None)) → SaysRoom x fin more (standing_at frames u)
   says_room frames fin more room few retains =
       let same = retain_same g.script u now x r.action found.acts.next said.demands in
@@ -205,7 +216,8 @@ module _ (g : GroundView) (r : Reserved) (found : IsFound g r) (b n : ℕ) (used
       with_retain : (m : ℕ) (f : Option ℕ) → m ≡ 0 → f ≡ None → (m == 0) && not (is_some f) ≡ true
       with_retain m f e q = ap (λ (k : ℕ). (k == 0) && not (is_some f)) e ∙ ap (λ (o : Option ℕ). not (is_some o)) q
 
-      by : (c : Bool) → says_retain x ≡ c → cond (c && ((more == 0) && not (is_some fin))) (Unit {0}) (HasRoom more (standing_at frames u))
+      by : (c : Bool) → says_retain x ≡ c
+          → cond (c && ((more == 0) && not (is_some fin))) (Unit {0}) (HasRoom more (standing_at frames u))
       by true e = let h = retains e in subst (λ (d : Bool). cond d (Unit {0}) (HasRoom more (standing_at frames u))) (sym (with_retain more fin h.0 h.1)) tt
       by false e = less_room more (standing_at frames u) few (room_two r.action (standing_at frames u) (retain_same g.script u now x r.action found.acts.next said.demands ∙ e) room)
 
@@ -250,7 +262,8 @@ module _ (g : GroundView) (r : Reserved) (found : IsFound g r) (b n : ℕ) (used
       let d : IsReady g z (objects_of used) = subst (λ (o : Ownership). NeedsDeed o (IsReady g z (objects_of used))) w (ready_here h) in
       record { statement = z; var = v; demands = said.demands; binds = w; ready = deed_here d; room = d.room }
 
-  pub retain_is : (v : ℕ) (object : Option ℕ) → ownership_of z ≡ Retains v → object ≡ first_of (objects_of used) → IsRetain g th object
+  pub retain_is : (v : ℕ) (object : Option ℕ) → ownership_of z ≡ Retains v → object ≡ first_of (objects_of used)
+      → IsRetain g th object
   retain_is v object w is = record {
     statement = z;
     var = v;
@@ -285,7 +298,8 @@ module _ (g : GroundView) (r : Reserved) (found : IsFound g r) (b n : ℕ) (used
   lists_nothing other = sym (listed_here ∙ lists_none g.script th (depth_of (frames_at th at)) at z os (ownership_of z) other)
 
   -- without a cut
-  pub quiet_moves : (list : List ℕ) → cut_of r.action ≡ None → list ≡ listed_in g th → IsMove g.script th at (does (says z)) said_answer [] list
+  pub quiet_moves : (list : List ℕ) → cut_of r.action ≡ None → list ≡ listed_in g th
+      → IsMove g.script th at (does (says z)) said_answer [] list
   quiet_moves list none e =
       let m = said_moves g.script th at z (staged g r found b n used said) (said_cuts_none g.script th at z r.action found.acts.next said.demands none) in
       record { answer_is = m.answer_is; finals_are = m.finals_are; list_is = sym (e ∙ listed_here); stops = m.stops }
@@ -302,7 +316,8 @@ module _ (g : GroundView) (r : Reserved) (found : IsFound g r) (b n : ℕ) (used
       no_keeps v e = cc
 
   -- a release
-  pub release_moves : (o : ℕ) (ended : Ended) → cut_of r.action ≡ Some o → ends_in g o ended → IsMove g.script th at (does (says z)) said_answer (finals_of_cut ended o) []
+  pub release_moves : (o : ℕ) (ended : Ended) → cut_of r.action ≡ Some o → ends_in g o ended
+      → IsMove g.script th at (does (says z)) said_answer (finals_of_cut ended o) []
   release_moves o ended some end =
       let h = said_releases g.script th at z r.action found.acts.next said.demands o some in
       let cuts = release_cuts g.script th at (owned_fits g.script found.runs.owned) (sound g.script g.journal found.runs.owned) z h.var o said.demands h.releases h.object in
@@ -349,7 +364,8 @@ module _ (g g' : GroundView) (frames frames' : List Standing) (r : Reserved) (fo
       → StandSo s stands frames → facts.time ≡ (state_of g').parts.time → IsLastAnswer g'.journal (Some answer)
       → HasMoved s stands w (advanced facts w (does (says y)) answer finals list (stand_at w stands)) frames'
 
-  pub say_gone : (finals list : List ℕ) → IsMove g.script w was (does (says y)) of_step finals list → IsSayOn finals list → HasGone r g g' frames'
+  pub say_gone : (finals list : List ℕ) → IsMove g.script w was (does (says y)) of_step finals list
+      → IsSayOn finals list → HasGone r g g' frames'
   say_gone finals list h on =
       let time = (state_of g').parts.time in
       let moved = on g.script was.stands (record (facts_of was) { time = time }) told so refl last_told in
@@ -378,7 +394,8 @@ module _ (g : GroundView) (r : Reserved) (found : IsFound g r) (b n : ℕ) (used
   pub same_here : said_here.statement ≡ x
   same_here = statement_is g r found b n used said_here x there
 
-  pub room_here : (frames : List Standing) (fin : Option ℕ) (more : ℕ) → HasRoomFor r.action (most_listed r.action) (standing_at frames r.thread) → more ≤ 2
+  pub room_here : (frames : List Standing) (fin : Option ℕ) (more : ℕ)
+      → HasRoomFor r.action (most_listed r.action) (standing_at frames r.thread) → more ≤ 2
       → (says_retain said_here.statement ≡ true → (more ≡ 0) × (fin ≡ None)) → SaysRoom x fin more (standing_at frames r.thread)
   room_here frames fin more room few retains =
       subst (λ (y : Statement). SaysRoom y fin more (standing_at frames r.thread)) same_here (says_room g r found b n used said_here frames fin more room few retains)
@@ -387,7 +404,8 @@ module _ (g : GroundView) (r : Reserved) (found : IsFound g r) (b n : ℕ) (used
   list_here list h = subst (λ (y : Statement). SaysList y list) same_here (says_list g r found b n used said_here list h)
 
   -- a retain lists nothing
-  pub quiet_retain : (list : List ℕ) → list ≡ listed_in g r.thread → says_retain said_here.statement ≡ true → (length list ≡ 0) × (◌≡◌ {A = Option ℕ} None None)
+  pub quiet_retain : (list : List ℕ) → list ≡ listed_in g r.thread → says_retain said_here.statement ≡ true
+      → (length list ≡ 0) × (◌≡◌ {A = Option ℕ} None None)
   quiet_retain list e retains =
       let h = retains_var said_here.statement retains in
       (ap length (e ∙ sym (lists_nothing g r found b n used said_here (λ keeps. no_keeps h.0 (sym h.1 ∙ keeps)))), refl)
@@ -396,7 +414,8 @@ module _ (g : GroundView) (r : Reserved) (found : IsFound g r) (b n : ℕ) (used
       no_keeps v e = cc
 
   -- a release is no retain
-  pub no_retain : (o : ℕ) (fin : Option ℕ) → cut_of r.action ≡ Some o → says_retain said_here.statement ≡ true → (◌≡◌ {A = ℕ} 0 0) × (fin ≡ None)
+  pub no_retain : (o : ℕ) (fin : Option ℕ) → cut_of r.action ≡ Some o → says_retain said_here.statement ≡ true
+      → (◌≡◌ {A = ℕ} 0 0) × (fin ≡ None)
   no_retain o fin some retains =
       let h = retains_var said_here.statement retains in
       let k = said_releases g.script r.thread (state_of g) said_here.statement r.action found.acts.next said_here.demands o some in
@@ -431,28 +450,34 @@ module _ (g g' : GroundView) (frames frames' : List Standing) (r : Reserved) (fo
       → StandSo s stands frames → facts.time ≡ (state_of g').parts.time → IsLastAnswer g'.journal (Some answer)
       → HasMoved s stands r.thread (advanced facts r.thread (does (says y)) answer finals list (stand_at r.thread stands)) frames'
 
-  gone_on : (finals list : List ℕ) → IsMove g.script r.thread (state_of g) (does (says said_now.statement)) (said_answer g r found b n used said_now) finals list → IsOn x finals list → HasGone r g g' frames'
+  gone_on : (finals list : List ℕ)
+      → IsMove g.script r.thread (state_of g) (does (says said_now.statement)) (said_answer g r found b n used said_now) finals list
+      → IsOn x finals list → HasGone r g g' frames'
   gone_on finals list h on =
       say_gone g g' frames frames' r found entered b n used said_now so finals list h
       (subst (λ (y : Statement). IsOn y finals list) (sym (same_here g r found b n used is x there_before)) on)
 
-  pub quiet_gone : (list : List ℕ) → cut_of r.action ≡ None → list ≡ listed_in g r.thread → IsOn x [] list → HasGone r g g' frames'
+  pub quiet_gone : (list : List ℕ) → cut_of r.action ≡ None → list ≡ listed_in g r.thread → IsOn x [] list
+      → HasGone r g g' frames'
   quiet_gone list none e on = gone_on [] list (quiet_moves g r found b n used said_now list none e) on
 
   pub booked_gone : (o : ℕ) → retained_by r.action ≡ Some o → IsOn x [] [] → HasGone r g g' frames'
   booked_gone o some on = gone_on [] [] (booked_moves g r found b n used said_now o some) on
 
-  pub release_gone : (o : ℕ) (ended : Ended) (finals : List ℕ) → cut_of r.action ≡ Some o → ends_in g o ended → finals ≡ finals_of_cut ended o → IsOn x finals [] → HasGone r g g' frames'
+  pub release_gone : (o : ℕ) (ended : Ended) (finals : List ℕ) → cut_of r.action ≡ Some o → ends_in g o ended
+      → finals ≡ finals_of_cut ended o → IsOn x finals [] → HasGone r g g' frames'
   release_gone o ended finals some end same on =
       gone_on (finals_of_cut ended o) [] (release_moves g r found b n used said_now o ended some end) (subst (λ (fs : List ℕ). IsOn x fs []) same on)
 
-pub nothing_there : (g g' : GroundView) (r : Reserved) (found : IsFound g r) (entered : HasEntered r.thread r.action g g') (b n : ℕ) (used : Used) → r.found ≡ kept.Says b n used
+pub nothing_there : (g g' : GroundView) (r : Reserved) (found : IsFound g r)
+    (entered : HasEntered r.thread r.action g g') (b n : ℕ) (used : Used) → r.found ≡ kept.Says b n used
     → None ≡ statement_at g'.script b n → ⊥
 nothing_there g g' r found entered b n used is none =
     no_statement g r found b n used (kept_as g r (kept.Says b n used) found is) (none ∙ ap (λ (s : Script). statement_at s b n) entered.script)
 
 -- the slot that is given up is the one of the action
-pub drop_cut : (g : GroundView) (r : Reserved) (found : IsFound g r) (b k o left : ℕ) → r.found ≡ kept.Drops b k o left → cut_of r.action ≡ Some o
+pub drop_cut : (g : GroundView) (r : Reserved) (found : IsFound g r) (b k o left : ℕ) → r.found ≡ kept.Drops b k o left
+    → cut_of r.action ≡ Some o
 drop_cut g r found b k o left e =
     let step : IsFoundStep g r (steps.Drops b k o left) = kept_as g r (kept.Drops b k o left) found e in
     ap cut_of (sym (action_of_demand g.script (state_of g) r.thread r.action (drops b k o) found.acts.next step.demand))
@@ -472,7 +497,8 @@ nothing_cut g r found none (inr h) = both (sym (drop_cut g r found h.0 h.1 h.2 h
     both e = cc
 
 -- the object of a variable, as the frames have it
-pub object_here : (g : GroundView) (frames lent : List Standing) (t : ℕ) (v object : Option ℕ) → AreFrames g.script (state_of g) frames → lent ≡ frames
+pub object_here : (g : GroundView) (frames lent : List Standing) (t : ℕ) (v object : Option ℕ)
+    → AreFrames g.script (state_of g) frames → lent ≡ frames
     → object ≡ object_at (top_frame (standing_at lent t).stand.frames).bindings v → object ≡ object_at (bindings_of (frames_at t (state_of g))) v
 object_here g frames lent t v object so same e =
     e ∙ ap (λ (fs : List Standing). object_at (top_frame (standing_at fs t).stand.frames).bindings v) same

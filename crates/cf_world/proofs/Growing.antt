@@ -48,7 +48,8 @@ or_none : (a b : Bool) → a ≡ false → b ≡ false → (a || b) ≡ false
 or_none true b e h = absurd cc
 or_none false b e h = h
 
-none_asleep : (going asleep : ℕ → Bool) (ts : List ℕ) → ((t : ℕ) → asleep t ≡ false) → list_any going ts ≡ true → list_all (λ t. not (going t) || asleep t) ts ≡ true → ⊥
+none_asleep : (going asleep : ℕ → Bool) (ts : List ℕ) → ((t : ℕ) → asleep t ≡ false) → list_any going ts ≡ true
+    → list_all (λ t. not (going t) || asleep t) ts ≡ true → ⊥
 none_asleep going asleep [] h some all = absurd cc
 none_asleep going asleep (t ∷ ts) h some all =
     let parts = and_parts (not (going t) || asleep t) (list_all (λ u. not (going u) || asleep u) ts) all in
@@ -59,7 +60,8 @@ never_sleeps s st h e =
     let parts = and_parts (list_any (is_going st) (threads_of s)) (list_all (λ t. not (is_going st t) || sleeps st t) (threads_of s)) e in
     none_asleep (is_going st) (sleeps st) (threads_of s) (λ t. ap is_asleep (h.parts.is_awake t)) parts.0 parts.1
 
-step_by : (s : Script) (st : State) (e : Entry) (a : Action) → IsPlainState s st → IsLegalAs s st e a → ActionView a → IsStep a
+step_by : (s : Script) (st : State) (e : Entry) (a : Action) → IsPlainState s st → IsLegalAs s st e a → ActionView a
+    → IsStep a
 step_by s st e _ h legal (is_tick n) = absurd (never_sleeps s st h (and_parts (all_sleep s st) _ legal.2).0)
 step_by s st e _ h legal is_stalled = absurd (never_sleeps s st h (and_parts (all_sleep s st) _ legal.2).0)
 step_by s st e a h legal (is_step _ step) = step
@@ -68,11 +70,13 @@ step_by s st e a h legal (is_step _ step) = step
 pub step_of_legal : (s : Script) (st : State) (e : Entry) → IsPlainState s st → IsLegalEntry s st e → IsStep e.action
 step_of_legal s st e h legal = step_by s st e e.action h legal (action_view e.action)
 
-not_stall : (s : Script) (st : State) (e : Entry) (a : Action) → IsPlainState s st → IsLegalAs s st e a → is_stall a ≡ false
+not_stall : (s : Script) (st : State) (e : Entry) (a : Action) → IsPlainState s st → IsLegalAs s st e a
+    → is_stall a ≡ false
 not_stall s st e actions.Stall h legal = absurd (never_sleeps s st h (and_parts (all_sleep s st) (is_none (due_date s st)) legal.2).0)
 not_stall s st e a h legal = refl
 
-no_stall : (s : Script) (st : State) (es : List Entry) → IsOfStage s → IsPlainState s st → IsLegalFrom s st es → has_stalled es ≡ false
+no_stall : (s : Script) (st : State) (es : List Entry) → IsOfStage s → IsPlainState s st → IsLegalFrom s st es
+    → has_stalled es ≡ false
 no_stall s st [] of h legal = refl
 no_stall s st (e ∷ es) of h legal =
     or_none (is_stall e.action) (has_stalled es) (not_stall s st e e.action h legal.0)
@@ -111,7 +115,8 @@ module _ (g : Inside) (t : ℕ) (a : Action) (d : Demand) (inv : IsGround g) (ac
   abbrev now : State
   now = After g.script g.journal.items
 
-  pub ground_after : (g' : Inside) → g'.script ≡ g.script → g'.journal.items ≡ g.journal.items ++ entry_of s t now a ∷ []
+  pub ground_after : (g' : Inside) → g'.script ≡ g.script
+      → g'.journal.items ≡ g.journal.items ++ entry_of s t now a ∷ []
       → Follows s (done_by s t now d) g'.store.bodies g'.parcels g'.flags.items g'.time → IsGround g'
   ground_after g' same grown follows =
       let long : List Entry = g.journal.items ++ entry_of s t now a ∷ [] in
@@ -137,7 +142,8 @@ has_entered g g' t a acts same grown capacity = record {
   room = omega (arith, ap length grown, length-append g.journal.items (entry_of g.script t (After g.script g.journal.items) a ∷ []), acts.room, capacity);
 }
 
-pub has_written : (g : Inside) (t : ℕ) (a : Action) → MayAct (view_of g) t a → (journal : Vec Entry) (ready : Option Ready) (body_room : ℕ)
+pub has_written : (g : Inside) (t : ℕ) (a : Action) → MayAct (view_of g) t a
+    → (journal : Vec Entry) (ready : Option Ready) (body_room : ℕ)
     → journal.items ≡ g.journal.items ++ entry_of g.script t (After g.script g.journal.items) a ∷ [] → vec_capacity journal ≡ vec_capacity g.journal
     → HasEntered t a (view_of g) (record { script = g.script; journal = journal.items; journal_room = vec_capacity journal - vec_len journal; ready = ready; body_room = body_room })
 has_written g t a acts journal ready body_room grown capacity = record {
@@ -155,7 +161,8 @@ parts_by s t st d =
     record step.parts { finalised = step_finals step st ++ step.parts.finalised }
 
 -- fields that follow the parts and the references of a step follow the state that it leaves
-pub follows_step : (s : Script) (t : ℕ) (st : State) (d : Demand) (step : Step) (bodies : List Held) (rows : List (List (Option ℕ))) (flags : List Flags) (time : ℕ)
+pub follows_step : (s : Script) (t : ℕ) (st : State) (d : Demand) (step : Step) (bodies : List Held)
+    (rows : List (List (Option ℕ))) (flags : List Flags) (time : ℕ)
     → step_of s t st (frames_at t st) d ≡ step → Mirrors (record step.parts { finalised = step_finals step st ++ step.parts.finalised }) bodies → HasPlaces s rows
     → ((u k : ℕ) → parcel_at rows u k ≡ first_held (parcel u k) (flowed step.flow st.edges)) → map flags_of flags ≡ step.parts.flags → time ≡ step.parts.time
     → Follows s (done_by s t st d) bodies rows flags time
@@ -169,10 +176,12 @@ follows_step s t st d step bodies rows flags time is mirrors has at flags_are ti
 
 -- ---- flows that pass a holder by
 
-pub passes_moves : (h k to : Holder) (os : List ℕ) → same_holder h k ≡ false → same_holder h to ≡ false → PassesBy h (grows [] (moves_to to (map (held_by k) os)))
+pub passes_moves : (h k to : Holder) (os : List ℕ) → same_holder h k ≡ false → same_holder h to ≡ false
+    → PassesBy h (grows [] (moves_to to (map (held_by k) os)))
 passes_moves h k to [] from gone = tt
 passes_moves h k to (o ∷ os) from gone = (from, gone, passes_moves h k to os from gone)
 
-pub passes_held : (h k to : Holder) (os ps : List ℕ) → same_holder h k ≡ false → same_holder h to ≡ false → PassesBy h (grows (map (held_by k) os) (moves_to to (map (held_by k) ps)))
+pub passes_held : (h k to : Holder) (os ps : List ℕ) → same_holder h k ≡ false → same_holder h to ≡ false
+    → PassesBy h (grows (map (held_by k) os) (moves_to to (map (held_by k) ps)))
 passes_held h k to [] ps from gone = passes_moves h k to ps from gone
 passes_held h k to (o ∷ os) ps from gone = (from, passes_held h k to os ps from gone)

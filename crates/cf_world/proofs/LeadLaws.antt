@@ -32,24 +32,29 @@ use Rattle.cf_world.proofs.Growing.{never_sleeps, never_stalled}
 
 -- ---- what the lead does next
 
-tick_case : (ended asleep : Bool) (due : Option ℕ) (time : ℕ) → IsTick (lead_of (cond ended over (cond asleep (tick_or_stall due) busy))) time → (asleep && has_come due time) ≡ true
+tick_case : (ended asleep : Bool) (due : Option ℕ) (time : ℕ)
+    → IsTick (lead_of (cond ended over (cond asleep (tick_or_stall due) busy))) time
+    → (asleep && has_come due time) ≡ true
 tick_case true asleep due time h = absurd h
 tick_case false false due time h = absurd h
 tick_case false true None time h = absurd h
 tick_case false true (Some d) time h = grind (arith, nat_tests)
 
-stall_case : (ended asleep : Bool) (due : Option ℕ) → lead_of (cond ended over (cond asleep (tick_or_stall due) busy)) ≡ leads.Stall → (asleep && is_none due) ≡ true
+stall_case : (ended asleep : Bool) (due : Option ℕ)
+    → lead_of (cond ended over (cond asleep (tick_or_stall due) busy)) ≡ leads.Stall → (asleep && is_none due) ≡ true
 stall_case true asleep due h = absurd cc
 stall_case false false due h = absurd cc
 stall_case false true None h = refl
 stall_case false true (Some d) h = absurd cc
 
-busy_case : (ended asleep : Bool) (due : Option ℕ) → ended ≡ false → asleep ≡ false → lead_of (cond ended over (cond asleep (tick_or_stall due) busy)) ≡ leads.Busy
+busy_case : (ended asleep : Bool) (due : Option ℕ) → ended ≡ false → asleep ≡ false
+    → lead_of (cond ended over (cond asleep (tick_or_stall due) busy)) ≡ leads.Busy
 busy_case true asleep due e h = absurd cc
 busy_case false true due e h = absurd cc
 busy_case false false due e h = refl
 
-over_case : (ended asleep : Bool) (due : Option ℕ) → ended ≡ true → lead_of (cond ended over (cond asleep (tick_or_stall due) busy)) ≡ leads.Over
+over_case : (ended asleep : Bool) (due : Option ℕ) → ended ≡ true
+    → lead_of (cond ended over (cond asleep (tick_or_stall due) busy)) ≡ leads.Over
 over_case true asleep due e = refl
 over_case false asleep due e = absurd cc
 
@@ -59,14 +64,16 @@ is_false false h = refl
 
 -- ---- all are done
 
-stands_range : (q : ℕ → Bool) (a : ℕ) (ss : List Stand) → ((i : ℕ) → q (a + i) ≡ (at_or blank i ss).is_done) → list_all q (range_with_len a (length ss)) ≡ list_all (λ (x : Stand). x.is_done) ss
+stands_range : (q : ℕ → Bool) (a : ℕ) (ss : List Stand) → ((i : ℕ) → q (a + i) ≡ (at_or blank i ss).is_done)
+    → list_all q (range_with_len a (length ss)) ≡ list_all (λ (x : Stand). x.is_done) ss
 stands_range q a [] h = refl
 stands_range q a (x ∷ ss) h =
     let here : q a ≡ x.is_done = subst (λ (n : ℕ). q n ≡ x.is_done) (omega arith) (h 0) in
     let rest = stands_range q (a + 1) ss (λ i. subst (λ (n : ℕ). q n ≡ (at_or blank i ss).is_done) (omega arith) (h (suc i))) in
     ap (λ (b : Bool). b && list_all q (range_with_len (a + 1) (length ss))) here ∙ ap (λ (b : Bool). x.is_done && b) rest
 
-frames_range : (fs : List Standing) → list_all (λ (f : Standing). f.stand.is_done) fs ≡ list_all (λ (x : Stand). x.is_done) (map (λ (f : Standing). f.stand) fs)
+frames_range : (fs : List Standing)
+    → list_all (λ (f : Standing). f.stand.is_done) fs ≡ list_all (λ (x : Stand). x.is_done) (map (λ (f : Standing). f.stand) fs)
 frames_range [] = refl
 frames_range (f ∷ fs) = ap (λ (b : Bool). f.stand.is_done && b) (frames_range fs)
 
@@ -77,7 +84,8 @@ length-stands (f ∷ fs) = ap suc (length-stands fs)
 from_zero : (i : ℕ) → 0 + i ≡ i
 from_zero i = omega arith
 
-pub all_done_is : (s : Script) (st : State) (fs : List Standing) → AreFrames s st fs → list_all (λ (f : Standing). f.stand.is_done) fs ≡ all_done s st
+pub all_done_is : (s : Script) (st : State) (fs : List Standing) → AreFrames s st fs
+    → list_all (λ (f : Standing). f.stand.is_done) fs ≡ all_done s st
 all_done_is s st fs h =
     frames_range fs ∙ ap (list_all (λ (x : Stand). x.is_done)) h.stand
     ∙ sym (stands_range (λ t. (stand_at t st.stands).is_done) 0 st.stands (λ i. ap (λ (n : ℕ). (stand_at n st.stands).is_done) (from_zero i)))
@@ -89,18 +97,21 @@ all_done_is s st fs h =
 pub none_sleeps : (s : Script) (es : List Entry) → MayRun s → all_sleep s (After s es) ≡ false
 none_sleeps s es run = is_false (all_sleep s (After s es)) (never_sleeps s (After s es) (plain_after s es run.stage))
 
-pub is_awake : (s : Script) (es : List Entry) (t : ℕ) (f : Flags) (date : Option ℕ) → MayRun s → flags_of f ≡ flags_at t (After s es).parts.flags → f.sleep ≡ sleeping.Until date → ⊥
+pub is_awake : (s : Script) (es : List Entry) (t : ℕ) (f : Flags) (date : Option ℕ) → MayRun s
+    → flags_of f ≡ flags_at t (After s es).parts.flags → f.sleep ≡ sleeping.Until date → ⊥
 is_awake s es t f date run e asleep =
     no_until date (sym (ap sleeping_of asleep) ∙ ap (λ (g : states.Flags). g.sleep) e ∙ (plain_after s es run.stage).parts.is_awake t)
   where
     no_until : (d : Option ℕ) → until d ≡ awake → ⊥
     no_until d q = absurd cc
 
-pub lead_busy : (s : Script) (es : List Entry) → MayRun s → (all_done s (After s es) || has_stalled es) ≡ false → leads.Busy ≡ lead_of (lead_next s es)
+pub lead_busy : (s : Script) (es : List Entry) → MayRun s → (all_done s (After s es) || has_stalled es) ≡ false
+    → leads.Busy ≡ lead_of (lead_next s es)
 lead_busy s es run going =
     sym (busy_case (all_done s (After s es) || has_stalled es) (all_sleep s (After s es)) (due_date s (After s es)) going (none_sleeps s es run))
 
-pub lead_over : (s : Script) (es : List Entry) → (all_done s (After s es) || has_stalled es) ≡ true → leads.Over ≡ lead_of (lead_next s es)
+pub lead_over : (s : Script) (es : List Entry) → (all_done s (After s es) || has_stalled es) ≡ true
+    → leads.Over ≡ lead_of (lead_next s es)
 lead_over s es done = sym (over_case (all_done s (After s es) || has_stalled es) (all_sleep s (After s es)) (due_date s (After s es)) done)
 
 or_true : (a b : Bool) → a ≡ true → (a || b) ≡ true
@@ -111,10 +122,12 @@ or_rest : (a b : Bool) → a ≡ false → (a || b) ≡ b
 or_rest true b e = absurd cc
 or_rest false b e = refl
 
-pub over_then : (s : Script) (st : State) (fs : List Standing) (r stalled : Bool) → AreFrames s st fs → r ≡ list_all (λ (f : Standing). f.stand.is_done) fs → r ≡ true → r ≡ (all_done s st || stalled)
+pub over_then : (s : Script) (st : State) (fs : List Standing) (r stalled : Bool) → AreFrames s st fs
+    → r ≡ list_all (λ (f : Standing). f.stand.is_done) fs → r ≡ true → r ≡ (all_done s st || stalled)
 over_then s st fs r stalled h e t = t ∙ sym (or_true (all_done s st) stalled (sym (all_done_is s st fs h) ∙ sym e ∙ t))
 
-pub over_else : (s : Script) (st : State) (fs : List Standing) (r q stalled : Bool) → AreFrames s st fs → r ≡ list_all (λ (f : Standing). f.stand.is_done) fs → r ≡ false → q ≡ stalled → q ≡ (all_done s st || stalled)
+pub over_else : (s : Script) (st : State) (fs : List Standing) (r q stalled : Bool) → AreFrames s st fs
+    → r ≡ list_all (λ (f : Standing). f.stand.is_done) fs → r ≡ false → q ≡ stalled → q ≡ (all_done s st || stalled)
 over_else s st fs r q stalled h e t is = is ∙ sym (or_rest (all_done s st) stalled (sym (all_done_is s st fs h) ∙ sym e ∙ t))
 
 -- ---- a ground after an entry of the lead
@@ -135,7 +148,8 @@ module _ (g : Inside) (inv : IsGround g) where
   after_led : (a : Action) → After s (es ++ lead_entry a ∷ []) ≡ after_action s lead st a
   after_led a = (grows_by s es (lead_entry a)).after
 
-  ground_led : (a : Action) (g' : Inside) → IsLegalEntry s st (lead_entry a) → length es < 4000000 → g'.script ≡ s → g'.journal.items ≡ es ++ lead_entry a ∷ []
+  ground_led : (a : Action) (g' : Inside) → IsLegalEntry s st (lead_entry a) → length es < 4000000 → g'.script ≡ s
+      → g'.journal.items ≡ es ++ lead_entry a ∷ []
       → Follows s (after_action s lead st a) g'.store.bodies g'.parcels g'.flags.items g'.time → IsGround g'
   ground_led a g' entry short same grown follows =
       let long : List Entry = es ++ lead_entry a ∷ [] in
@@ -155,7 +169,8 @@ module _ (g : Inside) (inv : IsGround g) where
   stall_legal : lead_of (lead_next s es) ≡ leads.Stall → IsLegalEntry s st (lead_entry actions.Stall)
   stall_legal due = (refl, refl, stall_case (all_done s st || has_stalled es) (all_sleep s st) (due_date s st) due)
 
-  tick_follows : (time : ℕ) (flags : List Flags) → map flags_of flags ≡ map (tick_flags time) (map flags_of g.flags.items)
+  tick_follows : (time : ℕ) (flags : List Flags)
+      → map flags_of flags ≡ map (tick_flags time) (map flags_of g.flags.items)
       → Follows s (ticked time st) g.store.bodies g.parcels flags time
   tick_follows time flags e = record {
     mirrors = record { objects_are = inv.follows.mirrors.objects_are; live = inv.follows.mirrors.live; given_up = inv.follows.mirrors.given_up };
@@ -164,18 +179,21 @@ module _ (g : Inside) (inv : IsGround g) where
     time_is = refl;
   }
 
-  pub tick_ground : (time : ℕ) (g' : Inside) → IsTick (lead_of (lead_next s es)) time → length es < 4000000 → g'.script ≡ s → g'.journal.items ≡ es ++ lead_entry (actions.Tick time) ∷ []
+  pub tick_ground : (time : ℕ) (g' : Inside) → IsTick (lead_of (lead_next s es)) time → length es < 4000000
+      → g'.script ≡ s → g'.journal.items ≡ es ++ lead_entry (actions.Tick time) ∷ []
       → g'.store.bodies ≡ g.store.bodies → g'.parcels ≡ g.parcels → map flags_of g'.flags.items ≡ map (tick_flags time) (map flags_of g.flags.items) → g'.time ≡ time → IsGround g'
   tick_ground time g' due short same grown bodies parcels flags at =
       ground_led (actions.Tick time) g' (tick_legal time due) short same grown
       (rw (bodies, parcels, at) (tick_follows time g'.flags.items flags))
 
-  pub stall_ground : (g' : Inside) → lead_of (lead_next s es) ≡ leads.Stall → length es < 4000000 → g'.script ≡ s → g'.journal.items ≡ es ++ lead_entry actions.Stall ∷ []
+  pub stall_ground : (g' : Inside) → lead_of (lead_next s es) ≡ leads.Stall → length es < 4000000 → g'.script ≡ s
+      → g'.journal.items ≡ es ++ lead_entry actions.Stall ∷ []
       → g'.store.bodies ≡ g.store.bodies → g'.parcels ≡ g.parcels → g'.flags.items ≡ g.flags.items → g'.time ≡ g.time → IsGround g'
   stall_ground g' due short same grown bodies parcels flags at =
       ground_led actions.Stall g' (stall_legal due) short same grown (rw (bodies, parcels, flags, at) inv.follows)
 
-  led_view : (a : Action) (g' : Inside) → IsLegalEntry s st (lead_entry a) → (after_action s lead st a).stands ≡ st.stands → g'.script ≡ s → g'.journal.items ≡ es ++ lead_entry a ∷ []
+  led_view : (a : Action) (g' : Inside) → IsLegalEntry s st (lead_entry a)
+      → (after_action s lead st a).stands ≡ st.stands → g'.script ≡ s → g'.journal.items ≡ es ++ lead_entry a ∷ []
       → vec_capacity g'.journal ≡ vec_capacity g.journal → HasPlaceFor (view_of g) → HasLed a (view_of g) (view_of g')
   led_view a g' entry stands same grown capacity place = record {
     script = same;
@@ -186,17 +204,20 @@ module _ (g : Inside) (inv : IsGround g) where
     owned = subst (λ (x : Script). Owned x) (sym same) inv.script.owned;
   }
 
-  pub tick_view : (time : ℕ) (g' : Inside) → IsTick (lead_of (lead_next s es)) time → g'.script ≡ s → g'.journal.items ≡ es ++ lead_entry (actions.Tick time) ∷ []
+  pub tick_view : (time : ℕ) (g' : Inside) → IsTick (lead_of (lead_next s es)) time → g'.script ≡ s
+      → g'.journal.items ≡ es ++ lead_entry (actions.Tick time) ∷ []
       → vec_capacity g'.journal ≡ vec_capacity g.journal → HasPlaceFor (view_of g) → HasLed (actions.Tick time) (view_of g) (view_of g')
   tick_view time g' due same grown capacity place = led_view (actions.Tick time) g' (tick_legal time due) refl same grown capacity place
 
-  pub stall_view : (g' : Inside) → lead_of (lead_next s es) ≡ leads.Stall → g'.script ≡ s → g'.journal.items ≡ es ++ lead_entry actions.Stall ∷ []
+  pub stall_view : (g' : Inside) → lead_of (lead_next s es) ≡ leads.Stall → g'.script ≡ s
+      → g'.journal.items ≡ es ++ lead_entry actions.Stall ∷ []
       → vec_capacity g'.journal ≡ vec_capacity g.journal → HasPlaceFor (view_of g) → HasLed actions.Stall (view_of g) (view_of g')
   stall_view g' due same grown capacity place = led_view actions.Stall g' (stall_legal due) refl same grown capacity place
 
 -- ---- the last entry
 
-pub stall_found : (es : List Entry) (n : ℕ) (e : Entry) → slice_get es n ≡ Some e → has_stalled es ≡ false → is_stall e.action ≡ false
+pub stall_found : (es : List Entry) (n : ℕ) (e : Entry) → slice_get es n ≡ Some e → has_stalled es ≡ false
+    → is_stall e.action ≡ false
 stall_found [] n e at none = absurd cc
 stall_found (f ∷ es) zero e at none =
     let same : f ≡ e = cc in

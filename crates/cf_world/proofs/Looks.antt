@@ -94,17 +94,22 @@ none_left (Some w) call d e = cc
 none_left None (Some c) d e = cc
 none_left None None d e = cc
 
-pub none_is_done : (s : Script) (facts : Facts) (t : ℕ) (stand : Stand) (f : Frame) (fs : List Frame) → stand.frames ≡ f ∷ fs → demand s facts t stand ≡ None → stand.is_done ≡ true
+pub none_is_done : (s : Script) (facts : Facts) (t : ℕ) (stand : Stand) (f : Frame) (fs : List Frame)
+    → stand.frames ≡ f ∷ fs → demand s facts t stand ≡ None → stand.is_done ≡ true
 none_is_done s facts t stand f fs e none = by stand.is_done (subst (λ (gs : List Frame). cond stand.is_done None (or_else (work_demand facts stand.work) (frame_demand s facts t gs)) ≡ None) e none)
   where
-    by : (b : Bool) → cond b None (or_else (work_demand facts stand.work) (frame_demand s facts t (f ∷ fs))) ≡ None → b ≡ true
+    by : (b : Bool) → cond b None (or_else (work_demand facts stand.work) (frame_demand s facts t (f ∷ fs))) ≡ None
+        → b ≡ true
     by true q = refl
     by false q = absurd (none_left (work_demand facts stand.work) (call_demand facts t f.kind f.collected) (kind_demand s facts t f.kind f.block f.number) q)
 
-pub some_not_done : (s : Script) (facts : Facts) (t : ℕ) (stand : Stand) (d : Demand) → demand s facts t stand ≡ Some d → stand.is_done ≡ false
+pub some_not_done : (s : Script) (facts : Facts) (t : ℕ) (stand : Stand) (d : Demand) → demand s facts t stand ≡ Some d
+    → stand.is_done ≡ false
 some_not_done s facts t stand d e = by stand.is_done e
   where
-    by : (b : Bool) → cond b None (or_else (work_demand facts stand.work) (frame_demand s facts t stand.frames)) ≡ Some d → b ≡ false
+    by : (b : Bool)
+        → cond b None (or_else (work_demand facts stand.work) (frame_demand s facts t stand.frames)) ≡ Some d
+        → b ≡ false
     by true q = absurd cc
     by false q = refl
 
@@ -143,10 +148,12 @@ module _ (s : Script) (limit : ℕ) (es : List Entry) (t : ℕ) where
             below : nat_le limit (length es) ≡ false
             below = grind (arith, nat_tests)
 
-            pub look_full : makes s st t ≡ true → nat_le 65536 (length st.parts.objects) ≡ true → nexts.Full ≡ next_of s limit es t
+            pub look_full : makes s st t ≡ true → nat_le 65536 (length st.parts.objects) ≡ true
+                → nexts.Full ≡ next_of s limit es t
             look_full m full = sym (below_is ∙ rw (below, m, full) refl)
 
-            pub look_acts : (makes s st t && nat_le 65536 (length st.parts.objects)) ≡ false → next_of s limit es t ≡ nexts.Act a
+            pub look_acts : (makes s st t && nat_le 65536 (length st.parts.objects)) ≡ false
+                → next_of s limit es t ≡ nexts.Act a
             look_acts room = below_is ∙ rw (below, room) refl
 
 -- ---- what a look finds
@@ -158,13 +165,16 @@ module _ (g : GroundView) (limit t : ℕ) where
   abbrev stand : Stand
   stand = stand_at t was.stands
 
-  pub looked_waiting : (flags_at t was.parts.flags).is_started ≡ false → nexts.Waiting ≡ next_of g.script limit g.journal t
+  pub looked_waiting : (flags_at t was.parts.flags).is_started ≡ false
+      → nexts.Waiting ≡ next_of g.script limit g.journal t
   looked_waiting e = look_waiting g.script limit g.journal t e
 
-  pub looked_done : (flags_at t was.parts.flags).is_started ≡ true → stand.is_done ≡ true → nexts.Done ≡ next_of g.script limit g.journal t
+  pub looked_done : (flags_at t was.parts.flags).is_started ≡ true → stand.is_done ≡ true
+      → nexts.Done ≡ next_of g.script limit g.journal t
   looked_done e done = look_done g.script limit g.journal t e done
 
-  pub looked_asleep : (flags_at t was.parts.flags).is_started ≡ true → stand.is_done ≡ false → sleeps was t ≡ true → nexts.Asleep ≡ next_of g.script limit g.journal t
+  pub looked_asleep : (flags_at t was.parts.flags).is_started ≡ true → stand.is_done ≡ false → sleeps was t ≡ true
+      → nexts.Asleep ≡ next_of g.script limit g.journal t
   looked_asleep e going asleep = look_asleep g.script limit g.journal t e going asleep
 
   module _ (started : (flags_at t was.parts.flags).is_started ≡ true) (awake : sleeps was t ≡ false) (d : Demand) (demands : demanded g.script was t ≡ Some d) where
@@ -181,7 +191,8 @@ module _ (g : GroundView) (limit t : ℕ) where
     looked_limit at = look_limit g.script limit g.journal t started going awake act next_act at
 
     module _ (short : length g.journal < limit) where
-      pub looked_full : makes_line (Some d) ≡ true → nat_le 65536 (length was.parts.objects) ≡ true → nexts.Full ≡ next_of g.script limit g.journal t
+      pub looked_full : makes_line (Some d) ≡ true → nat_le 65536 (length was.parts.objects) ≡ true
+          → nexts.Full ≡ next_of g.script limit g.journal t
       looked_full m full = look_full g.script limit g.journal t started going awake act next_act short (ap makes_line demands ∙ m) full
 
       module _ (runs : MayRun g.script) (within : t < g.script.thread_count) (most : limit ≤ 4000000) (room : limit ≤ length g.journal + g.journal_room)
@@ -190,7 +201,8 @@ module _ (g : GroundView) (limit t : ℕ) where
         few_made true n e h = grind (arith, nat_tests)
         few_made false n e h = absurd cc
 
-        pub looked_acts : (r : Reserved) → r.thread ≡ t → r.action ≡ act → IsKept g.script (facts_of was) t stand r.found → IsLooked g limit t (Ok tt) r
+        pub looked_acts : (r : Reserved) → r.thread ≡ t → r.action ≡ act
+            → IsKept g.script (facts_of was) t stand r.found → IsLooked g limit t (Ok tt) r
         looked_acts r thread action kept = (
           record {
             runs = runs;
@@ -217,17 +229,21 @@ module _ (s : Script) (st : State) (t k : ℕ) where
   pub none_ahead_waiting : (flags_at t st.parts.flags).is_started ≡ false → None ≡ slice_get (next_retains s st t) k
   none_ahead_waiting e = none_at (next_retains s st t) (rw e refl)
 
-  pub none_ahead_asleep : (flags_at t st.parts.flags).is_started ≡ true → sleeps st t ≡ true → None ≡ slice_get (next_retains s st t) k
+  pub none_ahead_asleep : (flags_at t st.parts.flags).is_started ≡ true → sleeps st t ≡ true
+      → None ≡ slice_get (next_retains s st t) k
   none_ahead_asleep started asleep = none_at (next_retains s st t) (by (stand_at t st.stands).is_done)
     where
-      by : (b : Bool) → cond ((flags_at t st.parts.flags).is_started && not b && not (sleeps st t)) (ahead s (facts_of st) t (stand_at t st.stands)) [] ≡ []
+      by : (b : Bool)
+          → cond ((flags_at t st.parts.flags).is_started && not b && not (sleeps st t)) (ahead s (facts_of st) t (stand_at t st.stands)) [] ≡ []
       by true = rw started refl
       by false = rw (started, asleep) refl
 
-  pub ahead_goes : (flags_at t st.parts.flags).is_started ≡ true → sleeps st t ≡ false → ahead s (facts_of st) t (stand_at t st.stands) ≡ next_retains s st t
+  pub ahead_goes : (flags_at t st.parts.flags).is_started ≡ true → sleeps st t ≡ false
+      → ahead s (facts_of st) t (stand_at t st.stands) ≡ next_retains s st t
   ahead_goes started awake = by (stand_at t st.stands).is_done refl
     where
-      by : (b : Bool) → (stand_at t st.stands).is_done ≡ b → ahead s (facts_of st) t (stand_at t st.stands) ≡ next_retains s st t
+      by : (b : Bool) → (stand_at t st.stands).is_done ≡ b
+          → ahead s (facts_of st) t (stand_at t st.stands) ≡ next_retains s st t
       by true e = rw (started, awake, e) refl
       by false e = rw (started, awake, e) refl
 
@@ -248,27 +264,35 @@ module _ (g : GroundView) (t : ℕ) (frames : List Standing) (so : AreFrames g.s
   stand_is = ap (λ (h : Standing). h.stand) is ∙ stand_here g.script now.stands frames t so
 
   -- what is said of the frames is said of the thread
-  here : (P : Script → ℕ → Stand → Type 0) (script : Script) → script ≡ g.script → P script f.thread f.stand → P g.script t (stand_at t now.stands)
+  here : (P : Script → ℕ → Stand → Type 0) (script : Script) → script ≡ g.script → P script f.thread f.stand
+      → P g.script t (stand_at t now.stands)
   here P script same h = subst (P g.script t) stand_is (subst (λ (u : ℕ). P g.script u f.stand) thread_is (subst (λ (s : Script). P s f.thread f.stand) same h))
 
-  pub demand_here : (script : Script) (x : Option Step) → script ≡ g.script → option_map demand_of x ≡ demand script (known g) f.thread f.stand → option_map demand_of x ≡ demanded g.script now t
+  pub demand_here : (script : Script) (x : Option Step) → script ≡ g.script
+      → option_map demand_of x ≡ demand script (known g) f.thread f.stand
+      → option_map demand_of x ≡ demanded g.script now t
   demand_here script x same e = here (λ s u stand. option_map demand_of x ≡ demand s (known g) u stand) script same e
 
-  pub step_found : (script : Script) (x : Step) → script ≡ g.script → IsStep script (known g) f.thread f.stand x → IsStep g.script (facts_of now) t (stand_at t now.stands) x
+  pub step_found : (script : Script) (x : Step) → script ≡ g.script → IsStep script (known g) f.thread f.stand x
+      → IsStep g.script (facts_of now) t (stand_at t now.stands) x
   step_found script x same h = here (λ s u stand. IsStep s (known g) u stand x) script same h
 
-  pub block_here : (script : Script) (b : ℕ) → script ≡ g.script → b ≡ block_of script (top_frame f.stand.frames).kind (top_frame f.stand.frames).block
+  pub block_here : (script : Script) (b : ℕ) → script ≡ g.script
+      → b ≡ block_of script (top_frame f.stand.frames).kind (top_frame f.stand.frames).block
       → b ≡ block_of g.script (top_frame (stand_at t now.stands).frames).kind (top_frame (stand_at t now.stands).frames).block
   block_here script b same e = here (λ s u stand. b ≡ block_of s (top_frame stand.frames).kind (top_frame stand.frames).block) script same e
 
-  pub action_here : (script : Script) (a : Action) (d : Demand) → script ≡ g.script → a ≡ action_in script (known g) f.thread f.stand.frames d → a ≡ action_in g.script (facts_of now) t (stand_at t now.stands).frames d
+  pub action_here : (script : Script) (a : Action) (d : Demand) → script ≡ g.script
+      → a ≡ action_in script (known g) f.thread f.stand.frames d
+      → a ≡ action_in g.script (facts_of now) t (stand_at t now.stands).frames d
   action_here script a d same e = here (λ s u stand. a ≡ action_in s (known g) u stand.frames d) script same e
 
   pub done_here : demanded g.script now t ≡ None → (stand_at t now.stands).is_done ≡ true
   done_here e = let plain = plain_now.stands t within in none_is_done g.script (facts_of now) t (stand_at t now.stands) plain.top [] plain.frames e
 
   -- a thread that is not done does something next
-  pub goes_here : (limit : ℕ) → (flags_at t now.parts.flags).is_started ≡ true → sleeps now t ≡ false → (stand_at t now.stands).is_done ≡ false
+  pub goes_here : (limit : ℕ) → (flags_at t now.parts.flags).is_started ≡ true → sleeps now t ≡ false
+      → (stand_at t now.stands).is_done ≡ false
       → limit ≤ length g.journal → nexts.Limit ≡ next_of g.script limit g.journal t
   goes_here limit started awake going at = by (demanded g.script now t) refl
     where
@@ -282,7 +306,9 @@ module _ (g : GroundView) (t : ℕ) (frames : List Standing) (so : AreFrames g.s
   pub plain_step : (x : Step) → IsStep g.script (facts_of now) t (stand_at t now.stands) x → IsPlainStep x
   plain_step x h = plain_of (demand_of x) x (plain_demand g.script now t (demand_of x) runs.stage plain_now h.demand) refl
 
-  line_there : (fs : List Frame) (top : Frame) (x : Statement) (n b : ℕ) → fs ≡ top ∷ [] → top.kind ≡ of_block → IsLine g.script (says x) fs → n ≡ (top_frame fs).number - lines_before g.script (top_frame fs).kind (top_frame fs).block
+  line_there : (fs : List Frame) (top : Frame) (x : Statement) (n b : ℕ) → fs ≡ top ∷ [] → top.kind ≡ of_block
+      → IsLine g.script (says x) fs
+      → n ≡ (top_frame fs).number - lines_before g.script (top_frame fs).kind (top_frame fs).block
       → b ≡ block_of g.script (top_frame fs).kind (top_frame fs).block → statement_at g.script b n ≡ Some x
   line_there fs top x n b e kind line number block =
       let line_top : slice_get (frame_lines g.script top.kind top.block) top.number ≡ Some (says x) = subst (IsLine g.script (says x)) e line in

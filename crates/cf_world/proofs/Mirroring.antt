@@ -22,7 +22,8 @@ pub record AreMirrored (objects : List Object) (finalised dropped : List ℕ) (b
 pub mirrored : (p : Parts) (bodies : List Held) → Mirrors p bodies → AreMirrored p.objects p.finalised p.dropped bodies
 mirrored p bodies h = record { objects_are = h.objects_are; lives = h.live; given_up = h.given_up }
 
-pub mirrors_by : (p : Parts) (bodies : List Held) → AreMirrored p.objects p.finalised p.dropped bodies → Mirrors p bodies
+pub mirrors_by : (p : Parts) (bodies : List Held) → AreMirrored p.objects p.finalised p.dropped bodies
+    → Mirrors p bodies
 mirrors_by p bodies h = record { objects_are = h.objects_are; live = h.lives; given_up = h.given_up }
 
 -- ---- the slots that are left
@@ -31,46 +32,56 @@ drop-none : (n : ℕ) → ◌≡◌ {A = List ℕ} (drop n []) []
 drop-none zero = refl
 drop-none (suc n) = refl
 
-left_is : (bodies : List Held) (o : ℕ) (n : ℕ) (h : Option Held) → slice_get bodies o ≡ h → given_up_by h ≡ n → left_to h ≡ drop n (slots_at (option_map (λ (b : Held). b.object) h))
+left_is : (bodies : List Held) (o : ℕ) (n : ℕ) (h : Option Held) → slice_get bodies o ≡ h → given_up_by h ≡ n
+    → left_to h ≡ drop n (slots_at (option_map (λ (b : Held). b.object) h))
 left_is bodies o n None e g = sym (drop-none n)
 left_is bodies o n (Some h) e g = ap (λ (k : ℕ). drop k (slots_in h.object.content)) g
 
-pub left-mirrors : (objects : List Object) (finalised dropped : List ℕ) (bodies : List Held) (o : ℕ) → AreMirrored objects finalised dropped bodies → left_in bodies o ≡ left_of objects dropped o
+pub left-mirrors : (objects : List Object) (finalised dropped : List ℕ) (bodies : List Held) (o : ℕ)
+    → AreMirrored objects finalised dropped bodies → left_in bodies o ≡ left_of objects dropped o
 left-mirrors objects finalised dropped bodies o h =
     left_is bodies o (times o dropped) (slice_get bodies o) refl (h.given_up o)
     ∙ ap (λ (ob : Option Object). drop (times o dropped) (slots_at ob)) (sym (get-map bodies o) ∙ ap (λ (os : List Object). slice_get os o) h.objects_are)
 
 -- ---- a change
 
-live_same : (f : Held → Held) → ((h : Held) → (f h).is_finalised ≡ h.is_finalised) → (h : Option Held) → is_live_body (option_map f h) ≡ is_live_body h
+live_same : (f : Held → Held) → ((h : Held) → (f h).is_finalised ≡ h.is_finalised) → (h : Option Held)
+    → is_live_body (option_map f h) ≡ is_live_body h
 live_same f same None = refl
 live_same f same (Some h) = ap not (same h)
 
-given_same : (f : Held → Held) → ((h : Held) → (f h).given_up ≡ h.given_up) → (h : Option Held) → given_up_by (option_map f h) ≡ given_up_by h
+given_same : (f : Held → Held) → ((h : Held) → (f h).given_up ≡ h.given_up) → (h : Option Held)
+    → given_up_by (option_map f h) ≡ given_up_by h
 given_same f same None = refl
 given_same f same (Some h) = same h
 
-pub live-body : (f : Held → Held) → ((h : Held) → (f h).is_finalised ≡ h.is_finalised) → (o p : ℕ) (bodies : List Held) → is_live_in (with_body f o bodies) p ≡ is_live_in bodies p
+pub live-body : (f : Held → Held) → ((h : Held) → (f h).is_finalised ≡ h.is_finalised) → (o p : ℕ) (bodies : List Held)
+    → is_live_in (with_body f o bodies) p ≡ is_live_in bodies p
 live-body f same o p bodies = elim (eqb_tells o p) [
   | inl e ↦ subst (λ (k : ℕ). is_live_in (with_body f o bodies) k ≡ is_live_in bodies k) e.1 (ap is_live_body (get-own f o bodies) ∙ live_same f same (slice_get bodies o))
   | inr e ↦ ap is_live_body (get-other f o p bodies e.1)
 ]
 
-given-body : (f : Held → Held) → ((h : Held) → (f h).given_up ≡ h.given_up) → (o p : ℕ) (bodies : List Held) → given_up_in (with_body f o bodies) p ≡ given_up_in bodies p
+given-body : (f : Held → Held) → ((h : Held) → (f h).given_up ≡ h.given_up) → (o p : ℕ) (bodies : List Held)
+    → given_up_in (with_body f o bodies) p ≡ given_up_in bodies p
 given-body f same o p bodies = elim (eqb_tells o p) [
   | inl e ↦ subst (λ (k : ℕ). given_up_in (with_body f o bodies) k ≡ given_up_in bodies k) e.1 (ap given_up_by (get-own f o bodies) ∙ given_same f same (slice_get bodies o))
   | inr e ↦ ap given_up_by (get-other f o p bodies e.1)
 ]
 
-pub live-changed : (o : Option ℕ) (change : Change) (bodies : List Held) (p : ℕ) → is_live_in (bodies_changed o change bodies) p ≡ is_live_in bodies p
+pub live-changed : (o : Option ℕ) (change : Change) (bodies : List Held) (p : ℕ)
+    → is_live_in (bodies_changed o change bodies) p ≡ is_live_in bodies p
 live-changed None change bodies p = refl
 live-changed (Some o) change bodies p = live-body (body_changed change) (λ h. refl) o p bodies
 
-given-changed : (o : Option ℕ) (change : Change) (bodies : List Held) (p : ℕ) → given_up_in (bodies_changed o change bodies) p ≡ given_up_in bodies p
+given-changed : (o : Option ℕ) (change : Change) (bodies : List Held) (p : ℕ)
+    → given_up_in (bodies_changed o change bodies) p ≡ given_up_in bodies p
 given-changed None change bodies p = refl
 given-changed (Some o) change bodies p = given-body (body_changed change) (λ h. refl) o p bodies
 
-pub mirrored_changed : (objects : List Object) (finalised dropped : List ℕ) (bodies : List Held) (o : Option ℕ) (change : Change) → AreMirrored objects finalised dropped bodies → AreMirrored (objects_after o change objects) finalised dropped (bodies_changed o change bodies)
+pub mirrored_changed : (objects : List Object) (finalised dropped : List ℕ) (bodies : List Held) (o : Option ℕ)
+    (change : Change) → AreMirrored objects finalised dropped bodies
+    → AreMirrored (objects_after o change objects) finalised dropped (bodies_changed o change bodies)
 mirrored_changed objects finalised dropped bodies o change h = record {
   objects_are = objects-changed o change bodies ∙ ap (objects_after o change) h.objects_are;
   lives = λ p. rw (length-objects_after o change objects) (live-changed o change bodies p ∙ h.lives p);
@@ -82,7 +93,8 @@ mirrored_changed objects finalised dropped bodies o change h = record {
 apart : (m n : ℕ) → m ≤ n → (m ≡ n → ⊥) → m < n
 apart m n le h = grind (arith, nat_tests)
 
-get-before : (bodies : List Held) (b : Held) (o : ℕ) → o < length bodies → slice_get (bodies ++ b ∷ []) o ≡ slice_get bodies o
+get-before : (bodies : List Held) (b : Held) (o : ℕ) → o < length bodies
+    → slice_get (bodies ++ b ∷ []) o ≡ slice_get bodies o
 get-before [] b o h = absurd (omega arith)
 get-before (x ∷ xs) b zero h = refl
 get-before (x ∷ xs) b (suc o) h = get-before xs b o (omega arith)
@@ -103,7 +115,8 @@ module _ (objects : List Object) (finalised dropped : List ℕ) (bodies : List H
   more : length (objects ++ ob ∷ []) ≡ length objects + 1
   more = length-append objects (ob ∷ [])
 
-  end_live : is_live_in (bodies ++ live ob ∷ []) (length objects) ≡ (ltb (length objects) (length (objects ++ ob ∷ [])) && (times (length objects) finalised == 0))
+  end_live : is_live_in (bodies ++ live ob ∷ [])
+      (length objects) ≡ (ltb (length objects) (length (objects ++ ob ∷ [])) && (times (length objects) finalised == 0))
   end_live =
       let below : ltb (length objects) (length (objects ++ ob ∷ [])) ≡ true = rw more (grind (arith, nat_tests)) in
       rw (below, unmade, ← size, get-at bodies (live ob)) refl
@@ -111,7 +124,8 @@ module _ (objects : List Object) (finalised dropped : List ℕ) (bodies : List H
   end_given : given_up_in (bodies ++ live ob ∷ []) (length objects) ≡ times (length objects) dropped
   end_given = rw (undropped, ← size, get-at bodies (live ob)) refl
 
-  before_live : (p : ℕ) → p < length objects → is_live_in (bodies ++ live ob ∷ []) p ≡ (ltb p (length (objects ++ ob ∷ [])) && (times p finalised == 0))
+  before_live : (p : ℕ) → p < length objects
+      → is_live_in (bodies ++ live ob ∷ []) p ≡ (ltb p (length (objects ++ ob ∷ [])) && (times p finalised == 0))
   before_live p below =
       let old : ltb p (length objects) ≡ true = grind (arith, nat_tests) in
       let new : ltb p (length (objects ++ ob ∷ [])) ≡ true = rw more (grind (arith, nat_tests)) in
@@ -120,7 +134,8 @@ module _ (objects : List Object) (finalised dropped : List ℕ) (bodies : List H
   past_none : (p : ℕ) → length objects < p → slice_get (bodies ++ live ob ∷ []) p ≡ None
   past_none p above = get-past (bodies ++ live ob ∷ []) p (omega (arith, above, size, length-append bodies (live ob ∷ [])))
 
-  past_live : (p : ℕ) → length objects < p → is_live_in (bodies ++ live ob ∷ []) p ≡ (ltb p (length (objects ++ ob ∷ [])) && (times p finalised == 0))
+  past_live : (p : ℕ) → length objects < p
+      → is_live_in (bodies ++ live ob ∷ []) p ≡ (ltb p (length (objects ++ ob ∷ [])) && (times p finalised == 0))
   past_live p above =
       let past : ltb p (length (objects ++ ob ∷ [])) ≡ false = rw more (grind (arith, nat_tests)) in
       rw past (ap is_live_body (past_none p above))

@@ -37,13 +37,15 @@ use Rattle.cf_world.specs.declared.found.Reserved.{Reserved}
 
 -- ---- where one of several stands
 
-pub stand_is : (frames : List Standing) (t : ℕ) → (get_or frames t nobody).stand ≡ at_or blank t (map (λ (f : Standing). f.stand) frames)
+pub stand_is : (frames : List Standing) (t : ℕ)
+    → (get_or frames t nobody).stand ≡ at_or blank t (map (λ (f : Standing). f.stand) frames)
 stand_is [] zero = refl
 stand_is [] (suc t) = refl
 stand_is (f ∷ fs) zero = refl
 stand_is (f ∷ fs) (suc t) = stand_is fs t
 
-pub stand_here : (s : Script) (stands : List Stand) (frames : List Standing) (t : ℕ) → StandSo s stands frames → (standing_at frames t).stand ≡ stand_at t stands
+pub stand_here : (s : Script) (stands : List Stand) (frames : List Standing) (t : ℕ) → StandSo s stands frames
+    → (standing_at frames t).stand ≡ stand_at t stands
 stand_here s stands frames t h = stand_is frames t ∙ ap (stand_at t) h.stand
 
 pub stand_set : (frames : List Standing) (t : ℕ) (f : Standing) → t < length frames
@@ -53,11 +55,13 @@ stand_set (g ∷ gs) zero f h = refl
 stand_set (g ∷ gs) (suc t) f h = ap (λ (ss : List Stand). g.stand ∷ ss) (stand_set gs t f (omega arith))
 
 -- one of the frames, as it is lent
-pub lent_here : (frames : List Standing) (t i : ℕ) (f d : Standing) → f ≡ get_or frames i d → i ≡ t → t < length frames → f ≡ standing_at frames t
+pub lent_here : (frames : List Standing) (t i : ℕ) (f d : Standing) → f ≡ get_or frames i d → i ≡ t → t < length frames
+    → f ≡ standing_at frames t
 lent_here frames t i f d is same within = is ∙ ap (λ (k : ℕ). get_or frames k d) same ∙ get_or_default frames t d nobody within
 
 -- one of them has another stand
-pub moved_by : (s : Script) (stands : List Stand) (frames : List Standing) (t : ℕ) (f : Standing) (stand : Stand) → StandSo s stands frames → t < length frames
+pub moved_by : (s : Script) (stands : List Stand) (frames : List Standing) (t : ℕ) (f : Standing) (stand : Stand)
+    → StandSo s stands frames → t < length frames
     → f.thread ≡ t → f.stand ≡ stand → HasMoved s stands t stand (set frames t f)
 moved_by s stands frames t f stand h within thread is = record {
   count = length-set frames t f ∙ h.count;
@@ -77,12 +81,14 @@ module _ (s : Script) (stands : List Stand) (frames : List Standing) (t : ℕ) (
   abbrev here : Standing
   here = standing_at frames t
 
-  pub step_here : (facts : Facts) (x : Found) → Demands s facts t (stand_at t stands) x → Demands s facts here.thread here.stand x
+  pub step_here : (facts : Facts) (x : Found) → Demands s facts t (stand_at t stands) x
+      → Demands s facts here.thread here.stand x
   step_here facts x d =
       subst (λ (u : ℕ). Demands s facts u here.stand x) (sym (h.thread t within))
       (subst (λ (stand : Stand). Demands s facts t stand x) (sym (stand_here s stands frames t h)) d)
 
-  pub go_moves : (facts : Facts) (d : Demand) (answer : Answer) (finals list : List ℕ) (f : Standing) → f.thread ≡ here.thread
+  pub go_moves : (facts : Facts) (d : Demand) (answer : Answer) (finals list : List ℕ) (f : Standing)
+      → f.thread ≡ here.thread
       → f.stand ≡ advanced facts here.thread d answer finals list here.stand
       → HasMoved s stands t (advanced facts t d answer finals list (stand_at t stands)) (set frames t f)
   go_moves facts d answer finals list f thread is =
@@ -105,7 +111,8 @@ no_list x = if_room (step_posts x) (All IsObjectNumber []) (λ k d h. absurd (om
 pub room_two : (a : Action) (f : Standing) → is_retain a ≡ false → HasRoomFor a (most_listed a) f → HasRoom 2 f
 room_two a f plain h = by (is_retain a) plain h
   where
-    by : (b : Bool) → b ≡ false → cond (b && (cond {A = ℕ} b 0 2 == 0)) (Unit {0}) (HasRoom (cond {A = ℕ} b 0 2) f) → HasRoom 2 f
+    by : (b : Bool) → b ≡ false → cond (b && (cond {A = ℕ} b 0 2 == 0)) (Unit {0}) (HasRoom (cond {A = ℕ} b 0 2) f)
+        → HasRoom 2 f
     by true e h = absurd cc
     by false e h = h
 
@@ -114,7 +121,8 @@ less_room n f few h = record { frames = h.frames; bindings = h.bindings; callees
 
 -- ---- the entry of a thread
 
-no_lead : (s : Script) (st : State) (t : ℕ) (a : Action) (x : Answer) → t < 64 → ActionView a → IsLegalAs s st (record { thread = t; action = a; answer = x }) a → IsStep a
+no_lead : (s : Script) (st : State) (t : ℕ) (a : Action) (x : Answer) → t < 64 → ActionView a
+    → IsLegalAs s st (record { thread = t; action = a; answer = x }) a → IsStep a
 no_lead s st t _ x within (is_tick n) h = absurd (omega (arith, within, h.0))
 no_lead s st t _ x within is_stall h = absurd (omega (arith, within, h.0))
 no_lead s st t _ x within (is_step a step) h = step
@@ -127,7 +135,8 @@ next_steps g t a run may =
     no_lead s st t a (answer_if s t st (demanded s st t)) (omega (arith, may.thread, run.numbered.threads)) (action_view a)
     (legal_next s st t a (owned_fits s run.owned) (sound s g.journal run.owned) may.next may.few)
 
-pub after_entry : (s : Script) (es : List Entry) (t : ℕ) (a : Action) (x : Answer) (d : Demand) → IsStep a → demanded s (After s es) t ≡ Some d
+pub after_entry : (s : Script) (es : List Entry) (t : ℕ) (a : Action) (x : Answer) (d : Demand) → IsStep a
+    → demanded s (After s es) t ≡ Some d
     → After s (es ++ record { thread = t; action = a; answer = x } ∷ []) ≡ done_by s t (After s es) d
 after_entry s es t a x d step e =
     after-more s es (record { thread = t; action = a; answer = x }) ∙ step.after s t (After s es) ∙ ap (acted s t (After s es)) e
@@ -143,7 +152,8 @@ pub record Moves (step : Step) (st : State) (answer : Answer) (finals list : Lis
 abbrev pub IsMove : Script → ℕ → State → Demand → Answer → (finals list : List ℕ) → Type 0
 IsMove s t st d answer finals list = Moves (step_of s t st (frames_at t st) d) st answer finals list
 
-pub moved_stands : (s : Script) (t : ℕ) (st : State) (d : Demand) (answer : Answer) (finals list : List ℕ) → IsMove s t st d answer finals list
+pub moved_stands : (s : Script) (t : ℕ) (st : State) (d : Demand) (answer : Answer) (finals list : List ℕ)
+    → IsMove s t st d answer finals list
     → (done_by s t st d).stands ≡ with_stand t (advanced (facts_of st) t d answer finals list (stand_at t st.stands)) st.stands
 moved_stands s t st d answer finals list h =
     let step = step_of s t st (frames_at t st) d in
@@ -154,7 +164,8 @@ moved_stands s t st d answer finals list h =
     ∙ ap (λ (os : List ℕ). with_stand t (advanced (facts_of st) t d answer finals os stand) st.stands) h.list_is
 
 -- the threads stand as after the entry
-pub stand_after_entry : (g g' : GroundView) (t : ℕ) (a : Action) (d : Demand) (answer : Answer) (finals list : List ℕ) (frames : List Standing) → MayRun g.script → MayAct g t a
+pub stand_after_entry : (g g' : GroundView) (t : ℕ) (a : Action) (d : Demand) (answer : Answer) (finals list : List ℕ)
+    (frames : List Standing) → MayRun g.script → MayAct g t a
     → HasEntered t a g g' → demanded g.script (state_of g) t ≡ Some d → IsMove g.script t (state_of g) d answer finals list
     → HasMoved g.script (state_of g).stands t (advanced (facts_of (state_of g)) t d answer finals list (stand_at t (state_of g).stands)) frames
     → AreFrames g'.script (state_of g') frames
@@ -172,7 +183,8 @@ stand_after_entry g g' t a d answer finals list frames run may entered e h moved
     }
 
 -- the action of what a thread demands
-pub action_of_demand : (s : Script) (st : State) (t : ℕ) (a : Action) (d : Demand) → Next s st t ≡ Some a → demanded s st t ≡ Some d → action_in s (facts_of st) t (frames_at t st) d ≡ a
+pub action_of_demand : (s : Script) (st : State) (t : ℕ) (a : Action) (d : Demand) → Next s st t ≡ Some a
+    → demanded s st t ≡ Some d → action_in s (facts_of st) t (frames_at t st) d ≡ a
 action_of_demand s st t a d next e =
     let acts = next_is s st t a next in
     ap (action_in s (facts_of st) t (frames_at t st)) (same d acts.demand (sym e ∙ acts.demands)) ∙ acts.action
@@ -181,7 +193,8 @@ action_of_demand s st t a d next e =
     same d d' q = cc
 
 -- the world has gone on, if the threads have moved by what was found
-pub gone_by : (g g' : GroundView) (r : Reserved) (d : Demand) (answer answer' : Answer) (finals finals' list : List ℕ) (frames : List Standing) → IsFound g r
+pub gone_by : (g g' : GroundView) (r : Reserved) (d : Demand) (answer answer' : Answer) (finals finals' list : List ℕ)
+    (frames : List Standing) → IsFound g r
     → HasEntered r.thread r.action g g' → demanded g.script (state_of g) r.thread ≡ Some d → IsMove g.script r.thread (state_of g) d answer finals list
     → answer' ≡ answer → finals' ≡ finals
     → HasMoved g.script (state_of g).stands r.thread (advanced (facts_of (state_of g)) r.thread d answer' finals' list (stand_at r.thread (state_of g).stands)) frames

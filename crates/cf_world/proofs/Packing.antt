@@ -81,7 +81,8 @@ module _ (s : Script) (t : ℕ) (st : State) (plain : IsPlainStand t (stand_at t
   line_same : (x y : BlockLine) → ◌≡◌ {A = Option BlockLine} (Some y) (Some x) → y ≡ x
   line_same x y e = cc
 
-  by_frame : (x : BlockLine) (f : Frame) (d : Demand) → f.kind ≡ of_block → f.block ≡ t → line_of d ≡ Some x → FrameView s (facts_of st) t f d → IsLineAt x
+  by_frame : (x : BlockLine) (f : Frame) (d : Demand) → f.kind ≡ of_block → f.block ≡ t → line_of d ≡ Some x
+      → FrameView s (facts_of st) t f d → IsLineAt x
   by_frame x f _ kind block e (is_line y at) =
       (f.number, ap (λ (b : ℕ). slice_get (thread_lines s b) f.number) (sym block) ∙ subst (λ (k : Kind). slice_get (frame_lines s k f.block) f.number ≡ Some y) kind at ∙ e)
   by_frame x f _ kind block e (is_call k called found) = absurd cc
@@ -90,7 +91,8 @@ module _ (s : Script) (t : ℕ) (st : State) (plain : IsPlainStand t (stand_at t
   by_frame x f _ kind block e (is_phase r p q) = absurd cc
   by_frame x f _ kind block e (is_close r q) = absurd cc
 
-  by_work : (x : BlockLine) (work : List Work) (d : Demand) → line_of d ≡ Some x → WorkView (facts_of st) work d → IsLineAt x
+  by_work : (x : BlockLine) (work : List Work) (d : Demand) → line_of d ≡ Some x → WorkView (facts_of st) work d
+      → IsLineAt x
   by_work x work _ e (first_owes p first) = absurd cc
   by_work x work _ e (first_spends i first) = absurd cc
   by_work x work _ e (first_drops b k p left first) = absurd cc
@@ -98,7 +100,8 @@ module _ (s : Script) (t : ℕ) (st : State) (plain : IsPlainStand t (stand_at t
   first_same : (f g : Frame) (fs gs : List Frame) → ◌≡◌ {A = List Frame} (f ∷ fs) (g ∷ gs) → f ≡ g
   first_same f g fs gs e = cc
 
-  by_stand : (x : BlockLine) (d : Demand) → line_of d ≡ Some x → StandView s (facts_of st) t (stand_at t st.stands) d → IsLineAt x
+  by_stand : (x : BlockLine) (d : Demand) → line_of d ≡ Some x → StandView s (facts_of st) t (stand_at t st.stands) d
+      → IsLineAt x
   by_stand x d e (of_work w view) = by_work x (stand_at t st.stands).work d e view
   by_stand x d e (of_frame f fs w q view) =
       let top : plain.top ≡ f = first_same plain.top f [] fs (sym plain.frames ∙ q) in
@@ -108,7 +111,8 @@ module _ (s : Script) (t : ℕ) (st : State) (plain : IsPlainStand t (stand_at t
   pub line_at : (x : BlockLine) → demanded s st t ≡ Some (does x) → IsLineAt x
   line_at x e = by_stand x (does x) refl (stand_view s (facts_of st) t (stand_at t st.stands) (does x) e)
 
-  setup_packs : (u k : ℕ) (v : Option ℕ) (w n : ℕ) → slice_get (thread_lines s w) n ≡ Some (packs u k v) → IsWithin s u k
+  setup_packs : (u k : ℕ) (v : Option ℕ) (w n : ℕ) → slice_get (thread_lines s w) n ≡ Some (packs u k v)
+      → IsWithin s u k
   setup_packs u k v zero n at = packs_within s n u k v at
   setup_packs u k v (suc w) n at = absurd (threads_pack_nothing s w n (packs u k v) at)
 
@@ -147,7 +151,8 @@ module _ (s : Script) (t : ℕ) (st : State) (bodies : List Held) (rows : List (
     has_place : k < length (get_or rows t [])
     has_place = subst (λ (n : ℕ). k < n) (sym (h.parcels_are.has.places t thread)) place
 
-    claimed : (object : Option ℕ) → first_held (parcel t k) st.edges ≡ object → Enters s t st (answer_for object) [] bodies (rows_with rows t k None) flags time
+    claimed : (object : Option ℕ) → first_held (parcel t k) st.edges ≡ object
+        → Enters s t st (answer_for object) [] bodies (rows_with rows t k None) flags time
     claimed None none =
         let is = ap (λ (o : Option ℕ). claim_step st (parcel t k) o to) none in
         enters_by s t st (does (claims k v)) (idle st answers.Skip) answers.Skip bodies (rows_with rows t k None) flags time e is refl
@@ -183,7 +188,8 @@ module _ (s : Script) (t : ℕ) (st : State) (bodies : List Held) (rows : List (
         (subst (λ (q : Option ℕ). MayUseAll st t [] (uses_if takes q)) (ap (λ bs. object_at bs v) (top_bindings (frames_at t st)) ∙ is)
         (demand_may s t st is_sound own (does (packs u k v)) e)).0
 
-    packed : (object : Option ℕ) → object_at (bindings_of (frames_at t st)) v ≡ object → Enters s t st (answer_for object) [] bodies (packed_rows rows u k object) flags time
+    packed : (object : Option ℕ) → object_at (bindings_of (frames_at t st)) v ≡ object
+        → Enters s t st (answer_for object) [] bodies (packed_rows rows u k object) flags time
     packed None none =
         let is = ap (λ (o : Option ℕ). pack_step t st from o (parcel u k)) none in
         enters_by s t st (does (packs u k v)) (idle st answers.Skip) answers.Skip bodies rows flags time e is refl
@@ -205,5 +211,6 @@ module _ (s : Script) (t : ℕ) (st : State) (bodies : List Held) (rows : List (
         (at_place u k (Some o) (flowed (grows [] moves) st.edges) has_row has_word (first_moved_here (parcel u k) r st.edges)
         (λ w m apart. first_moved (parcel w m) r (parcel u k) st.edges (parcel_other w m q.0.holder other) (parcel_apart w m u k apart))))
 
-    pub pack_enters : (object : Option ℕ) → object_at (bindings_of (frames_at t st)) v ≡ object → Enters s t st (answer_for object) [] bodies (packed_rows rows u k object) flags time
+    pub pack_enters : (object : Option ℕ) → object_at (bindings_of (frames_at t st)) v ≡ object
+        → Enters s t st (answer_for object) [] bodies (packed_rows rows u k object) flags time
     pack_enters object is = packed object is

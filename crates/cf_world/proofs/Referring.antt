@@ -42,20 +42,24 @@ use Rattle.cf_world.specs.Referring.{AddsGround, variable_references, thread_ref
 
 -- ---- lists, one after another
 
-weigh-below-suc : (w : Reference → ℕ) (f : ℕ → List Reference) (n : ℕ) → weigh w (below f (suc n)) ≡ weigh w (below f n) + weigh w (f n)
+weigh-below-suc : (w : Reference → ℕ) (f : ℕ → List Reference) (n : ℕ)
+    → weigh w (below f (suc n)) ≡ weigh w (below f n) + weigh w (f n)
 weigh-below-suc w f n = ap (weigh w) (below-suc f n) ∙ weigh-append w (below f n) (f n)
 
-weigh-below-none : (w : Reference → ℕ) (f : ℕ → List Reference) (n : ℕ) → ((i : ℕ) → weigh w (f i) ≡ 0) → weigh w (below f n) ≡ 0
+weigh-below-none : (w : Reference → ℕ) (f : ℕ → List Reference) (n : ℕ) → ((i : ℕ) → weigh w (f i) ≡ 0)
+    → weigh w (below f n) ≡ 0
 weigh-below-none w f zero h = ap (weigh w) (below-none f)
 weigh-below-none w f (suc n) h = omega (arith, weigh-below-suc w f n, h n, weigh-below-none w f n h)
 
-weigh-below-other : (w : Reference → ℕ) (f : ℕ → List Reference) (n k : ℕ) → n ≤ k → ((i : ℕ) → (i ≡ k → ⊥) → weigh w (f i) ≡ 0) → weigh w (below f n) ≡ 0
+weigh-below-other : (w : Reference → ℕ) (f : ℕ → List Reference) (n k : ℕ) → n ≤ k
+    → ((i : ℕ) → (i ≡ k → ⊥) → weigh w (f i) ≡ 0) → weigh w (below f n) ≡ 0
 weigh-below-other w f zero k le h = ap (weigh w) (below-none f)
 weigh-below-other w f (suc n) k le h =
     omega (arith, weigh-below-suc w f n, h n (λ e. omega (arith, e, le)), weigh-below-other w f n k (omega (arith, le)) h)
 
 -- where one list alone weighs something, and no list after the last does
-weigh-below : (w : Reference → ℕ) (f : ℕ → List Reference) (n k : ℕ) → ((i : ℕ) → (i ≡ k → ⊥) → weigh w (f i) ≡ 0) → (n ≤ k → weigh w (f k) ≡ 0) → weigh w (below f n) ≡ weigh w (f k)
+weigh-below : (w : Reference → ℕ) (f : ℕ → List Reference) (n k : ℕ) → ((i : ℕ) → (i ≡ k → ⊥) → weigh w (f i) ≡ 0)
+    → (n ≤ k → weigh w (f k) ≡ 0) → weigh w (below f n) ≡ weigh w (f k)
 weigh-below w f zero k others outside = ap (weigh w) (below-none f) ∙ sym (outside (omega arith))
 weigh-below w f (suc n) k others outside = elim (eqb_tells n k) [
   | inl e ↦
@@ -72,7 +76,8 @@ weigh-below w f (suc n) k others outside = elim (eqb_tells n k) [
 
 -- ---- what each list weighs
 
-copies-weigh : (k : Holder) (o : ℕ) (found : Option ℕ) (n : ℕ) → weigh (one (held_by k o)) (map (held_by k) (copies found n)) ≡ one_if found o n
+copies-weigh : (k : Holder) (o : ℕ) (found : Option ℕ) (n : ℕ)
+    → weigh (one (held_by k o)) (map (held_by k) (copies found n)) ≡ one_if found o n
 copies-weigh k o None n = refl
 copies-weigh k o (Some p) n = by (eqb p o) refl n
   where
@@ -82,14 +87,16 @@ copies-weigh k o (Some p) n = by (eqb p o) refl n
     by false e zero = refl
     by false e (suc n) = omega (arith, one_own k o p, ap counted e, by false e n)
 
-owed-weigh : (t o : ℕ) (work : List Work) → weigh (one (held_by (owed t) o)) (map (held_by (owed t)) (owed_objects work)) ≡ owed_in o work
+owed-weigh : (t o : ℕ) (work : List Work)
+    → weigh (one (held_by (owed t) o)) (map (held_by (owed t)) (owed_objects work)) ≡ owed_in o work
 owed-weigh t o [] = refl
 owed-weigh t o (release_of p ∷ work) = omega (arith, one_own (owed t) o p, owed-weigh t o work)
 owed-weigh t o (spend_of i ∷ work) = owed-weigh t o work
 owed-weigh t o (slots_of b k ∷ work) = owed-weigh t o work
 
 -- what a place of a parcel has is what its one reference leads to
-parcel-weigh : (h : Holder) (es : List Reference) (o : ℕ) (found : Option ℕ) → first_held h es ≡ found → HasOneAtMost h es → weigh (one (held_by h o)) (held_if h found) ≡ weigh (one (held_by h o)) es
+parcel-weigh : (h : Holder) (es : List Reference) (o : ℕ) (found : Option ℕ) → first_held h es ≡ found
+    → HasOneAtMost h es → weigh (one (held_by h o)) (held_if h found) ≡ weigh (one (held_by h o)) es
 parcel-weigh h es o None e single = sym (single.none e o)
 parcel-weigh h es o (Some p) e single =
     let left = without (held_by h p) es in
@@ -109,7 +116,8 @@ slot_part b c q = cc
 parcel_part : (t k u m : ℕ) → parcel t k ≡ parcel u m → (t ≡ u) × (k ≡ m)
 parcel_part t k u m q = (cc, cc)
 
-thread-none : (s : Script) (r : Reference) (t : ℕ) (stand : Stand) → ((v : ℕ) → r.holder ≡ variable t 0 v → ⊥) → (r.holder ≡ owed t → ⊥) → weigh (one r) (thread_references s t stand) ≡ 0
+thread-none : (s : Script) (r : Reference) (t : ℕ) (stand : Stand) → ((v : ℕ) → r.holder ≡ variable t 0 v → ⊥)
+    → (r.holder ≡ owed t → ⊥) → weigh (one r) (thread_references s t stand) ≡ 0
 thread-none s r t stand a b =
     let f = top_frame stand.frames in
     omega (
@@ -119,12 +127,14 @@ thread-none s r t stand a b =
       other_weigh r (owed t) (owed_objects stand.work) b,
     )
 
-none-past : (found : Option ℕ) (k : Holder) (w : Reference → ℕ) (n : ℕ) → found ≡ None → weigh w (map (held_by k) (copies found n)) ≡ 0
+none-past : (found : Option ℕ) (k : Holder) (w : Reference → ℕ) (n : ℕ) → found ≡ None
+    → weigh w (map (held_by k) (copies found n)) ≡ 0
 none-past None k w n e = refl
 none-past (Some o) k w n e = absurd cc
 
 -- a variable of a thread's frame
-thread-variable : (s : Script) (t v o : ℕ) (stand : Stand) → HasVariables stand → weigh (one (held_by (variable t 0 v) o)) (thread_references s t stand) ≡ frame_holds s (top_frame stand.frames) v o
+thread-variable : (s : Script) (t v o : ℕ) (stand : Stand) → HasVariables stand
+    → weigh (one (held_by (variable t 0 v) o)) (thread_references s t stand) ≡ frame_holds s (top_frame stand.frames) v o
 thread-variable s t v o stand few =
     let f = top_frame stand.frames in
     let r = held_by (variable t 0 v) o in
@@ -140,7 +150,8 @@ thread-variable s t v o stand few =
     )
 
 -- what its work owes
-thread-owed : (s : Script) (t o : ℕ) (stand : Stand) → weigh (one (held_by (owed t) o)) (thread_references s t stand) ≡ owed_in o stand.work
+thread-owed : (s : Script) (t o : ℕ) (stand : Stand)
+    → weigh (one (held_by (owed t) o)) (thread_references s t stand) ≡ owed_in o stand.work
 thread-owed s t o stand =
     let f = top_frame stand.frames in
     let r = held_by (owed t) o in
@@ -157,11 +168,13 @@ drop-none : (n : ℕ) → ◌≡◌ {A = List ℕ} (drop n []) []
 drop-none zero = refl
 drop-none (suc n) = refl
 
-left_is : (bodies : List Held) (o : ℕ) (n : ℕ) (h : Option Held) → slice_get bodies o ≡ h → given_up_by h ≡ n → left_to h ≡ drop n (slots_at (option_map (λ (b : Held). b.object) h))
+left_is : (bodies : List Held) (o : ℕ) (n : ℕ) (h : Option Held) → slice_get bodies o ≡ h → given_up_by h ≡ n
+    → left_to h ≡ drop n (slots_at (option_map (λ (b : Held). b.object) h))
 left_is bodies o n None e g = sym (drop-none n)
 left_is bodies o n (Some h) e g = ap (λ (k : ℕ). drop k (slots_in h.object.content)) g
 
-left-mirrors : (p : Parts) (bodies : List Held) (o : ℕ) → Mirrors p bodies → left_in bodies o ≡ left_of p.objects p.dropped o
+left-mirrors : (p : Parts) (bodies : List Held) (o : ℕ) → Mirrors p bodies
+    → left_in bodies o ≡ left_of p.objects p.dropped o
 left-mirrors p bodies o h =
     left_is bodies o (times o p.dropped) (slice_get bodies o) refl (h.given_up o)
     ∙ ap (λ (ob : Option Object). drop (times o p.dropped) (slots_at ob)) (sym (get-map bodies o) ∙ ap (λ (os : List Object). slice_get os o) h.objects_are)
@@ -191,7 +204,8 @@ no_stand (x ∷ xs) (suc t) le = no_stand xs t (omega (arith, le))
 
 -- a thread is in its block alone, or it is not there; its variables have small numbers
 record IsLone (t : ℕ) (stand : Stand) : Type 0 where
-  frames : (s : Script) (d v o : ℕ) → frames_hold s stand.frames d v o ≡ cond (eqb 0 d) (frame_holds s (top_frame stand.frames) v o) 0
+  frames : (s : Script) (d v o : ℕ)
+      → frames_hold s stand.frames d v o ≡ cond (eqb 0 d) (frame_holds s (top_frame stand.frames) v o) 0
   callouts : (d o : ℕ) → callouts_hold stand.frames d o ≡ 0
   variables : HasVariables stand
 
@@ -233,10 +247,12 @@ module _ (s : Script) (st : State) (rows : List (List (Option ℕ))) (bodies : L
   weigh-all : (w : Reference → ℕ) → weigh w all ≡ weigh w of_threads + weigh w of_parcels + weigh w of_slots
   weigh-all w = omega (arith, weigh-append w (of_threads ++ of_parcels) of_slots, weigh-append w of_threads of_parcels)
 
-  no_threads : (r : Reference) → ((t v : ℕ) → r.holder ≡ variable t 0 v → ⊥) → ((t : ℕ) → r.holder ≡ owed t → ⊥) → weigh (one r) of_threads ≡ 0
+  no_threads : (r : Reference) → ((t v : ℕ) → r.holder ≡ variable t 0 v → ⊥) → ((t : ℕ) → r.holder ≡ owed t → ⊥)
+      → weigh (one r) of_threads ≡ 0
   no_threads r a b = weigh-below-none (one r) (stand_references s st.stands) s.thread_count (λ t. thread-none s r t (stand_at t st.stands) (a t) (b t))
 
-  places-none : (r : Reference) (t : ℕ) → ((k : ℕ) → r.holder ≡ parcel t k → ⊥) → weigh (one r) (parcel_references rows t) ≡ 0
+  places-none : (r : Reference) (t : ℕ) → ((k : ℕ) → r.holder ≡ parcel t k → ⊥)
+      → weigh (one r) (parcel_references rows t) ≡ 0
   places-none r t h =
       weigh-below-none (one r) (place_references rows t) (length (slice_index_or rows t [])) (λ k. other_weigh r (parcel t k) (option_to_list (parcel_at rows t k)) (h k))
 
@@ -261,7 +277,8 @@ module _ (s : Script) (st : State) (rows : List (List (Option ℕ))) (bodies : L
   no_work : (t o : ℕ) → s.thread_count ≤ t → owed_in o (stand_at t st.stands).work ≡ 0
   no_work t o le = ap (λ (x : Stand). owed_in o x.work) (gone t le)
 
-  own_variable : (t v o : ℕ) → weigh (one (held_by (variable t 0 v) o)) of_threads ≡ frame_holds s (top_frame (stand_at t st.stands).frames) v o
+  own_variable : (t v o : ℕ)
+      → weigh (one (held_by (variable t 0 v) o)) of_threads ≡ frame_holds s (top_frame (stand_at t st.stands).frames) v o
   own_variable t v o =
       let r = held_by (variable t 0 v) o in
       let here = thread-variable s t v o (stand_at t st.stands) (lone t).variables in
@@ -279,7 +296,8 @@ module _ (s : Script) (st : State) (rows : List (List (Option ℕ))) (bodies : L
       (λ le. here ∙ no_work t o le)
       ∙ here
 
-  variable_same : (t d v o : ℕ) → weigh (one (held_by (variable t d v) o)) all ≡ frames_hold s (stand_at t st.stands).frames d v o
+  variable_same : (t d v o : ℕ)
+      → weigh (one (held_by (variable t d v) o)) all ≡ frames_hold s (stand_at t st.stands).frames d v o
   variable_same t d v o = elim (eqb_tells 0 d) [
     | inl e ↦
         let r = held_by (variable t 0 v) o in
@@ -318,11 +336,13 @@ module _ (s : Script) (st : State) (rows : List (List (Option ℕ))) (bodies : L
       )
 
   -- a holder that none of the lists has
-  none_same : (h : Holder) (o : ℕ) → ((t v : ℕ) → h ≡ variable t 0 v → ⊥) → ((t : ℕ) → h ≡ owed t → ⊥) → ((t k : ℕ) → h ≡ parcel t k → ⊥) → ((b : ℕ) → h ≡ slot b → ⊥) → weigh (one (held_by h o)) all ≡ 0
+  none_same : (h : Holder) (o : ℕ) → ((t v : ℕ) → h ≡ variable t 0 v → ⊥) → ((t : ℕ) → h ≡ owed t → ⊥)
+      → ((t k : ℕ) → h ≡ parcel t k → ⊥) → ((b : ℕ) → h ≡ slot b → ⊥) → weigh (one (held_by h o)) all ≡ 0
   none_same h o a b c d =
       let r = held_by h o in omega (arith, weigh-all (one r), no_threads r a b, no_parcels r c, no_slots r d)
 
-  own_place : (t k o : ℕ) → weigh (one (held_by (parcel t k) o)) (parcel_references rows t) ≡ weigh (one (held_by (parcel t k) o)) (place_references rows t k)
+  own_place : (t k o : ℕ)
+      → weigh (one (held_by (parcel t k) o)) (parcel_references rows t) ≡ weigh (one (held_by (parcel t k) o)) (place_references rows t k)
   own_place t k o =
       let r = held_by (parcel t k) o in
       weigh-below (one r) (place_references rows t) (length (slice_index_or rows t [])) k
@@ -333,7 +353,8 @@ module _ (s : Script) (st : State) (rows : List (List (Option ℕ))) (bodies : L
   no_parcel t w le =
       ap (λ (n : ℕ). weigh w (below (place_references rows t) n)) (ap length (no_row rows t le)) ∙ ap (weigh w) (below-none (place_references rows t))
 
-  own_parcel : (t k o : ℕ) → weigh (one (held_by (parcel t k) o)) of_parcels ≡ weigh (one (held_by (parcel t k) o)) (place_references rows t k)
+  own_parcel : (t k o : ℕ)
+      → weigh (one (held_by (parcel t k) o)) of_parcels ≡ weigh (one (held_by (parcel t k) o)) (place_references rows t k)
   own_parcel t k o =
       let r = held_by (parcel t k) o in
       weigh-below (one r) (parcel_references rows) (length rows) t
@@ -390,7 +411,9 @@ module _ (s : Script) (st : State) (rows : List (List (Option ℕ))) (bodies : L
       ∙ sym (plain.common_items t o)
 
   -- as many of them as of the state's pass each test
-  pub edges_same : (p : Edge → Bool) (es : List Edge) → es ≡ (edges_of of_threads ++ edges_of of_parcels) ++ edges_of of_slots → count_by p es ≡ count_by p (edges_of st.edges)
+  pub edges_same : (p : Edge → Bool) (es : List Edge)
+      → es ≡ (edges_of of_threads ++ edges_of of_parcels) ++ edges_of of_slots
+      → count_by p es ≡ count_by p (edges_of st.edges)
   edges_same p es is =
       let whole : es ≡ edges_of all =
       is ∙ ap (λ (fs : List Edge). fs ++ edges_of of_slots) (sym (map-append edge_of of_threads of_parcels))
@@ -398,7 +421,8 @@ module _ (s : Script) (st : State) (rows : List (List (Option ℕ))) (bodies : L
       ap (count_by p) whole ∙ same_counts p all st.edges (λ r. reference_same r.holder r.object)
 
 -- the edges of a world are those of the state after its journal
-pub world-edges : (s : Script) (journal : List Entry) (rows : List (List (Option ℕ))) (bodies : List Held) (frames : List Standing) (p : Edge → Bool) (es : List Edge)
+pub world-edges : (s : Script) (journal : List Entry) (rows : List (List (Option ℕ))) (bodies : List Held)
+    (frames : List Standing) (p : Edge → Bool) (es : List Edge)
     → MayRun s → Mirrors (After s journal).parts bodies → HoldsParcels s (After s journal) rows → AreFrames s (After s journal) frames → AllHaveVariables (stands_of frames) (length frames)
     → es ≡ (edges_of (below (stand_references s (stands_of frames)) (length frames)) ++ edges_of (below (parcel_references rows) (length rows))) ++ edges_of (below (slot_references bodies) (length bodies))
     → count_by p es ≡ count_by p (edges_of (After s journal).edges)
@@ -413,12 +437,14 @@ world-edges s journal rows bodies frames p es runs mirrors parcels framed variab
     ∙ ap (λ (ss : List Stand). (edges_of (below (stand_references s ss) s.thread_count) ++ places) ++ slots) framed.stand)
 
 -- a world has at most as many bodies as there are numbers of objects
-pub few-bodies : (s : Script) (journal : List Entry) (bodies : List Held) → IsLegal s journal → Mirrors (After s journal).parts bodies → length bodies ≤ 65536
+pub few-bodies : (s : Script) (journal : List Entry) (bodies : List Held) → IsLegal s journal
+    → Mirrors (After s journal).parts bodies → length bodies ≤ 65536
 few-bodies s journal bodies legal mirrors =
     omega (arith, (few_of_legal s journal legal).objects, length-objects bodies, ap length mirrors.objects_are)
 
 -- the edges that are listed of a world whose script has begun
-pub begun-edges : (w : Inside) (p : Edge → Bool) (none first es : List Edge) → IsBegun w → MayRun w.ground.script → none ≡ []
+pub begun-edges : (w : Inside) (p : Edge → Bool) (none first es : List Edge) → IsBegun w → MayRun w.ground.script
+    → none ≡ []
     → first ≡ none ++ edges_of (below (stand_references w.ground.script (stands_of w.frames.items)) (length w.frames.items)) → AllHaveVariables (stands_of w.frames.items) (length w.frames.items)
     → AddsGround w.ground first es → count_by p es ≡ count_by p (edges_of (edges_in (view_of w)))
 begun-edges w p none first es begun runs empty is variables adds =

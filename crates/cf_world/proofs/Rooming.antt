@@ -51,7 +51,8 @@ stays_for a n f f' stays h = by (is_retain a && n == 0) h
     by true h = tt
     by false h = record { frames = omega (arith, h.frames, stays.frames); bindings = omega (arith, h.bindings, stays.bindings); callees = omega (arith, h.callees, stays.callees); work = omega (arith, h.work, stays.work) }
 
-pub stays_all : (frames : List Standing) (t : ℕ) (f : Standing) (a : Action) (n u : ℕ) → t < length frames → RoomStays (get_or frames t nobody) f
+pub stays_all : (frames : List Standing) (t : ℕ) (f : Standing) (a : Action) (n u : ℕ) → t < length frames
+    → RoomStays (get_or frames t nobody) f
     → HasRoomFor a n (get_or frames u nobody) → HasRoomFor a n (get_or (set frames t f) u nobody)
 stays_all frames t f a n u within stays h = by (cases_eq u t)
   where
@@ -62,13 +63,15 @@ stays_all frames t f a n u within stays h = by (cases_eq u t)
     by (inr ne) = subst (HasRoomFor a n) (sym (get_or-set_other frames t u f nobody ne)) h
 
 -- where the threads stand is as it was
-set_same : (frames : List Standing) (t : ℕ) (f : Standing) → t < length frames → f.stand ≡ (get_or frames t nobody).stand
+set_same : (frames : List Standing) (t : ℕ) (f : Standing) → t < length frames
+    → f.stand ≡ (get_or frames t nobody).stand
     → map (λ (g : Standing). g.stand) (set frames t f) ≡ map (λ (g : Standing). g.stand) frames
 set_same [] t f within e = absurd (omega (arith, within))
 set_same (g ∷ gs) zero f within e = ap (λ (x : Stand). x ∷ map (λ (g : Standing). g.stand) gs) e
 set_same (g ∷ gs) (suc t) f within e = ap (λ (xs : List Stand). g.stand ∷ xs) (set_same gs t f (omega (arith, within)) e)
 
-pub stand_stays : (s : Script) (stands : List Stand) (frames : List Standing) (t : ℕ) (f : Standing) → t < length frames → f.thread ≡ (get_or frames t nobody).thread
+pub stand_stays : (s : Script) (stands : List Stand) (frames : List Standing) (t : ℕ) (f : Standing) → t < length frames
+    → f.thread ≡ (get_or frames t nobody).thread
     → f.stand ≡ (get_or frames t nobody).stand → StandSo s stands frames → StandSo s stands (set frames t f)
 stand_stays s stands frames t f within thread stand h = record {
   count = length-set frames t f ∙ h.count;
@@ -102,7 +105,8 @@ deed_maps (Binds v) P Q f h = f h
 deed_maps (Retains v) P Q f h = tt
 deed_maps (Releases v) P Q f h = tt
 
-pub unneeded : (g : GroundView) (o : Option Statement) (used : List (Option ℕ)) (needed : Bool) → IsNeeded o needed → needed ≡ false → ReadyIf g o used
+pub unneeded : (g : GroundView) (o : Option Statement) (used : List (Option ℕ)) (needed : Bool) → IsNeeded o needed
+    → needed ≡ false → ReadyIf g o used
 unneeded g None used needed is e = tt
 unneeded g (Some x) used needed is e = no_deed (ownership_of x) (IsReady g x used) (sym is ∙ e)
 
@@ -110,14 +114,17 @@ module _ (g g' : GroundView) (script : g'.script ≡ g.script) (journal : g'.jou
   state_same : state_of g' ≡ state_of g
   state_same = ap (λ (s : Script). After s g'.journal) script ∙ ap (After g.script) journal
 
-  deed_same : (x : Statement) (used : List (Option ℕ)) → deed_of g'.script (state_of g') x used ≡ deed_of g.script (state_of g) x used
+  deed_same : (x : Statement) (used : List (Option ℕ))
+      → deed_of g'.script (state_of g') x used ≡ deed_of g.script (state_of g) x used
   deed_same x used = ap (λ (s : Script). deed_of s (state_of g') x used) script ∙ ap (λ (st : State). deed_of g.script st x used) state_same
 
-  pub ready_made : (b n : ℕ) (used : List (Option ℕ)) → IfSome (statement_at g.script b n) (λ x. g'.ready ≡ Some (deed_of g.script (state_of g) x used))
+  pub ready_made : (b n : ℕ) (used : List (Option ℕ))
+      → IfSome (statement_at g.script b n) (λ x. g'.ready ≡ Some (deed_of g.script (state_of g) x used))
       → IfSome (statement_at g.script b n) (λ x. 0 < g'.body_room) → ReadyIf g' (statement_at g'.script b n) used
   ready_made b n used ready room = subst (λ (s : Script). ReadyIf g' (statement_at s b n) used) (sym script) (by (statement_at g.script b n) ready room)
     where
-      by : (o : Option Statement) → IfSome o (λ x. g'.ready ≡ Some (deed_of g.script (state_of g) x used)) → IfSome o (λ x. 0 < g'.body_room) → ReadyIf g' o used
+      by : (o : Option Statement) → IfSome o (λ x. g'.ready ≡ Some (deed_of g.script (state_of g) x used))
+          → IfSome o (λ x. 0 < g'.body_room) → ReadyIf g' o used
       by None e more = tt
       by (Some x) e more = with_deed (ownership_of x) (IsReady g' x used) (record { deed = e ∙ ap (λ (d : Ready). Some d) (sym (deed_same x used)); room = more })
 
@@ -133,7 +140,8 @@ module _ (g g' : GroundView) (script : g'.script ≡ g.script) (journal : g'.jou
 
 -- ---- what was reserved
 
-pub reserved_stays : (g g' : GroundView) (frames frames' : List Standing) → g'.script ≡ g.script → g'.journal ≡ g.journal → g'.journal_room ≡ g.journal_room
+pub reserved_stays : (g g' : GroundView) (frames frames' : List Standing) → g'.script ≡ g.script
+    → g'.journal ≡ g.journal → g'.journal_room ≡ g.journal_room
     → ((a : Action) (n u : ℕ) → HasRoomFor a n (standing_at frames u) → HasRoomFor a n (standing_at frames' u)) → ((f : Found) → IsReadyFor g f → IsReadyFor g' f)
     → (r : Reserved) → IsReserved g frames r → IsReserved g' frames' r
 reserved_stays g g' frames frames' script journal room stays ready r h = record {
@@ -142,6 +150,7 @@ reserved_stays g g' frames frames' script journal room stays ready r h = record 
   ready = ready r.found h.ready;
 }
 
-pub frames_stay : (g g' : GroundView) (frames : List Standing) → g'.script ≡ g.script → g'.journal ≡ g.journal → AreFrames g.script (state_of g) frames → AreFrames g'.script (state_of g') frames
+pub frames_stay : (g g' : GroundView) (frames : List Standing) → g'.script ≡ g.script → g'.journal ≡ g.journal
+    → AreFrames g.script (state_of g) frames → AreFrames g'.script (state_of g') frames
 frames_stay g g' frames script journal h =
     subst (λ (s : Script). AreFrames s (After s g'.journal) frames) (sym script) (subst (λ (es : List Entry). AreFrames g.script (After g.script es) frames) (sym journal) h)

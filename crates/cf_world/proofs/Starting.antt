@@ -19,12 +19,14 @@ pub record StartTo (n : ℕ) (frames : List Standing) : Type 0 where
 pub start_none : StartTo 0 []
 start_none = record { count = refl; thread = λ t below. absurd (omega (arith, below)); stand = refl }
 
-before : (fs : List Standing) (f : Standing) (t : ℕ) → t < length fs → get_or (fs ++ f ∷ []) t nobody ≡ get_or fs t nobody
+before : (fs : List Standing) (f : Standing) (t : ℕ) → t < length fs
+    → get_or (fs ++ f ∷ []) t nobody ≡ get_or fs t nobody
 before [] f t h = absurd (omega (arith, h))
 before (g ∷ gs) f zero h = refl
 before (g ∷ gs) f (suc t) h = before gs f t (omega (arith, h))
 
-pub start_more : (n : ℕ) (fs : List Standing) (f : Standing) → StartTo n fs → f.thread ≡ n → f.stand ≡ opening_stand n → StartTo (n + 1) (fs ++ f ∷ [])
+pub start_more : (n : ℕ) (fs : List Standing) (f : Standing) → StartTo n fs → f.thread ≡ n → f.stand ≡ opening_stand n
+    → StartTo (n + 1) (fs ++ f ∷ [])
 start_more n fs f h thread stand = record {
   count = length-append fs (f ∷ []) ∙ ap (λ (k : ℕ). k + 1) h.count;
   thread = λ t below. by t below (cases_eq t n);
@@ -44,7 +46,8 @@ start_more n fs f h thread stand = record {
         let under : t < n = within t n below other in
         ap (λ (g : Standing). g.thread) (before fs f t (omega (arith, h.count, under))) ∙ h.thread t under
 
-pub all_started : (s : Script) (n : ℕ) (fs : List Standing) → n ≡ s.thread_count → StartTo n fs → StandSo s (start s).stands fs
+pub all_started : (s : Script) (n : ℕ) (fs : List Standing) → n ≡ s.thread_count → StartTo n fs
+    → StandSo s (start s).stands fs
 all_started s n fs e h = record {
   count = h.count ∙ e;
   thread = λ t below. h.thread t (omega (arith, e, below));

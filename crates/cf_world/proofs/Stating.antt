@@ -92,12 +92,14 @@ module _ (t : ℕ) (st : State) (a : Answer) (change : Change) where
       let out = given_out (slice_get st.parts.objects b) change in
       append_none (map (λ (r : Reference). r.object) (map (held_by (slot b)) out)) ∙ objects_held (slot b) out
 
-  deal_mirrors : (o : Option ℕ) (bodies : List Held) → Mirrors st.parts bodies → Mirrors (record (changes o).parts { finalised = step_finals (changes o) st ++ (changes o).parts.finalised }) (bodies_changed o change bodies)
+  deal_mirrors : (o : Option ℕ) (bodies : List Held) → Mirrors st.parts bodies
+      → Mirrors (record (changes o).parts { finalised = step_finals (changes o) st ++ (changes o).parts.finalised }) (bodies_changed o change bodies)
   deal_mirrors None bodies h = mirrors_by _ bodies (mirrored st.parts bodies h)
   deal_mirrors (Some b) bodies h =
       mirrors_by _ (bodies_changed (Some b) change bodies) (mirrored_changed st.parts.objects st.parts.finalised st.parts.dropped bodies (Some b) change (mirrored st.parts bodies h))
 
-  deal_parcels : (o : Option ℕ) (u k : ℕ) → first_held (parcel u k) (flowed (changes o).flow st.edges) ≡ first_held (parcel u k) st.edges
+  deal_parcels : (o : Option ℕ) (u k : ℕ)
+      → first_held (parcel u k) (flowed (changes o).flow st.edges) ≡ first_held (parcel u k) st.edges
   deal_parcels None u k = refl
   deal_parcels (Some b) u k =
       first_flowed (parcel u k) (changes (Some b)).flow st.edges (passes_held (parcel u k) (slot b) (owed t) (taken_in (slice_get st.parts.objects b) change) (given_out (slice_get st.parts.objects b) change) refl refl)
@@ -147,7 +149,9 @@ module _ (g : Inside) (t : ℕ) (inv : IsGround g) (deed : IsDeed (view_of g) t)
   pub dealt_ready : g.store.ready ≡ Some (deed_of s st x used)
   dealt_ready = deed.ready
 
-  pub dealt_follows : (bodies : List Held) → IfSome g.store.ready (λ (r : Ready). bodies ≡ bodies_changed r.object r.deed.change g.store.bodies) → Follows s (done_by s t st (does (says x))) bodies g.parcels g.flags.items g.time
+  pub dealt_follows : (bodies : List Held)
+      → IfSome g.store.ready (λ (r : Ready). bodies ≡ bodies_changed r.object r.deed.change g.store.bodies)
+      → Follows s (done_by s t st (does (says x))) bodies g.parcels g.flags.items g.time
   dealt_follows bodies h =
       let is : bodies ≡ bodies_changed (first_of used) does_it.change g.store.bodies = if_some g.store.ready (deed_of s st x used) _ deed.ready h in
       let old = inv.follows in
@@ -158,7 +162,8 @@ module _ (g : Inside) (t : ℕ) (inv : IsGround g) (deed : IsDeed (view_of g) t)
       (old.flags_are ∙ deal_flags t st does_it.answer does_it.change (first_of used))
       (old.time_is ∙ deal_time t st does_it.answer does_it.change (first_of used))
 
-  pub dealt_entry : (a : Action) (e : Edited) → IfSome g.store.ready (λ (r : Ready). applies.IsDeed r.deed e) → ◌≡◌ {A = Entry} (record { thread = t; action = a; answer = e.answer }) (entry_of s t st a)
+  pub dealt_entry : (a : Action) (e : Edited) → IfSome g.store.ready (λ (r : Ready). applies.IsDeed r.deed e)
+      → ◌≡◌ {A = Entry} (record { thread = t; action = a; answer = e.answer }) (entry_of s t st a)
   dealt_entry a e h =
       let is = if_some g.store.ready (deed_of s st x used) _ deed.ready h in
       let answer : e.answer ≡ answer_if s t st (demanded s st t) =
@@ -168,7 +173,9 @@ module _ (g : Inside) (t : ℕ) (inv : IsGround g) (deed : IsDeed (view_of g) t)
   objects_are : objects_of g.store.bodies ≡ st.parts.objects
   objects_are = inv.follows.mirrors.objects_are
 
-  pub dealt_gained : (took : List ℕ) → IfSome g.store.ready (λ (r : Ready). took ≡ taken_in (object_of (objects_of g.store.bodies) r.object) r.deed.change) → took ≡ gained_in (view_of g) t
+  pub dealt_gained : (took : List ℕ)
+      → IfSome g.store.ready (λ (r : Ready). took ≡ taken_in (object_of (objects_of g.store.bodies) r.object) r.deed.change)
+      → took ≡ gained_in (view_of g) t
   dealt_gained took h =
       if_some g.store.ready (deed_of s st x used) _ deed.ready h
       ∙ ap (λ (obs : List Object). taken_in (object_of obs (first_of used)) does_it.change) objects_are
@@ -176,7 +183,9 @@ module _ (g : Inside) (t : ℕ) (inv : IsGround g) (deed : IsDeed (view_of g) t)
       ∙ ap (λ (y : Step). gained_by y.flow) (sym step_is)
       ∙ ap (λ (d : Option Demand). gained_by (flow_if s t st d)) (sym deed.demands)
 
-  pub dealt_listed : (gave : List ℕ) → IfSome g.store.ready (λ (r : Ready). gave ≡ given_out (object_of (objects_of g.store.bodies) r.object) r.deed.change) → gave ≡ listed_in (view_of g) t
+  pub dealt_listed : (gave : List ℕ)
+      → IfSome g.store.ready (λ (r : Ready). gave ≡ given_out (object_of (objects_of g.store.bodies) r.object) r.deed.change)
+      → gave ≡ listed_in (view_of g) t
   dealt_listed gave h =
       if_some g.store.ready (deed_of s st x used) _ deed.ready h
       ∙ ap (λ (obs : List Object). given_out (object_of obs (first_of used)) does_it.change) objects_are
@@ -186,7 +195,9 @@ module _ (g : Inside) (t : ℕ) (inv : IsGround g) (deed : IsDeed (view_of g) t)
 
 -- ---- the step that binds
 
-mirrored_same : (finalised dropped : List ℕ) (objects others : List Object) (bodies after : List Held) → others ≡ objects → after ≡ bodies → AreMirrored objects finalised dropped bodies → AreMirrored others finalised dropped after
+mirrored_same : (finalised dropped : List ℕ) (objects others : List Object) (bodies after : List Held)
+    → others ≡ objects → after ≡ bodies → AreMirrored objects finalised dropped bodies
+    → AreMirrored others finalised dropped after
 mirrored_same finalised dropped objects others bodies after e q h =
     subst (λ (obs : List Object). AreMirrored obs finalised dropped after) (sym e) (subst (AreMirrored objects finalised dropped) (sym q) h)
 
@@ -204,16 +215,19 @@ module _ (t d v : ℕ) (st : State) (a : Answer) (bodies : List Held) (h : Mirro
   no_slots n (fresh ob) e = ap (map (held_by (slot n))) e
   no_slots n (there o) e = refl
 
-  bind_gains : (origin : Origin) → MakesEmpty origin → gained_by (binds_it origin).flow ≡ present (found st.parts origin ∷ None ∷ [])
+  bind_gains : (origin : Origin) → MakesEmpty origin
+      → gained_by (binds_it origin).flow ≡ present (found st.parts origin ∷ None ∷ [])
   bind_gains origin e =
       ap (λ (rs : List Reference). map (λ (r : Reference). r.object) (held_if (variable t d v) (found st.parts origin) ++ rs)) (no_slots (length st.parts.objects) origin e)
       ∙ by (found st.parts origin)
     where
-      by : (o : Option ℕ) → map (λ (r : Reference). r.object) (held_if (variable t d v) o ++ []) ≡ present (o ∷ None ∷ [])
+      by : (o : Option ℕ)
+          → map (λ (r : Reference). r.object) (held_if (variable t d v) o ++ []) ≡ present (o ∷ None ∷ [])
       by None = refl
       by (Some o) = refl
 
-  bind_mirrors : (origin : Origin) → Mirrors (record (binds_it origin).parts { finalised = step_finals (binds_it origin) st ++ (binds_it origin).parts.finalised }) (bodies ++ bodies_from origin)
+  bind_mirrors : (origin : Origin)
+      → Mirrors (record (binds_it origin).parts { finalised = step_finals (binds_it origin) st ++ (binds_it origin).parts.finalised }) (bodies ++ bodies_from origin)
   bind_mirrors nowhere =
       mirrors_by _ (bodies ++ []) (mirrored_same st.parts.finalised st.parts.dropped st.parts.objects (st.parts.objects ++ []) bodies (bodies ++ []) (append_none st.parts.objects) (append_none bodies) (mirrored st.parts bodies h))
   bind_mirrors (fresh ob) =
@@ -221,18 +235,21 @@ module _ (t d v : ℕ) (st : State) (a : Answer) (bodies : List Held) (h : Mirro
   bind_mirrors (there o) =
       mirrors_by _ (bodies ++ []) (mirrored_same st.parts.finalised st.parts.dropped st.parts.objects (st.parts.objects ++ []) bodies (bodies ++ []) (append_none st.parts.objects) (append_none bodies) (mirrored st.parts bodies h))
 
-  bind_parcels : (origin : Origin) → MakesEmpty origin → (u k : ℕ) → first_held (parcel u k) (flowed (binds_it origin).flow st.edges) ≡ first_held (parcel u k) st.edges
+  bind_parcels : (origin : Origin) → MakesEmpty origin → (u k : ℕ)
+      → first_held (parcel u k) (flowed (binds_it origin).flow st.edges) ≡ first_held (parcel u k) st.edges
   bind_parcels origin e u k =
       ap (λ (rs : List Reference). first_held (parcel u k) (flowed (grows (held_if (variable t d v) (found st.parts origin) ++ rs) []) st.edges)) (no_slots (length st.parts.objects) origin e)
       ∙ by (found st.parts origin)
     where
-      by : (o : Option ℕ) → first_held (parcel u k) (flowed (grows (held_if (variable t d v) o ++ []) []) st.edges) ≡ first_held (parcel u k) st.edges
+      by : (o : Option ℕ)
+          → first_held (parcel u k) (flowed (grows (held_if (variable t d v) o ++ []) []) st.edges) ≡ first_held (parcel u k) st.edges
       by None = refl
       by (Some o) = refl
 
 -- ---- a statement that binds a variable
 
-may_make : (origin : Origin) (making : Bool) (bodies : List Held) (room : ℕ) → MakesOnly making origin → 0 < room → (making ≡ true → length bodies < 65536) → MayMake origin bodies room
+may_make : (origin : Origin) (making : Bool) (bodies : List Held) (room : ℕ) → MakesOnly making origin → 0 < room
+    → (making ≡ true → length bodies < 65536) → MayMake origin bodies room
 may_make nowhere making bodies room only some few = tt
 may_make (fresh ob) true bodies room only some few = (some, few refl)
 may_make (fresh ob) false bodies room only some few = absurd only
@@ -269,7 +286,8 @@ module _ (g : Inside) (t : ℕ) (a : Action) (inv : IsGround g) (acts : MayAct (
       ap (statement_step script t depth now said uses) binding.binds
       ∙ ap (λ (m : Option Made). bind_step (variable t depth binding.var) now.parts (bound_if script now.parts said uses m)) plain_bind.made
 
-  fits : Fits (ownership_of said) (makes_object said) (numbered now.parts.objects (used_at uses 1)) (numbered now.parts.objects (used_at uses 2)) its_deed
+  fits : Fits (ownership_of said) (makes_object said) (numbered now.parts.objects (used_at uses 1))
+      (numbered now.parts.objects (used_at uses 2)) its_deed
   fits = form_fits script.classes said (numbered now.parts.objects (used_at uses 0)) (numbered now.parts.objects (used_at uses 1)) (numbered now.parts.objects (used_at uses 2))
 
   unmade : times (length now.parts.objects) now.parts.finalised ≡ 0
@@ -289,7 +307,9 @@ module _ (g : Inside) (t : ℕ) (a : Action) (inv : IsGround g) (acts : MayAct (
       no_change o e h = subst (λ (w : Ownership). ChangesFor w its_deed.change) e h
 
   -- the bodies are as they were before what is found
-  bodies_are : (bodies : List Held) → IfSome g.store.ready (λ (r : Ready). bodies ≡ bodies_changed r.object r.deed.change g.store.bodies) → bodies ≡ g.store.bodies
+  bodies_are : (bodies : List Held)
+      → IfSome g.store.ready (λ (r : Ready). bodies ≡ bodies_changed r.object r.deed.change g.store.bodies)
+      → bodies ≡ g.store.bodies
   bodies_are bodies h =
       if_some g.store.ready (deed_of script now said uses) _ binding.ready h
       ∙ ap (λ (c : Change). bodies_changed (first_of uses) c g.store.bodies) change_is ∙ bodies_unchanged (first_of uses) g.store.bodies
@@ -307,7 +327,8 @@ module _ (g : Inside) (t : ℕ) (a : Action) (inv : IsGround g) (acts : MayAct (
         (may_make its_deed.origin (makes_object said) bodies room fits.only (omega (arith, same, binding.room))
         (λ made. omega (arith, ap length (bodies_are bodies kept), count-mirrors now.parts g.store.bodies inv.follows.mirrors, acts.few (ap makes_line binding.demands ∙ made))))
 
-    pub bound_follows : (after : List Held) → after ≡ bodies ++ bodies_from (origin_of e.origin) → Follows script (done_by script t now (does (says said))) after g.parcels g.flags.items g.time
+    pub bound_follows : (after : List Held) → after ≡ bodies ++ bodies_from (origin_of e.origin)
+        → Follows script (done_by script t now (does (says said))) after g.parcels g.flags.items g.time
     bound_follows after grown =
         let old = inv.follows in
         let same : after ≡ g.store.bodies ++ bodies_from its_deed.origin = grown ∙ ap (λ (bs : List Held). bs ++ bodies_from (origin_of e.origin)) (bodies_are bodies kept) ∙ ap (λ (o : Origin). g.store.bodies ++ bodies_from o) is.origin in
@@ -317,18 +338,22 @@ module _ (g : Inside) (t : ℕ) (a : Action) (inv : IsGround g) (acts : MayAct (
         (λ u k. old.parcels_are.at u k ∙ sym (bind_parcels t depth binding.var now its_deed.answer g.store.bodies old.mirrors unmade undropped its_deed.origin fits.makes u k))
         old.flags_are old.time_is
 
-    object_is : (object : Option ℕ) → object ≡ found_in bodies (origin_of e.origin) → object ≡ found now.parts its_deed.origin
+    object_is : (object : Option ℕ) → object ≡ found_in bodies (origin_of e.origin)
+        → object ≡ found now.parts its_deed.origin
     object_is object h =
         h ∙ ap (λ (bs : List Held). found_in bs (origin_of e.origin)) (bodies_are bodies kept) ∙ ap (found_in g.store.bodies) is.origin
         ∙ found_is t depth binding.var now its_deed.answer g.store.bodies inv.follows.mirrors unmade undropped its_deed.origin
 
-    pub bound_entry : (object : Option ℕ) (answer : Answer) → object ≡ found_in bodies (origin_of e.origin) → answer ≡ object_answer object e.answer → ◌≡◌ {A = Entry} (record { thread = t; action = a; answer = answer }) (entry_of script t now a)
+    pub bound_entry : (object : Option ℕ) (answer : Answer) → object ≡ found_in bodies (origin_of e.origin)
+        → answer ≡ object_answer object e.answer
+        → ◌≡◌ {A = Entry} (record { thread = t; action = a; answer = answer }) (entry_of script t now a)
     bound_entry object answer h q =
         let told_is : answer ≡ answer_if script t now (demanded script now t) =
         q ∙ ap (object_answer object) is.answer ∙ ap (λ (o : Option ℕ). object_answer o its_deed.answer) (object_is object h) ∙ ap (λ (y : Step). step_answer y now) (sym binds_is) ∙ ap (answer_if script t now) (sym binding.demands) in
         ap (λ (y : Answer). record { thread = t; action = a; answer = y }) told_is
 
-    pub bound_gained : (object : Option ℕ) → object ≡ found_in bodies (origin_of e.origin) → present (object ∷ None ∷ []) ≡ gained_in (view_of g) t
+    pub bound_gained : (object : Option ℕ) → object ≡ found_in bodies (origin_of e.origin)
+        → present (object ∷ None ∷ []) ≡ gained_in (view_of g) t
     bound_gained object h =
         ap (λ (o : Option ℕ). present (o ∷ None ∷ [])) (object_is object h)
         ∙ sym (bind_gains t depth binding.var now its_deed.answer g.store.bodies inv.follows.mirrors unmade undropped its_deed.origin fits.makes)

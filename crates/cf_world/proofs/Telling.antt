@@ -29,7 +29,8 @@ use Rattle.cf_world.proofs.Mirroring.{left-mirrors, mirrored}
 
 -- ---- facts
 
-none_opens : (p : Parts) (items : List ℕ) → ((i : ℕ) → thing_at p i ≡ None) → list_any (λ i. opens_thing (thing_at p i)) items ≡ false
+none_opens : (p : Parts) (items : List ℕ) → ((i : ℕ) → thing_at p i ≡ None)
+    → list_any (λ i. opens_thing (thing_at p i)) items ≡ false
 none_opens p [] h = refl
 none_opens p (i ∷ items) h = rw (h i) (none_opens p items h)
 
@@ -70,7 +71,8 @@ module _ (v : GroundView) (run : MayRun v.script) where
 
 -- ---- flags, and the deed that is ready
 
-flags_in : (fs : List Flags) (t : ℕ) (f : Flags) → t < length fs → f ≡ get_or fs t f → flags_of f ≡ flags_at t (map flags_of fs)
+flags_in : (fs : List Flags) (t : ℕ) (f : Flags) → t < length fs → f ≡ get_or fs t f
+    → flags_of f ≡ flags_at t (map flags_of fs)
 flags_in [] t f within is = absurd (omega (arith, within))
 flags_in (x ∷ fs) zero f within is = ap flags_of is
 flags_in (x ∷ fs) (suc t) f within is = flags_in fs t f (omega (arith, within)) is
@@ -88,12 +90,14 @@ module _ (g : Inside) (inv : IsGround g) where
   pub flags_count : length g.flags.items ≡ g.script.thread_count
   flags_count = sym (length-map g.flags.items flags_of) ∙ ap length inv.follows.flags_are ∙ plain.parts.flag_count
 
-  pub flags_told : (t : ℕ) (f : Flags) → t < length g.flags.items → f ≡ get_or g.flags.items t f → flags_of f ≡ flags_at t st.parts.flags
+  pub flags_told : (t : ℕ) (f : Flags) → t < length g.flags.items → f ≡ get_or g.flags.items t f
+      → flags_of f ≡ flags_at t st.parts.flags
   flags_told t f within is = flags_in g.flags.items t f within is ∙ ap (flags_at t) inv.follows.flags_are
 
   -- ---- the deed that is ready
 
-  pub ready_told : {T E : Type 0} (result : Result T E) (ready : Option Ready) (found : Option Statement) (x : Statement) (used : List (Option ℕ)) → found ≡ Some x
+  pub ready_told : {T E : Type 0} (result : Result T E) (ready : Option Ready) (found : Option Statement)
+      (x : Statement) (used : List (Option ℕ)) → found ≡ Some x
       → OnOk result (ready ≡ Some (ready_deed g.script.classes g.store.bodies x used)) → OnOk result (IfSome found (λ (y : Statement). ready ≡ Some (deed_of g.script st y used)))
   ready_told (Err e) ready found x used is h = tt
   ready_told (Ok v) ready found x used is h =
@@ -102,7 +106,8 @@ module _ (g : Inside) (inv : IsGround g) where
 
 -- ---- the flags at the start
 
-pub flags_push : (fs : List Flags) (t : ℕ) (f : Flags) → map flags_of fs ≡ map (λ u. fresh_flags (u == 0)) (range_with_len 0 t) → flags_of f ≡ fresh_flags (t == 0)
+pub flags_push : (fs : List Flags) (t : ℕ) (f : Flags)
+    → map flags_of fs ≡ map (λ u. fresh_flags (u == 0)) (range_with_len 0 t) → flags_of f ≡ fresh_flags (t == 0)
     → map flags_of (fs ++ f ∷ []) ≡ map (λ u. fresh_flags (u == 0)) (range_with_len 0 (t + 1))
 flags_push fs t f h e =
     map-append flags_of fs (f ∷ []) ∙ ap (λ xs. xs ++ flags_of f ∷ []) h ∙ ap (λ x. map (λ u. fresh_flags (u == 0)) (range_with_len 0 t) ++ x ∷ []) e
@@ -110,7 +115,8 @@ flags_push fs t f h e =
 
 -- ---- the last entry
 
-last_at : (es : List Entry) (n : ℕ) (e : Entry) → n + 1 ≡ length es → slice_get es n ≡ Some e → IsLastAnswer es (Some e.answer)
+last_at : (es : List Entry) (n : ℕ) (e : Entry) → n + 1 ≡ length es → slice_get es n ≡ Some e
+    → IsLastAnswer es (Some e.answer)
 last_at [] n e q h = absurd (omega (arith, q))
 last_at (x ∷ []) zero e q h = sym (ap (option_map (λ (y : Entry). y.answer)) h)
 last_at (x ∷ []) (suc n) e q h = absurd (omega (arith, q))

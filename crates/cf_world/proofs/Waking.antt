@@ -14,7 +14,8 @@ module _ {A B : Type 0} (f : A → B) (h : B → B) where
   tails : (x y : B) (xs ys : List B) → ◌≡◌ {A = List B} (x ∷ xs) (y ∷ ys) → xs ≡ ys
   tails x y xs ys e = cc
 
-  changed_at : (n : ℕ) (items : List A) (xs : List B) (y d : A) → n < length items → map f items ≡ changed_to n xs → f y ≡ h (f (get_or items n d))
+  changed_at : (n : ℕ) (items : List A) (xs : List B) (y d : A) → n < length items → map f items ≡ changed_to n xs
+      → f y ≡ h (f (get_or items n d))
       → map f (set items n y) ≡ changed_to (suc n) xs
   changed_at n [] xs y d lt e is = absurd (omega (arith, lt))
   changed_at zero (a ∷ rest) [] y d lt e is = absurd cc
@@ -25,7 +26,8 @@ module _ {A B : Type 0} (f : A → B) (h : B → B) where
       ap (λ (b : B). b ∷ map f (set rest n y)) (heads (f a) (h x) (map f rest) (changed_to n xs) e)
       ∙ ap (λ (bs : List B). h x ∷ bs) (changed_at n rest xs y d (omega (arith, lt)) (tails (f a) (h x) (map f rest) (changed_to n xs) e) is)
 
-  pub changed_more : (n : ℕ) (items : List A) (xs : List B) (y d : A) → n < length items → map f items ≡ changed_to n xs → f y ≡ h (f (get_or items n d))
+  pub changed_more : (n : ℕ) (items : List A) (xs : List B) (y d : A) → n < length items → map f items ≡ changed_to n xs
+      → f y ≡ h (f (get_or items n d))
       → map f (set items n y) ≡ changed_to (n + 1) xs
   changed_more n items xs y d lt e is =
       let more : n + 1 ≡ suc n = omega arith in

@@ -1,0 +1,2 @@
+-- The files of definitions of cf_deals.
+pub mod Deals

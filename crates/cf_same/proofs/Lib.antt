@@ -1,0 +1,3 @@
+-- The files of lemmas of cf_same.
+pub mod Alike
+pub mod AnswersAlike

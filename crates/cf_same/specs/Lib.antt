@@ -1,0 +1,3 @@
+-- The files of definitions of cf_same.
+pub mod Alike
+pub mod Answers

@@ -1,0 +1,4 @@
+-- The files of lemmas of cf_steps.
+pub mod Asking
+pub mod Sorting
+pub mod Turning

@@ -5,7 +5,8 @@ use Rattle.cf_syntax.specs.Mentions.{used_at}
 use Rattle.cf_next.specs.Stands.{Frame, Kind, of_block, of_handler, of_run, Turn, has_run, is_run}
 use Rattle.cf_next.specs.Standing.{innermost_run, run_or}
 
-pub used-read : (used : List (Option ℕ)) (k : ℕ) (o : Option ℕ) → k < length used → o ≡ get_or used k o → o ≡ used_at used k
+pub used-read : (used : List (Option ℕ)) (k : ℕ) (o : Option ℕ) → k < length used → o ≡ get_or used k o
+    → o ≡ used_at used k
 used-read [] k o lt is = absurd (omega arith)
 used-read (x ∷ xs) zero o lt is = is
 used-read (x ∷ xs) (suc k) o lt is = used-read xs k o (omega arith) is

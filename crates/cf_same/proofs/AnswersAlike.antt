@@ -5,7 +5,8 @@ use Rattle.cf_ids.specs.declared.answer.Answer.TheVariants as answers
 use Rattle.cf_same.specs.Answers.{answer_built, answer_number, told_bytes, told_date, told_number, told_value}
 
 -- an answer is the one of its parts
-answer_rebuilt : (a : Answer) → answer_built (answer_number a) (told_number a) (told_value a) (told_bytes a) (told_date a) ≡ a
+answer_rebuilt : (a : Answer)
+    → answer_built (answer_number a) (told_number a) (told_value a) (told_bytes a) (told_date a) ≡ a
 answer_rebuilt answers.Ok = refl
 answer_rebuilt answers.More = refl
 answer_rebuilt answers.Skip = refl

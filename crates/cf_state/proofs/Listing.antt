@@ -70,7 +70,8 @@ any-next chosen passes i n h =
 
 -- ---- walks over numbers in order
 
-filter-head : (p : ℕ → Bool) (i : ℕ) (rest : List ℕ) (b : Bool) → p i ≡ b → filter p (i ∷ rest) ≡ cond b (i ∷ filter p rest) (filter p rest)
+filter-head : (p : ℕ → Bool) (i : ℕ) (rest : List ℕ) (b : Bool) → p i ≡ b
+    → filter p (i ∷ rest) ≡ cond b (i ∷ filter p rest) (filter p rest)
 filter-head p i rest b h = ap (λ b. cond b (i ∷ filter p rest) (filter p rest)) h
 
 -- a number that passes is listed
@@ -118,7 +119,8 @@ get-walk f d zero (x ∷ xs) lt = refl
 get-walk f d (suc i) (x ∷ xs) lt = get-walk f d i xs (omega arith)
 
 -- one more is changed
-pub set-each : {A : Type 0} (f : A → A) (i : ℕ) (all now : List A) (old new : A) → now ≡ map f (take i all) ++ drop i all
+pub set-each : {A : Type 0} (f : A → A) (i : ℕ) (all now : List A) (old new : A)
+    → now ≡ map f (take i all) ++ drop i all
     → i < length all → old ≡ get_or now i old → new ≡ f old
     → slice_set now i new ≡ map f (take (i + 1) all) ++ drop (i + 1) all
 set-each f i all now old new walked lt is made =
@@ -144,7 +146,8 @@ walk-end f (suc i) (x ∷ xs) is = ap (λ zs. f x ∷ zs) (walk-end f i xs (omeg
 
 -- ---- a test of numbers in order
 
-any-head : (test : ℕ → Bool) (i : ℕ) (rest : List ℕ) (b : Bool) → test i ≡ b → list_any test (i ∷ rest) ≡ (b || list_any test rest)
+any-head : (test : ℕ → Bool) (i : ℕ) (rest : List ℕ) (b : Bool) → test i ≡ b
+    → list_any test (i ∷ rest) ≡ (b || list_any test rest)
 any-head test i rest b h = ap (λ b. b || list_any test rest) h
 
 pub any-step : (test : ℕ → Bool) (i n : ℕ) (all : Bool) → i < n → test i ≡ false

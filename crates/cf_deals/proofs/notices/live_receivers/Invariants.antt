@@ -11,7 +11,8 @@ use Rattle.cf_deals.proofs.notices.live_receivers.Given as goal
 abbrev pub invariant-loop-place : goal.invariant-loop-place
 invariant-loop-place l = record {
   few : length l.parts.registrations < 4294967295;
-  listed : l.receivers.items ++ filter (λ k. is_there_and (may_receive l.parts) (slice_index_or l.parts.registrations k None)) (filter (λ k. is_there_and (matches l.name l.object) (slice_index_or l.parts.registrations k None)) (range_with_len l.place (length l.parts.registrations - l.place)))
+  listed : l.receivers.items ++ filter (λ k. is_there_and (may_receive l.parts) (slice_index_or l.parts.registrations k None))
+      (filter (λ k. is_there_and (matches l.name l.object) (slice_index_or l.parts.registrations k None)) (range_with_len l.place (length l.parts.registrations - l.place)))
       ≡ live_receivers l.parts l.name l.object;
 }
 

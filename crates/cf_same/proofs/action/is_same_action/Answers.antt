@@ -13,13 +13,12 @@ returns-then-is_same_site c =
     let b = c.args.b.now in
     elim c.if-number_of.branch [
       | then-number_of w ↦
-      (let k : number_of a ≡ number_of b = cc in
-      let same : w.is_same_site.result ≡ true = cc in
-      let there : site_of a ≡ site_of b = cc (w.is_same_site.ensures.0 same) in
-      (
-        λ (h : c.is_same_rest.result ≡ true).
-        (let r : rest_of a ≡ rest_of b = cc (c.is_same_rest.ensures.0 h) in alike a b k there r),
-        λ (e : a ≡ b). c.is_same_rest.ensures.1 (c.rest_of.ensures ∙ ap rest_of e ∙ sym c.rest_of-then-is_same_site.ensures)
-      ))
+          (let k : number_of a ≡ number_of b = cc in
+          let same : w.is_same_site.result ≡ true = cc in
+          let there : site_of a ≡ site_of b = cc (w.is_same_site.ensures.0 same) in (
+            λ (h : c.is_same_rest.result ≡ true).
+                (let r : rest_of a ≡ rest_of b = cc (c.is_same_rest.ensures.0 h) in alike a b k there r),
+            λ (e : a ≡ b). c.is_same_rest.ensures.1 (c.rest_of.ensures ∙ ap rest_of e ∙ sym c.rest_of-then-is_same_site.ensures),
+          ))
       | else-number_of w ↦ absurd (w.if-number_of.false (eqb-true c.number_of.result c.number_of-2.result (sym w.value-is ∙ c.if-is_same_site.true)))
     ]

@@ -11,7 +11,8 @@ use Rattle.cf_state.proofs.known.is_empty_mode.Given as goal
 abbrev pub invariant-loop-number : goal.invariant-loop-number
 invariant-loop-number l = record {
   within : l.number ≤ length l.parts.objects;
-  chosen : any-chosen (λ i. has (in_mode l.thread l.mode) i l.edges) (λ i. opens_thing (thing_at l.parts i)) (range_with_len l.number (length l.parts.objects - l.number))
+  chosen : any-chosen (λ i. has (in_mode l.thread l.mode) i l.edges) (λ i. opens_thing (thing_at l.parts i))
+      (range_with_len l.number (length l.parts.objects - l.number))
       ≡ any-chosen (λ i. has (in_mode l.thread l.mode) i l.edges) (λ i. opens_thing (thing_at l.parts i)) (range_with_len 0 (length l.parts.objects));
 }
 

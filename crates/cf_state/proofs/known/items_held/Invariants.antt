@@ -10,7 +10,8 @@ use Rattle.cf_state.proofs.known.items_held.Given as goal
 -- those that were passed over are listed
 abbrev pub invariant-loop-number : goal.invariant-loop-number
 invariant-loop-number l = record {
-  listed : l.items.items ++ filter (λ i. has (holder_of l.holder) i l.edges) (range_with_len l.number (length l.parts.objects - l.number))
+  listed : l.items.items ++ filter (λ i. has (holder_of l.holder) i l.edges)
+      (range_with_len l.number (length l.parts.objects - l.number))
       ≡ filter (λ i. has (holder_of l.holder) i l.edges) (objects_of l.parts);
 }
 

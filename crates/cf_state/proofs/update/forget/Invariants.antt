@@ -8,7 +8,8 @@ use Rattle.cf_state.proofs.update.forget.Given as goal
 -- the first ones are changed, and the others are as they were
 abbrev pub invariant-loop-place : goal.invariant-loop-place
 invariant-loop-place l = record {
-  walked : l.registrations.items ≡ map (λ (r : Option Registration). if is_there_and (forgets l.observer l.name l.filter) r then None else r) (take l.place l.initial.registrations.items) ++ drop l.place l.initial.registrations.items;
+  walked : l.registrations.items ≡ map (λ (r : Option Registration). if is_there_and (forgets l.observer l.name l.filter) r then None else r)
+      (take l.place l.initial.registrations.items) ++ drop l.place l.initial.registrations.items;
   within : l.place ≤ length l.initial.registrations.items;
 }
 

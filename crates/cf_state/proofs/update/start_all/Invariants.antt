@@ -6,7 +6,8 @@ use Rattle.cf_state.proofs.update.start_all.Given as goal
 -- the first ones are changed, and the others are as they were
 abbrev pub invariant-loop-thread : goal.invariant-loop-thread
 invariant-loop-thread l = record {
-  walked : l.flags.items ≡ map (λ (f : Flags). record f { is_started = true }) (take l.thread l.initial.flags.items) ++ drop l.thread l.initial.flags.items;
+  walked : l.flags.items ≡ map (λ (f : Flags). record f { is_started = true })
+      (take l.thread l.initial.flags.items) ++ drop l.thread l.initial.flags.items;
   within : l.thread ≤ length l.initial.flags.items;
 }
 

@@ -1,5 +1,5 @@
 -- A store whose objects have no members may grow.
-use Rattle.std.proofs.Common.{arith, ◌≡◌, ℕ, zero, suc, List, [], ◌∷◌, ◌++◌}
+use Rattle.std.proofs.Common.{arith, ◌≡◌, zero, suc, List, [], ◌∷◌, ◌++◌}
 use Rattle.cf_contents.specs.Contents.{size_of}
 use Rattle.cf_contents.specs.Stores.{Held, MayGrow}
 

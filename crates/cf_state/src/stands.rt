@@ -1,5 +1,5 @@
 //! Where the threads of a run stand.
-ghost use Rattle.std.specs.Prelude.{◌≡◌, ◌<◌, length, map, IfOk, OnOk, MatchOption};
+ghost use Rattle.std.specs.Prelude.{◌≡◌, ◌<◌, ◌↔◌, length, map, IfOk, IsOk, OnErr, OnOk, MatchOption};
 ghost use Rattle.cf_next.specs.Advance.{advanced};
 ghost use Rattle.cf_next.specs.Standing.{finals_in};
 ghost use Rattle.cf_next.specs.Stands.{opening_stand, stop_stand};
@@ -85,10 +85,12 @@ impl Stands {
         go_on(&mut self.stands[thread], script, known, step, answer, list)
     }
 
-    /// Tells the innermost run of a thread to stop. `NoMemory` comes if there is no such thread; none that is told to
-    /// stop is missing.
+    /// Tells the innermost run of a thread to stop. `NoMemory` comes exactly if there is no such thread; none that is
+    /// told to stop is missing.
     pub fn stop(&mut self, thread: usize) -> Result<(), NoMemory>
-        ensures { OnOk result (self.new ≡ with_stand thread (stop_stand (stand_at thread self.old)) self.old) }
+        ensures stand { OnOk result (self.new ≡ with_stand thread (stop_stand (stand_at thread self.old)) self.old) }
+        ensures there { IsOk result ↔ thread < length self.old }
+        ensures err { OnErr result (self.new ≡ self.old) }
     {
         if self.stands.len() <= thread {
             return Err(NoMemory);

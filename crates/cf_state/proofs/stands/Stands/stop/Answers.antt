@@ -10,8 +10,8 @@ invariant_of-self c =
     let lt : c.args.thread < length fs = omega arith in
     placed-set c.args.thread fs c.index_mut-frames.result.now c.stop.new.self lt c.index_mut-frames.ensures.value c.stop.ensures.thread c.self.invariant
 
-pub returns : goal.returns
-returns c =
+pub returns-clause-stand : goal.returns-clause-stand
+returns-clause-stand c =
     let fs = c.self.inside.stands.items in
     let lt : c.args.thread < length fs = omega arith in
     let old = c.index_mut-frames.result.now in

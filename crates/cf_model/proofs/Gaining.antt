@@ -4,6 +4,7 @@ use Rattle.std.specs.Prelude.{filter, slice_get, not, nat_le, ◌&&◌}
 use Rattle.std.specs.List.{range_with_len}
 use Rattle.std.proofs.lemmas.List.FromFn.{length-range_with_len}
 use Rattle.std.proofs.lemmas.Bool.Decides.{nat_tests}
+use Rattle.cf_ids.specs.declared.limits.TheConstants.{MODES}
 use Rattle.cf_ids.specs.declared.answer.Answer.{Answer}
 use Rattle.cf_ids.specs.declared.answer.Answer.TheVariants as answers
 use Rattle.rl_base.specs.declared.places.Place.{Place}
@@ -159,7 +160,7 @@ deed_few : (s : Script) (st : State) (x : Statement) (used : List (Option ℕ))
 deed_few s st x used =
     (form_fits s.classes x (numbered st.parts.objects (used_at used 0)) (numbered st.parts.objects (used_at used 1)) (numbered st.parts.objects (used_at used 2))).used.few
 
-module _ (s : Script) (t : ℕ) (st : State) (o : ℕ) (modes : length s.modes ≤ 1024) where
+module _ (s : Script) (t : ℕ) (st : State) (o : ℕ) (modes : length s.modes ≤ MODES) where
   few_add : (u : ℕ) (p : Place) (i : ℕ) (x : Thing) → Few o (add_deal s st u p i x)
   few_add u p i x =
       few_either o (not x.valid) (answering st.parts answers.Invalid) _ (omega arith)
@@ -287,12 +288,12 @@ module _ (s : Script) (t : ℕ) (st : State) (o : ℕ) (modes : length s.modes �
   demand_few fs (enters p) = phase_few p (top_kind fs)
   demand_few fs closes = close_few (top_kind fs)
 
-flow_few : (s : Script) (t : ℕ) (st : State) (o : ℕ) → length s.modes ≤ 1024 → (d : Option Demand)
+flow_few : (s : Script) (t : ℕ) (st : State) (o : ℕ) → length s.modes ≤ MODES → (d : Option Demand)
     → gains o (flow_if s t st d) ≤ 1025
 flow_few s t st o modes None = omega arith
 flow_few s t st o modes (Some d) = demand_few s t st o modes (frames_at t st) d
 
-pub few_gained : (s : Script) (st : State) (t : ℕ) (a : Action) (o : ℕ) → length s.modes ≤ 1024
+pub few_gained : (s : Script) (st : State) (t : ℕ) (a : Action) (o : ℕ) → length s.modes ≤ MODES
     → gains o (flow_in s t st a) ≤ 1025
 few_gained s st t a o modes = by a (action_view a)
   where

@@ -2,6 +2,7 @@
 use Rattle.std.proofs.Common.{◌≡◌, ℕ, zero, suc, ◌+◌, ◌*◌, ◌<◌, ◌≤◌, Bool, true, false, List, [], ◌∷◌, length, Option, Some, None, eqb, ltb, refl, ap, subst, arith, inl, inr}
 use Rattle.std.proofs.lemmas.Bool.{ltb-true}
 use Rattle.std.proofs.lemmas.Bool.Decides.{eqb_tells, nat_tests}
+use Rattle.cf_ids.specs.declared.limits.TheConstants.{MODES, OBJECTS}
 use Rattle.cf_ids.specs.declared.answer.Answer.{Answer}
 use Rattle.cf_syntax.specs.declared.script.Script.{Script}
 use Rattle.cf_syntax.specs.Owned.{FitsByBlock, Owned}
@@ -34,8 +35,8 @@ use Rattle.cf_model.proofs.Using.{IsSound, demand_may}
 -- ---- objects
 
 entry_few : (s : Script) (st : State) (t : ℕ) (a : Action) (x : Answer) → ActionView a
-    → IsLegalAs s st (record { thread = t; action = a; answer = x }) a → length st.parts.objects ≤ 65536
-    → length (after_action s t st a).parts.objects ≤ 65536
+    → IsLegalAs s st (record { thread = t; action = a; answer = x }) a → length st.parts.objects ≤ OBJECTS
+    → length (after_action s t st a).parts.objects ≤ OBJECTS
 entry_few s st t _ x (is_tick n) legal few = few
 entry_few s st t _ x is_stall legal few = few
 entry_few s st t a x (is_step _ step) legal few = elim (entry_adds s t st a).objects [
@@ -47,8 +48,8 @@ entry_few s st t a x (is_step _ step) legal few = elim (entry_adds s t st a).obj
   )
 ]
 
-few_from : (s : Script) (st : State) (es : List Entry) → IsLegalPart s st es → length st.parts.objects ≤ 65536
-    → length (state_from s st es).parts.objects ≤ 65536
+few_from : (s : Script) (st : State) (es : List Entry) → IsLegalPart s st es → length st.parts.objects ≤ OBJECTS
+    → length (state_from s st es).parts.objects ≤ OBJECTS
 few_from s st [] h few = few
 few_from s st (e ∷ es) h few =
     few_from s (after_action s e.thread st e.action) es h.1
@@ -151,7 +152,7 @@ flow_most : (o : ℕ) (f : Flow) → gains o f ≤ 1025 → gains o f + cuts o f
 flow_most o (grows ins ms) h = omega (arith, h)
 flow_most o (shrinks r) h = omega (arith, one_most (eqb r.object o))
 
-changes_most : (s : Script) (st : State) (o : ℕ) (es : List Entry) → length s.modes ≤ 1024 → IsSteady st
+changes_most : (s : Script) (st : State) (o : ℕ) (es : List Entry) → length s.modes ≤ MODES → IsSteady st
     → IsLegalPart s st es
     → changes_from s st o es ≤ 1025 * length es
 changes_most s st o [] modes h legal = omega arith
@@ -167,7 +168,7 @@ changes_most s st o (e ∷ es) modes h legal =
     omega (arith, one, changes_most s next o es modes (legal_keeps s st e h legal.0).steady legal.1)
 
 -- the same of every list of entries of an owned script
-module _ (c : Script) (own : FitsByBlock c) (modes : length c.modes ≤ 1024) where
+module _ (c : Script) (own : FitsByBlock c) (modes : length c.modes ≤ MODES) where
   acted_most : (t : ℕ) (st : State) (d : Option Demand) (o : ℕ) → IsSound c st → demanded c st t ≡ d
       → gains o (flow_if c t st d) ≤ 1025 → apart (degree o st.edges) (degree o (acted c t st d).edges) ≤ 1025
   acted_most t st None o h e few = omega arith
@@ -202,12 +203,12 @@ module _ (c : Script) (own : FitsByBlock c) (modes : length c.modes ≤ 1024) wh
 
 pub few_references : (s : Script) (es : List Entry) (o : ℕ) → IsLegal s es → FewReferences s es o
 few_references s es o legal =
-    let most = λ (modes : length s.modes ≤ 1024). changes_most s (start s) o es modes (start_steady s)
+    let most = λ (modes : length s.modes ≤ MODES). changes_most s (start s) o es modes (start_steady s)
     (part_of_legal s (start s) es legal) in
     record { moves = most; references = λ modes. omega (arith, references_most s es o, most modes) }
 
 pub few_of_owned : (s : Script) (es : List Entry) (o : ℕ) → Owned s → FewReferences s es o
 few_of_owned s es o own =
-    let most = λ (modes : length s.modes ≤ 1024). owned_most s (owned_fits s own) modes (start s) o es
+    let most = λ (modes : length s.modes ≤ MODES). owned_most s (owned_fits s own) modes (start s) o es
     (start_sound s) in
     record { moves = most; references = λ modes. omega (arith, references_most s es o, most modes) }

@@ -4,6 +4,7 @@ use Rattle.std.proofs.Common.{◌&&◌, ◌<◌, ◌∙◌, ◌∷◌, ◌≡◌
 use Rattle.std.proofs.lemmas.Bool.{eq-eqb}
 use Rattle.std.proofs.lemmas.Bool.Decides.{eqb_tells}
 use Rattle.std.specs.Prelude.{IsTrue}
+use Rattle.cf_ids.specs.declared.limits.TheConstants.{OBJECTS}
 use Rattle.rl_turn.specs.declared.phases.Phase.{Phase}
 use Rattle.rl_turn.specs.declared.phases.Phase.TheVariants as phases
 use Rattle.cf_syntax.specs.BlockLines.{BlockLine, begins, claims, packs, says}
@@ -86,7 +87,7 @@ next_uses c st t a own h e =
     subst (λ (b : Action). MayUseAll st t (owners_of b) (action_uses b)) acts.action (demand_may c t st h own acts.demand acts.demands)
 
 pub legal_next : (c : Script) (st : State) (t : ℕ) (a : Action) → FitsByBlock c → IsSound c st → Next c st t ≡ Some a
-    → (IsTrue (makes c st t) → length st.parts.objects < 65536)
+    → (IsTrue (makes c st t) → length st.parts.objects < OBJECTS)
     → IsLegalEntry c st (record { thread = t; action = a; answer = answer_if c t st (demanded c st t) })
 legal_next c st t a own h e room =
     let acts = next_is c st t a e in

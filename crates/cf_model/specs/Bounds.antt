@@ -1,5 +1,6 @@
 -- What one entry adds at most, and so how much there can be after so many entries. This project's own.
 use Rattle.std.specs.Prelude.{◌≡◌, ℕ, ◌+◌, ◌*◌, ◌<◌, ◌≤◌, ◌⊎◌, IsTrue, List, length, slice_get}
+use Rattle.cf_ids.specs.declared.limits.TheConstants.{MODES, OBJECTS}
 use Rattle.cf_syntax.specs.declared.script.Script.{Script}
 use Rattle.cf_syntax.specs.Owned.{Owned}
 use Rattle.cf_graph.specs.Edges.{degree}
@@ -10,7 +11,7 @@ use Rattle.cf_model.specs.declared.entry.Entry.{Entry}
 use Rattle.cf_model.specs.State.{State, times}
 use Rattle.cf_model.specs.Journals.{makes, after_action, After}
 use Rattle.cf_model.specs.Serial.{pointer_of}
-use Rattle.cf_model.specs.Changes.{changes}
+use Rattle.cf_model.specs.Changes.{most_gained, changes}
 use Rattle.cf_model.specs.Flowing.{flow_in}
 
 -- an entry makes one object at most, and that only if its thread's next statement is of such a form; it finalises one
@@ -45,7 +46,7 @@ pub record NumbersOfLists (s : Script) (es : List Entry) : Type 0 where
 -- after a legal journal there are at most as many objects as one run may make; each stands once at most among those
 -- that are finalised, and only such as were made; so there are no more of these
 pub record FewOfLegal (s : Script) (es : List Entry) : Type 0 where
-  pub objects : length (After s es).parts.objects ≤ 65536
+  pub objects : length (After s es).parts.objects ≤ OBJECTS
   pub once : (o : ℕ) → times o (After s es).parts.finalised ≤ 1
   pub made : (o : ℕ) → 0 < times o (After s es).parts.finalised → o < length (After s es).parts.objects
   pub finalised : length (After s es).parts.finalised ≤ length (After s es).parts.objects
@@ -53,8 +54,8 @@ pub record FewOfLegal (s : Script) (es : List Entry) : Type 0 where
 -- after so many entries an object has at most so many changes, and so many references to it, if the script has no more
 -- modes than it may
 pub record FewReferences (s : Script) (es : List Entry) (o : ℕ) : Type 0 where
-  pub moves : length s.modes ≤ 1024 → changes s o es ≤ 1025 * length es
-  pub references : length s.modes ≤ 1024 → degree o (After s es).edges ≤ 1025 * length es
+  pub moves : length s.modes ≤ MODES → changes s o es ≤ most_gained * length es
+  pub references : length s.modes ≤ MODES → degree o (After s es).edges ≤ most_gained * length es
 
 -- the objects to which an entry adds references, one for each, are a list: an object stands in it as often as it gains
 -- a reference, and it has no more numbers than the script has modes and the run has objects, and two

@@ -1,6 +1,7 @@
 -- The changes of an object: how far each entry moves the number of references to it, summed. This
 -- project's own.
 use Rattle.std.specs.Prelude.{◌≡◌, ℕ, ◌+◌, ◌-◌, ◌≤◌, List, [], ◌∷◌, ◌++◌}
+use Rattle.cf_ids.specs.declared.limits.TheConstants.{MODES}
 use Rattle.cf_syntax.specs.declared.script.Script.{Script}
 use Rattle.cf_graph.specs.Edges.{Reference, degree}
 use Rattle.cf_model.specs.declared.entry.Entry.{Entry}
@@ -24,7 +25,7 @@ changes s o es = changes_from s (start s) o es
 
 -- the most references that one entry adds to one object: one from the common items, and one from each mode
 abbrev pub most_gained : ℕ
-most_gained = 1025
+most_gained = MODES + 1
 
 -- references before and after: to no object are there fewer, or to none are there more
 pub data OneWay (before after : List Reference) : Type 0 where

@@ -1,5 +1,6 @@
 -- How journals end. This project's own.
 use Rattle.std.specs.Prelude.{◌≡◌, ℕ, ◌<◌, List, length, IsTrue, false}
+use Rattle.cf_ids.specs.declared.limits.TheConstants.{OBJECTS}
 use Rattle.cf_syntax.specs.declared.script.Script.{Script}
 use Rattle.cf_model.specs.declared.entry.Entry.{Entry}
 use Rattle.cf_model.specs.declared.ending.Ending.{Ending}
@@ -12,7 +13,7 @@ pub record IsFull (s : Script) (st : State) : Type 0 where
   pub thread : ℕ
   pub going : IsTrue (can_go st thread)
   pub making : IsTrue (makes s st thread)
-  pub made : length st.parts.objects ≡ 65536
+  pub made : length st.parts.objects ≡ OBJECTS
 
 -- a journal that ends with a stall, and one that is whole; one that is neither, and as long as its limit; and one that
 -- is none of these, since the next action of a thread makes an object too many

@@ -1,6 +1,7 @@
 -- What an entry does to references, for one who answers for some threads alone. This project's own.
 use Rattle.std.specs.Prelude.{◌≡◌, ℕ, ◌+◌, ◌<◌, ◌≤◌, ◌⊎◌, List, [], ◌∷◌, ◌++◌, length, Option, Some, None, IsTrue, ◌==◌}
 use Rattle.std.specs.List.{list_any}
+use Rattle.cf_ids.specs.declared.limits.TheConstants.{MODES}
 use Rattle.cf_syntax.specs.declared.script.Script.{Script}
 use Rattle.cf_graph.specs.Edges.{weigh, held_with}
 use Rattle.cf_graph.specs.Flows.{Flow, still, gains, cuts}
@@ -51,4 +52,4 @@ ChangesGrow s journal e =
 -- for the common items
 abbrev pub GainsFew : Script → List Entry → Entry → Type 0
 GainsFew s journal e =
-    (o : ℕ) → length s.modes ≤ 1024 → gains o (flow_in s e.thread (After s journal) e.action) ≤ most_gained
+    (o : ℕ) → length s.modes ≤ MODES → gains o (flow_in s e.thread (After s journal) e.action) ≤ most_gained

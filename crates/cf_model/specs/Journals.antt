@@ -3,6 +3,7 @@
 -- time moves only if every thread sleeps is this project's own too.
 use Rattle.std.specs.Prelude.{◌≡◌, ℕ, ◌<◌, Bool, true, false, ◌&&◌, ◌||◌, not, IsTrue, List, [], ◌∷◌, ◌++◌, length, map, Option, Some, None, ◌==◌, if◌then◌else◌}
 use Rattle.std.specs.List.{list_all, list_any, AllByRecursion}
+use Rattle.cf_ids.specs.declared.limits.TheConstants.{OBJECTS}
 use Rattle.cf_ids.specs.declared.answer.Answer.{Answer}
 use Rattle.cf_ids.specs.declared.answer.Answer.TheVariants as answers
 use Rattle.rl_base.specs.Dates.{has_come, least_date}
@@ -242,7 +243,7 @@ pub record IsLegalStep (s : Script) (st : State) (e : Entry) : Type 0 where
   pub next : Next s st e.thread ≡ Some e.action
   pub uses : MayUseAll st e.thread (owners_of e.action) (uses_of e.action e.answer)
   pub answer : e.answer ≡ answer_if s e.thread st (demanded s st e.thread)
-  pub room : IsTrue (makes s st e.thread) → length st.parts.objects < 65536
+  pub room : IsTrue (makes s st e.thread) → length st.parts.objects < OBJECTS
 
 -- the lead is thread 255
 abbrev pub lead : ℕ

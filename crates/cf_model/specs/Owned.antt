@@ -1,6 +1,7 @@
 -- What holds after every list of entries of an owned script, legal or not, since what an entry does is what its thread
 -- demands. This project's own, after the ownership rule of the Memory Management guide.
 use Rattle.std.specs.Prelude.{◌≡◌, ℕ, ◌<◌, List, [], ◌∷◌, length, Some, IsTrue}
+use Rattle.cf_ids.specs.declared.limits.TheConstants.{OBJECTS}
 use Rattle.cf_syntax.specs.declared.script.Script.{Script}
 use Rattle.cf_syntax.specs.declared.statement.Statement.TheVariants.{Release}
 use Rattle.cf_syntax.specs.BlockLines.{says}
@@ -24,7 +25,7 @@ UsesFit s es =
 abbrev pub NextIsLegal : Script → List Entry → Type 0
 NextIsLegal s es =
     let st = After s es in
-    (t : ℕ) (a : Action) → Next s st t ≡ Some a → (IsTrue (makes s st t) → length st.parts.objects < 65536)
+    (t : ℕ) (a : Action) → Next s st t ≡ Some a → (IsTrue (makes s st t) → length st.parts.objects < OBJECTS)
     → IsLegalEntry s st (record { thread = t; action = a; answer = answer_if s t st (demanded s st t) })
 
 -- if a thread's next statement releases the object of a variable, the variable's reference is taken away

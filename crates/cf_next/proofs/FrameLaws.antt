@@ -1,6 +1,7 @@
 -- The frames of a thread as contracts see them.
 use Rattle.std.proofs.Common.{◌≡◌, ℕ, suc, ◌≤◌, ◌<◌, Bool, true, false, cond, List, [], ◌∷◌, ◌++◌, length, take, drop, reverse, None, refl, sym, ap, ◌∙◌, subst, arith}
 use Rattle.std.specs.Option.{option_map}
+use Rattle.cf_ids.specs.declared.limits.TheConstants.{VARIABLES}
 use Rattle.cf_next.specs.declared.object.MaybeObject.{MaybeObject}
 use Rattle.cf_next.specs.declared.parts.Bound.{Bound}
 use Rattle.cf_next.specs.declared.parts.Callee.{Callee as CodeCallee}
@@ -50,14 +51,14 @@ length-stop (g ∷ fs) = by (code_is_run g.kind) (length-stop fs)
 
 pub new-stack : (t : ℕ) (below : List CodeFrame) (bs : List (List Bound)) (ks : List (List CodeCallee))
     (table : List MaybeObject)
-    → below ≡ [] → bs ≡ [] ∷ [] → ks ≡ [] ∷ [] → length table ≡ 256 → ((v : ℕ) → cell_of table v ≡ None)
+    → below ≡ [] → bs ≡ [] ∷ [] → ks ≡ [] ∷ [] → length table ≡ VARIABLES → ((v : ℕ) → cell_of table v ≡ None)
     → IsStack (record { kind = Block t; number = 0 } ∷ reverse below) bs ks table
 new-stack t below bs ks table e eb ek size none =
     rw (e, eb, ek) (record { based = refl; bindings_each = refl; collected_each = refl; table_size = size; table_is = none })
 
 pub push-stack : (f top : CodeFrame) (below new : List CodeFrame) (bs : List (List Bound)) (ks : List (List CodeCallee))
     (table table' : List MaybeObject)
-    → IsStack (top ∷ reverse below) bs ks table → new ≡ below ++ top ∷ [] → length table' ≡ 256
+    → IsStack (top ∷ reverse below) bs ks table → new ≡ below ++ top ∷ [] → length table' ≡ VARIABLES
     → ((v : ℕ) → cell_of table' v ≡ None) → IsStack (f ∷ reverse new) ([] ∷ bs) ([] ∷ ks) table'
 push-stack f top below new bs ks table table' h e size none =
     rw (e, reverse-last below top) (record {
@@ -74,7 +75,7 @@ less-one (x ∷ xs) n h = omega (arith, h)
 
 pub pop-stack : (f top : CodeFrame) (below new : List CodeFrame) (bs : List (List Bound)) (ks : List (List CodeCallee))
     (table table' : List MaybeObject)
-    → IsStack (top ∷ reverse below) bs ks table → below ≡ new ++ f ∷ [] → length table' ≡ 256
+    → IsStack (top ∷ reverse below) bs ks table → below ≡ new ++ f ∷ [] → length table' ≡ VARIABLES
     → ((v : ℕ) → cell_of table' v ≡ look v (bindings_of (top_row (drop 1 bs))))
     → IsStack (f ∷ reverse new) (drop 1 bs) (drop 1 ks) table'
 pop-stack f top below new bs ks table table' h e size is =

@@ -1,6 +1,7 @@
 -- The lists of what a thread has references to, one element more, and the counts of lines, one line more.
 use Rattle.std.proofs.Common.{◌≡◌, ℕ, zero, suc, ◌+◌, ◌-◌, ◌<◌, ◌≤◌, ◌^◌, List, [], ◌∷◌, ◌++◌, length, take, replicate, get_or, Option, Some, None, refl, sym, ap, ◌∙◌, subst, arith, append_assoc}
 use Rattle.std.specs.Prelude.{slice_get}
+use Rattle.cf_ids.specs.declared.limits.TheConstants.{VARIABLES}
 use Rattle.cf_syntax.specs.declared.counts.Counts.{Counts}
 use Rattle.cf_syntax.specs.declared.script.Script.{Script}
 use Rattle.cf_syntax.specs.BlockLines.{BlockLine}
@@ -130,9 +131,9 @@ cell-past (x ∷ xs) (suc v) le = cell-past xs v (omega (arith, le))
 -- the counts are those of the lines, and the table has what is bound
 pub counted-same : (table : List MaybeObject) (c : Counts) (done : List BlockLine) (f : Frame) → Counted c done
     → ((v : ℕ) → cell_of table v ≡ look v f.bindings)
-    → below (counted_objects table c) 256 ≡ below (variable_objects done f) 256
+    → below (counted_objects table c) VARIABLES ≡ below (variable_objects done f) VARIABLES
 counted-same table c done f t cells =
-    below-same (counted_objects table c) (variable_objects done f) 256
+    below-same (counted_objects table c) (variable_objects done f) VARIABLES
     (λ v small. ap (λ (found : Option ℕ). copies found (get_or c.given v 0 - get_or c.released v 0)) (cells v)
     ∙ ap (λ (n : ℕ). copies (look v f.bindings) (n - get_or c.released v 0)) (t.gives v small) ∙ ap (λ (n : ℕ). copies (look v f.bindings) (given v done - n)) (t.takes v small))
 
@@ -141,7 +142,7 @@ pub held-whole : (s : Script) (stand : Stand) (table : List MaybeObject) (c : Co
     (work : List Work) (start first after : List ℕ)
     → Counted c (take n (frame_lines s k b)) → n ≡ (top_frame stand.frames).number → k ≡ (top_frame stand.frames).kind → b ≡ (top_frame stand.frames).block
     → ((v : ℕ) → cell_of table v ≡ look v (top_frame stand.frames).bindings) → work ≡ stand.work
-    → first ≡ start ++ below (counted_objects table c) 256 → after ≡ first ++ owed_objects work → after ≡ start ++ held_objects s stand
+    → first ≡ start ++ below (counted_objects table c) VARIABLES → after ≡ first ++ owed_objects work → after ≡ start ++ held_objects s stand
 held-whole s stand table c k b n work start first after counted number kind block cells is variables owed =
     let f = top_frame stand.frames in
     let passed : Counted c (passed_lines s f) =

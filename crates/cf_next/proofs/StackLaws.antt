@@ -4,6 +4,7 @@ use Rattle.std.specs.Prelude.{slice_set, slice_index_or}
 use Rattle.std.proofs.lemmas.Bool.Decides.{eqb_tells}
 use Rattle.std.proofs.lemmas.List.{get_or-set_same, get_or-set_other, length-replicate, length-reverse, length-map, length-drop, length-take, reverse-append, map-append, take-append-drop}
 use Rattle.std.proofs.Math.Seq.{take-suc, drop-cons, drop-append_seam, set-append_seam}
+use Rattle.cf_ids.specs.declared.limits.TheConstants.{VARIABLES}
 use Rattle.cf_next.specs.declared.object.MaybeObject.{MaybeObject}
 use Rattle.cf_next.specs.declared.parts.Bound.{Bound}
 use Rattle.cf_next.specs.declared.parts.Frame.{Frame as CodeFrame}
@@ -26,11 +27,11 @@ same-cell zero v = refl
 same-cell (suc n) zero = refl
 same-cell (suc n) (suc v) = same-cell n v
 
-pub cells_none : (v : ℕ) → cell_of (replicate 256 nothing) v ≡ None
-cells_none v = ap object_of (same-cell 256 v)
+pub cells_none : (v : ℕ) → cell_of (replicate VARIABLES nothing) v ≡ None
+cells_none v = ap object_of (same-cell VARIABLES v)
 
-pub cells-size : length (replicate 256 nothing) ≡ 256
-cells-size = length-replicate 256 nothing
+pub cells-size : length (replicate VARIABLES nothing) ≡ VARIABLES
+cells-size = length-replicate VARIABLES nothing
 
 -- a variable more is bound
 pub cell-bound : (b : Bound) (w : ℕ) (bs : List Binding) (table : List MaybeObject) → b.variable < length table

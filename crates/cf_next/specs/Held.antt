@@ -1,6 +1,7 @@
 -- What a thread has references to, by its innermost frame and its work: each object as often as it has. This project's
 -- own.
 use Rattle.std.specs.Prelude.{ℕ, zero, suc, ◌-◌, List, [], ◌∷◌, ◌++◌, take, replicate, slice_index, Option, Some, None}
+use Rattle.cf_ids.specs.declared.limits.TheConstants.{VARIABLES}
 use Rattle.cf_syntax.specs.declared.script.Script.{Script}
 use Rattle.cf_syntax.specs.declared.counts.Counts.{Counts}
 use Rattle.cf_syntax.specs.BlockLines.{BlockLine}
@@ -42,7 +43,7 @@ owed_objects (slots_of b k ∷ work) = owed_objects work
 
 -- the objects of the variables of a frame
 abbrev pub frame_objects : Script → Frame → List ℕ
-frame_objects s f = below (variable_objects (passed_lines s f) f) 256
+frame_objects s f = below (variable_objects (passed_lines s f) f) VARIABLES
 
 -- what a thread has references to by where it stands
 abbrev pub held_objects : Script → Stand → List ℕ

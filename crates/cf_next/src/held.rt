@@ -1,5 +1,6 @@
 //! What a thread has references to, by where it stands.
 ghost use Rattle.std.specs.Prelude.{◌≡◌, ℕ, ◌≤◌, ◌++◌, ◌∷◌, [], None, take, replicate, OnOk};
+ghost use Rattle.cf_ids.specs.declared.limits.TheConstants.{VARIABLES};
 ghost use Rattle.cf_syntax.specs.BlockLines.{line_ownership};
 ghost use Rattle.cf_syntax.specs.Counting.{Counted};
 ghost use Rattle.cf_next.specs.Demands.{frame_lines};
@@ -22,7 +23,7 @@ impl Frames {
     pub fn held(&self, script: &Script, out: &mut Vec<ObjId>) -> Result<(), NoMemory>
         requires { script.now.thread_count ≤ 64 }
         ensures objects { OnOk result (out.new.items ≡ out.old.items ++ held_objects script.now self.now.stand) }
-        ensures variables { (v : ℕ) → 256 ≤ v → look v (top_frame self.now.stand.frames).bindings ≡ None }
+        ensures variables { (v : ℕ) → VARIABLES ≤ v → look v (top_frame self.now.stand.frames).bindings ≡ None }
     {
         let counts = count_lines(script, self.stack.kind(), self.stack.number());
         add_variables(out, self.stack.table(), &counts)?;
@@ -85,7 +86,7 @@ fn add_variables(
     table: &[MaybeObject; VARIABLES],
     counts: &Counts,
 ) -> Result<(), NoMemory>
-    ensures { OnOk result (out.new.items ≡ out.old.items ++ below (counted_objects table.now counts.now) 256) }
+    ensures { OnOk result (out.new.items ≡ out.old.items ++ below (counted_objects table.now counts.now) VARIABLES) }
 {
     for v in 0..VARIABLES {
         let number = counts.given[v].saturating_sub(counts.released[v]);

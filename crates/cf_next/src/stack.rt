@@ -117,7 +117,7 @@ impl Stack {
     /// What the variables of the innermost frame have, by number.
     pub(crate) fn table(&self) -> &[MaybeObject; VARIABLES]
         ensures cells { (v : ℕ) → cell_of result.now v ≡ look v (top_frame self.now.frames).bindings }
-        ensures size { length result.now ≡ 256 }
+        ensures size { length result.now ≡ VARIABLES }
     {
         &self.table
     }

@@ -2,6 +2,7 @@
 ghost use Rattle.std.specs.Prelude.{◌≡◌, ◌≤◌, ◌&&◌, ◌||◌, IfSome, Some, length, map, nat_lt, true};
 ghost use Rattle.std.specs.List.{list_any};
 ghost use Rattle.std.specs.Option.{option_map};
+ghost use Rattle.cf_ids.specs.declared.limits.TheConstants.{VARIABLES};
 ghost use Rattle.cf_syntax.specs.FormTable.{forms_now};
 ghost use Rattle.cf_syntax.specs.FormWords.{is_kind, starts, begins, has_count, find_row, form_of};
 ghost use Rattle.cf_script.specs.Views.{lent};
@@ -83,7 +84,7 @@ fn any_begins(rows: &[FormWord], words: &[&[u8]]) -> bool
 
 /// The first of some forms that the words of a line begin, with as many words as it has. Its place is noted.
 fn find_row(rows: &'static [FormWord], words: &[&[u8]], place: &mut u8) -> Option<&'static FormWord>
-    requires { length rows.now ≤ 256 }
+    requires { length rows.now ≤ VARIABLES }
     ensures { option_map (λ r. form_word_of r.now) result
         ≡ find_row (λ r. begins r (lent words.now) && has_count r (lent words.now)) (map form_word_of rows.now) }
 {

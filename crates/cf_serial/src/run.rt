@@ -1,5 +1,6 @@
 //! A serial run as far as it has come.
 ghost use Rattle.std.specs.Prelude.{◌≡◌, ◌<◌, ◌≤◌, ℕ, List, [], Option, Some, None, false, IsTrue, OnOk, IfOk};
+ghost use Rattle.cf_ids.specs.declared.limits.TheConstants.{LARGEST_LIMIT};
 ghost use Rattle.cf_syntax.specs.Stage.{IsOfStage};
 ghost use Rattle.cf_world.specs.declared.next.LeadNext.TheVariants as leads;
 ghost use Rattle.cf_serial.specs.Running.{ActsNext, ClockKeeps, FirstOf, Goes, IsRun, IsSameJournal, IsStep, LeadsNext, TurnOf, can_act, date_of, ending_by, ending_of, goes_on, lead_turn_by, picks, prepared_run, turn_below, turn_by};
@@ -114,7 +115,7 @@ impl Run {
     /// A run at its start.
     pub fn begin(alloc: Global, script: Checked, limit: u32) -> Result<Run, NoMemory>
         requires some { 1 ≤ limit }
-        requires most { limit ≤ 4000000 }
+        requires most { limit ≤ LARGEST_LIMIT }
         requires stage { IsOfStage script }
         ensures run { IfOk result (λ r. IsRun r) }
         ensures world { IfOk result (λ r. r.world

@@ -1,5 +1,6 @@
 //! The serial run of a script, to its end.
 ghost use Rattle.std.specs.Prelude.{◌≡◌, ◌≤◌, IfOk, IsSome, Some};
+ghost use Rattle.cf_ids.specs.declared.limits.TheConstants.{LARGEST_LIMIT};
 ghost use Rattle.cf_syntax.specs.Stage.{IsOfStage};
 ghost use Rattle.cf_model.specs.Journals.{After};
 ghost use Rattle.cf_world.specs.Worlds.{edges_in};
@@ -57,7 +58,7 @@ pub fn serial_run<C: Clock>(
     clock: &mut C,
 ) -> Result<Ran, NoMemory>
     requires some { 1 ≤ limit }
-    requires most { limit ≤ 4000000 }
+    requires most { limit ≤ LARGEST_LIMIT }
     requires stage { IsOfStage script }
     ensures script { IfOk result (λ ran. ran.script ≡ script) }
     ensures run { IfOk result (λ ran. HasRun script limit (C.times clock.old) ran.ending ran.journal.items) }

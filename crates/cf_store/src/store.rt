@@ -1,6 +1,7 @@
 //! Bodies by number.
 ghost use Rattle.std.specs.Prelude.{◌≡◌, ◌+◌, ◌-◌, ◌≤◌, ◌<◌, ◌++◌, ◌∷◌, [], true, false, None, Some, length, map, slice_get, vec_len, vec_capacity, IfOk, IfSome, IfNone, IsSome, OnOk, OnErr, OnSome};
 ghost use Rattle.std.specs.Option.{option_map};
+ghost use Rattle.cf_ids.specs.declared.limits.TheConstants.{OBJECTS};
 ghost use Rattle.cf_contents.specs.Contents.{present};
 ghost use Rattle.cf_contents.specs.Deeds.{object_of, coming_in, going_out, taken_in, given_out};
 ghost use Rattle.cf_body.specs.Bodies.{held_of};
@@ -159,7 +160,7 @@ impl Store {
     /// Makes the next object, of this new body. It takes no memory.
     pub fn make(&mut self, body: Body) -> ObjId
         requires room { 0 < self.old.room }
-        requires few { length self.old.bodies < 65536 }
+        requires few { length self.old.bodies < OBJECTS }
         requires new { IsNewBody body }
         ensures number { result ≡ length self.old.bodies }
         ensures bodies { self.new.bodies ≡ self.old.bodies ++ held_of body ∷ [] }

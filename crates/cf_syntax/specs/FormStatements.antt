@@ -3,6 +3,7 @@
 use Rattle.std.specs.Prelude.{ℕ, ◌+◌, ◌-◌, Bool, ℤ, pos, List, [], length, codes, Option, Some, None, unwrap_or, Result, Ok, Err, slice_index, slice_index_or, nat_lt, nat_le, if◌then◌else◌}
 use Rattle.std.specs.List.{position_or_len}
 use Rattle.std.specs.Str.{bytes_eq, is_utf8, chars}
+use Rattle.cf_ids.specs.declared.limits.TheConstants.{FIELDS}
 use Rattle.cf_number.specs.declared.kinds.NumKind.{NumKind}
 use Rattle.cf_number.specs.declared.kinds.NumKind.TheVariants.{S8}
 use Rattle.cf_number.specs.Kinds.{fits_kind}
@@ -37,7 +38,7 @@ number_at ws i = unwrap_or (unum_of (word_at ws i)) 0
 
 -- a number of fields, which is at most 255, and a MASK, whose bits have a sum of 231
 abbrev pub field_count_at : List (List ℕ) → ℕ → ℕ
-field_count_at ws i = let n = index_at ws i in if nat_le n 255 then n else 0
+field_count_at ws i = let n = index_at ws i in if nat_le n FIELDS then n else 0
 
 abbrev pub mask_at : List (List ℕ) → ℕ → ℕ
 mask_at ws i = let n = number_at ws i in if nat_le n 231 then n else 0

@@ -10,6 +10,7 @@ use Rattle.cf_syntax.specs.declared.form.NameTable.{NameTable}
 use Rattle.cf_syntax.specs.declared.form.NameTable.TheVariants.{Variables, Handlers, Modes, Notices}
 use Rattle.cf_syntax.specs.declared.refusal.Reason.{Reason}
 use Rattle.cf_syntax.specs.declared.refusal.Reason.TheVariants.{Word, Kind, Arity, Text, Name, Number, Hex, TooMany}
+use Rattle.cf_ids.specs.declared.limits.TheConstants.{VARIABLES, HANDLERS, MODES, NOTICES}
 use Rattle.cf_syntax.specs.Words.{is_name, is_text}
 use Rattle.cf_syntax.specs.Numbers.{index_of, unum_of, integer_of, bytes_of, kind_of, is_mask, is_field_count}
 use Rattle.cf_syntax.specs.FormTable.{FormWord, forms_now}
@@ -180,10 +181,10 @@ names_in Modes names = names.modes
 names_in Notices names = names.notices
 
 abbrev pub limit_of : NameTable → ℕ
-limit_of Variables = 256
-limit_of Handlers = 1024
-limit_of Modes = 1024
-limit_of Notices = 1024
+limit_of Variables = VARIABLES
+limit_of Handlers = HANDLERS
+limit_of Modes = MODES
+limit_of Notices = NOTICES
 
 abbrev pub with_names : NameTable → List (List ℕ) → Names → Names
 with_names Variables ns names = record names { variables = ns }

@@ -4,6 +4,7 @@ use Rattle.std.specs.Option.{option_map}
 use Rattle.std.specs.List.{list_all}
 use Rattle.std.specs.Int.{is_in_range}
 use Rattle.std.specs.Str.{bytes_eq}
+use Rattle.cf_ids.specs.declared.limits.TheConstants.{FIELDS}
 use Rattle.hex.specs.Hex.{decode_of}
 use Rattle.hex.specs.declared.error.FromHexError.{FromHexError}
 use Rattle.cf_number.specs.declared.kinds.NumKind.{NumKind}
@@ -42,7 +43,7 @@ unum_of word = number_below (2 ^ 64) word
 -- a number of fields, which is an INDEX of at most 255
 abbrev pub is_field_count : Option ℕ → Bool
 is_field_count None = false
-is_field_count (Some n) = nat_le n 255
+is_field_count (Some n) = nat_le n FIELDS
 
 -- a MASK: at least one of the bits 1, 2, 4, 32, 64 and 128, and no other
 abbrev pub is_mask : Option ℕ → Bool

@@ -1,5 +1,6 @@
 -- What a statement that binds a variable finds among bodies, and the body that it makes. This project's own.
 use Rattle.std.specs.Prelude.{ℕ, ◌<◌, List, [], ◌∷◌, length, Option, None, Some, if◌then◌else◌}
+use Rattle.cf_ids.specs.declared.limits.TheConstants.{OBJECTS}
 use Rattle.cf_contents.specs.Deeds.{Origin, nowhere, fresh, there}
 use Rattle.cf_contents.specs.Stores.{Held, live, is_live_in}
 
@@ -18,5 +19,5 @@ bodies_from (there o) = []
 -- there is room for the body that is made, and one more object may be made
 abbrev pub MayMake : Origin → List Held → (room : ℕ) → Type 0
 MayMake nowhere bodies room = Unit {0}
-MayMake (fresh ob) bodies room = (0 < room) × (length bodies < 65536)
+MayMake (fresh ob) bodies room = (0 < room) × (length bodies < OBJECTS)
 MayMake (there o) bodies room = Unit {0}

@@ -1,5 +1,6 @@
 -- What the entries of a thread ask of the ground of a world, and what they leave. This project's own.
 use Rattle.std.specs.Prelude.{◌≡◌, ℕ, ◌+◌, ◌<◌, ◌≤◌, ◌⊎◌, IsTrue, List, [], ◌∷◌, ◌++◌, length, map, Option, Some, None, slice_index_or, slice_set, ◌==◌, if◌then◌else◌}
+use Rattle.cf_ids.specs.declared.limits.TheConstants.{OBJECTS}
 use Rattle.cf_ids.specs.declared.answer.Answer.{Answer}
 use Rattle.cf_ids.specs.declared.answer.Answer.TheVariants as answers
 use Rattle.cf_ids.specs.declared.answer.Ended.{Ended}
@@ -30,7 +31,7 @@ use Rattle.cf_world.specs.Grounds.{GroundView, state_of, deed_of}
 pub record MayAct (g : GroundView) (t : ℕ) (a : Action) : Type 0 where
   pub thread : t < g.script.thread_count
   pub next : Next g.script (state_of g) t ≡ Some a
-  pub few : IsTrue (makes g.script (state_of g) t) → length (state_of g).parts.objects < 65536
+  pub few : IsTrue (makes g.script (state_of g) t) → length (state_of g).parts.objects < OBJECTS
   pub room : 0 < g.journal_room
   pub short : length g.journal < 4000000
 

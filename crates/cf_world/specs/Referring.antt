@@ -1,6 +1,7 @@
 -- The references that there are, by the parts of a world: those of variables and of owed work by where threads stand,
 -- those of parcels by their rows, and those of slots by bodies. This project's own.
 use Rattle.std.specs.Prelude.{◌≡◌, ℕ, ◌<◌, ◌≤◌, List, [], ◌∷◌, ◌++◌, length, map, Option, None, slice_index_or}
+use Rattle.cf_ids.specs.declared.limits.TheConstants.{VARIABLES}
 use Rattle.cf_syntax.specs.declared.script.Script.{Script}
 use Rattle.cf_graph.specs.declared.edge.Edge.{Edge}
 use Rattle.cf_graph.specs.Holders.{variable, owed, parcel, slot}
@@ -20,7 +21,7 @@ variable_references s t f v = map (held_by (variable t 0 v)) (variable_objects (
 -- those of a thread: of its variables and of its work
 abbrev pub thread_references : Script → ℕ → Stand → List Reference
 thread_references s t stand =
-    below (variable_references s t (top_frame stand.frames)) 256 ++ map (held_by (owed t)) (owed_objects stand.work)
+    below (variable_references s t (top_frame stand.frames)) VARIABLES ++ map (held_by (owed t)) (owed_objects stand.work)
 
 -- the same by the stands of all threads
 abbrev pub stand_references : Script → List Stand → ℕ → List Reference
@@ -44,7 +45,7 @@ thread_edge t o = edge_of (held_by (owed t) o)
 
 -- the variables of a thread's frame have numbers below 256
 abbrev pub HasVariables : Stand → Type 0
-HasVariables stand = (v : ℕ) → 256 ≤ v → look v (top_frame stand.frames).bindings ≡ None
+HasVariables stand = (v : ℕ) → VARIABLES ≤ v → look v (top_frame stand.frames).bindings ≡ None
 
 -- the same of each of the first threads, so many
 abbrev pub AllHaveVariables : List Stand → ℕ → Type 0

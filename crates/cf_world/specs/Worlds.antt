@@ -1,6 +1,7 @@
 -- What a world is to its callers: its script, its limit, its journal, what its last `apply` gained, and for whose next
 -- action there is room. All else of it is the state after the journal. This project's own.
 use Rattle.std.specs.Prelude.{◌≡◌, ℕ, ◌<◌, ◌≤◌, Bool, not, ◌&&◌, nat_le, List, [], ◌∷◌, ◌++◌, length, Option, Some, None, slice_get, ◌==◌, if◌then◌else◌}
+use Rattle.cf_ids.specs.declared.limits.TheConstants.{OBJECTS}
 use Rattle.cf_ids.specs.declared.answer.Answer.TheVariants as answers
 use Rattle.cf_ids.specs.declared.answer.Ended.{Ended}
 use Rattle.cf_ids.specs.declared.answer.Ended.TheVariants.{More, Last}
@@ -73,7 +74,7 @@ IsThread w t = IsThreadBy w.script t
 abbrev pub next_below : Script → (limit : ℕ) → List Entry → ℕ → Action → Next
 next_below s limit journal t a =
     if nat_le limit (length journal) then nexts.Limit
-    else (if makes s (After s journal) t && nat_le 65536 (length (After s journal).parts.objects) then nexts.Full
+    else (if makes s (After s journal) t && nat_le OBJECTS (length (After s journal).parts.objects) then nexts.Full
     else nexts.Act a)
 
 -- the same, if there is an action

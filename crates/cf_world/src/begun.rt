@@ -1,5 +1,6 @@
 //! A world whose script has begun.
 ghost use Rattle.std.specs.Prelude.{◌≡◌, ℕ, List, ◌-◌, ◌<◌, ◌≤◌, [], ◌∷◌, Bool, length, slice_get, count_by, Some, None, IfOk, OnOk, OnErr};
+ghost use Rattle.cf_ids.specs.declared.limits.TheConstants.{LARGEST_LIMIT};
 ghost use Rattle.cf_graph.specs.declared.edge.Edge.{Edge};
 ghost use Rattle.cf_graph.specs.Edges.{edges_of};
 ghost use Rattle.cf_next.specs.Actions.{cut_of};
@@ -64,7 +65,7 @@ impl Begun {
     /// A script at its start, with the journal's room for `limit` entries taken at once.
     pub fn new(alloc: Global, script: Checked, limit: u32) -> Result<Begun, NoMemory>
         requires runs { MayRun script }
-        requires most { limit ≤ 4000000 }
+        requires most { limit ≤ LARGEST_LIMIT }
         ensures { IfOk result (λ b. b
             ≡ record { script = Some script; limit = limit; journal = []; gained = []; room = None }) }
     {

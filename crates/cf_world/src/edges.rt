@@ -1,5 +1,6 @@
 //! The references that there are.
 ghost use Rattle.std.specs.Prelude.{◌≡◌, ℕ, ◌<◌, ◌≤◌, ◌++◌, Bool, count_by, length, map, IfOk, OnOk};
+ghost use Rattle.cf_ids.specs.declared.limits.TheConstants.{OBJECTS};
 ghost use Rattle.cf_syntax.specs.BlockLines.{thread_block, uses_in};
 ghost use Rattle.cf_graph.specs.declared.edge.Edge.{Edge};
 ghost use Rattle.cf_graph.specs.Edges.{edges_of};
@@ -159,7 +160,7 @@ fn add_body(edges: &mut Vec<Edge>, store: &Store, body: ObjId) -> Result<(), NoM
 
 /// Adds the edges of the slots of all bodies.
 fn add_bodies(edges: &mut Vec<Edge>, store: &Store) -> Result<(), NoMemory>
-    requires { length store.now.bodies ≤ 65536 }
+    requires { length store.now.bodies ≤ OBJECTS }
     ensures { OnOk result (edges.new.items ≡ edges.old.items
         ++ edges_of (below (slot_references store.now.bodies) (length store.now.bodies))) }
 {

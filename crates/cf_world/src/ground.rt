@@ -1,6 +1,7 @@
 //! What a world keeps beside where its threads stand.
 ghost use Rattle.std.specs.Prelude.{◌≡◌, ℕ, ◌+◌, ◌<◌, ◌≤◌, [], None, Some, length, nat_le, IfOk, IfSome, OnOk, OnErr};
 ghost use Rattle.std.specs.Option.{option_copied};
+ghost use Rattle.cf_ids.specs.declared.limits.TheConstants.{OBJECTS};
 ghost use Rattle.cf_syntax.specs.BlockLines.{thread_block, uses_in};
 ghost use Rattle.cf_contents.specs.Stores.{Ready};
 ghost use Rattle.cf_next.specs.Views.{objects_of};
@@ -156,7 +157,7 @@ impl Ground {
 
     /// Whether as many objects were made as one run may make.
     pub fn is_full(&self) -> bool
-        ensures { result ≡ nat_le 65536 (length (state_of self.now).parts.objects) }
+        ensures { result ≡ nat_le OBJECTS (length (state_of self.now).parts.objects) }
     {
         OBJECTS <= self.store.count()
     }

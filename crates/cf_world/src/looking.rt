@@ -1,5 +1,6 @@
 //! What a thread of a world does next is found.
 ghost use Rattle.std.specs.Prelude.{◌≡◌, ℕ, ◌+◌, ◌<◌, ◌≤◌, Some, length};
+ghost use Rattle.cf_ids.specs.declared.limits.TheConstants.{LARGEST_LIMIT};
 ghost use Rattle.cf_next.specs.Facts.{Facts as Known};
 ghost use Rattle.cf_next.specs.Stands.{Stand};
 ghost use Rattle.cf_next.specs.Steps.{IsStep, demand_of};
@@ -27,7 +28,7 @@ pub(crate) fn look(
 ) -> Result<(), Halt>
     requires thread { t < ground.now.script.thread_count }
     requires frames { AreFrames ground.now.script (state_of ground.now) frames.now }
-    requires most { limit ≤ 4000000 }
+    requires most { limit ≤ LARGEST_LIMIT }
     requires room { limit ≤ length ground.now.journal + ground.now.journal_room }
     ensures { IsLooked ground.now limit t result kept.new }
 {

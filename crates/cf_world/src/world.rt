@@ -1,6 +1,7 @@
 //! The world.
 ghost use Rattle.std.specs.Prelude.{◌≡◌, ◌-◌, ◌<◌, ◌≤◌, [], ◌∷◌, ◌++◌, Bool, length, slice_get, count_by, Some, None, IsSome, IsSomeAnd, IfOk, OnOk, OnErr};
 ghost use Rattle.std.specs.Option.{option_map, option_copied};
+ghost use Rattle.cf_ids.specs.declared.limits.TheConstants.{LARGEST_LIMIT};
 ghost use Rattle.cf_graph.specs.declared.edge.Edge.{Edge};
 ghost use Rattle.cf_graph.specs.Edges.{edges_of};
 ghost use Rattle.cf_next.specs.Actions.{cut_of};
@@ -47,7 +48,7 @@ impl World {
     pub fn begin(&mut self, alloc: Global, script: Checked, limit: u32) -> Result<(), NoMemory>
         requires empty { self.old ≡ nowhere }
         requires some { 1 ≤ limit }
-        requires most { limit ≤ 4000000 }
+        requires most { limit ≤ LARGEST_LIMIT }
         requires stage { IsOfStage script }
         ensures begun { OnOk result (self.new
             ≡ record { script = Some script; limit = limit; journal = []; gained = []; room = None }) }

@@ -2,6 +2,7 @@
 use Rattle.std.proofs.Common.{◌≡◌, ◌+◌, ◌≤◌, length}
 use Rattle.std.specs.Prelude.{IsTrue}
 use Rattle.std.specs.Str.{IsUtf8}
+use Rattle.cf_ids.specs.declared.limits.TheConstants.{SCRIPT_BYTES}
 use Rattle.cf_syntax.specs.Lines.{lines}
 use Rattle.cf_syntax.specs.Text.{script_of}
 use Rattle.cf_script.specs.BlockViews.{reading_of}
@@ -12,7 +13,7 @@ use Rattle.cf_script.proofs.reader.read_script.Given as goal
 abbrev pub invariant-loop-rest : goal.invariant-loop-rest
 invariant-loop-rest l = record {
   so_far : finish (reading_of l.reader) (lines l.rest) ≡ script_of l.bytes;
-  within : l.reader.count + length l.rest ≤ 1048576;
+  within : l.reader.count + length l.rest ≤ SCRIPT_BYTES;
   utf8 : IsTrue l.is_known → IsUtf8 l.rest;
 }
 

@@ -7,10 +7,15 @@ const X: VarId = VarId(0);
 
 const Y: VarId = VarId(1);
 
+/// A name of which nothing is asked.
+fn unnamed(alloc: Global) -> Seq<u8> {
+    Seq::from_vec(Vec::new(alloc))
+}
+
 /// A block with what it takes from setup and its statements.
 fn block(alloc: Global, uses: Vec<Given>, statements: Vec<Statement>) -> Block {
     Block {
-        name: Seq::from_vec(Vec::new(alloc)),
+        name: unnamed(alloc),
         uses: Seq::from_vec(uses),
         variables: Seq::from_vec(Vec::new(alloc)),
         statements: Seq::from_vec(statements),
@@ -21,7 +26,7 @@ fn block(alloc: Global, uses: Vec<Given>, statements: Vec<Statement>) -> Block {
 }
 
 /// Setup retains x 65 times, posts, and runs; its x is packed for thread 1, which claims it, takes from an array, runs
-/// and releases. Handler 0 retains and releases its info, and runs; handler 1 has no block.
+/// and releases. Handler 0 retains and releases its info, and runs; handler 1 has no block. There are three modes.
 fn parts(alloc: Global) -> Result<Parts, AllocError> {
     let mut setup = vec![in alloc;
         Statement::MakeArray {
@@ -75,11 +80,11 @@ fn parts(alloc: Global) -> Result<Parts, AllocError> {
     ]?;
     let handlers = vec![in alloc;
         Handler {
-            name: Seq::from_vec(Vec::new(alloc)),
+            name: unnamed(alloc),
             block: Some(2)
         },
         Handler {
-            name: Seq::from_vec(Vec::new(alloc)),
+            name: unnamed(alloc),
             block: None
         },
     ]?;
@@ -88,7 +93,7 @@ fn parts(alloc: Global) -> Result<Parts, AllocError> {
         blocks: Seq::from_vec(blocks),
         thread_count: 2,
         handlers: Seq::from_vec(handlers),
-        modes: Seq::from_vec(Vec::new(alloc)),
+        modes: Seq::from_vec(vec![in alloc; unnamed(alloc), unnamed(alloc), unnamed(alloc)]?),
         notices: Seq::from_vec(Vec::new(alloc)),
     })
 }

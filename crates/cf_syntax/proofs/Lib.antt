@@ -3,6 +3,9 @@ pub mod BlockLaws
 pub mod CountLaws
 pub mod LengthLaws
 pub mod LineLaws
+pub mod NamedLaws
+pub mod NamedLines
+pub mod NamedReading
 pub mod NumberedLaws
 pub mod OnLiterals
 pub mod OwnedLaws

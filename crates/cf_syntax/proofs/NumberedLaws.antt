@@ -27,6 +27,7 @@ use Rattle.cf_syntax.specs.FormWords.{require, needed, form_of, are_of, Names, W
 use Rattle.cf_syntax.specs.FormStatements.{word_at, statement_by}
 use Rattle.cf_syntax.specs.Numbered.{IsPlaced, FitsText, IsNumbered}
 use Rattle.cf_syntax.specs.Text.{Opened, Reading, start, is_word, is_header, class_operands, handler_operands, thread_operands, has_words, class_has_name, block_has_name, class_by, class_line, new_block, setup_line, setup_variables, givens_of, used_words, numbered_uses, uses_of, thread_line, handler_line, outside, is_handler, close_block, end_line, statement_of, with_statement, statement_line, place_line, header_line, spoken_line, after_line, handler_named, ended, script_at, whole, on_line_after, read_from, thread_names, script_by, script_of}
+use Rattle.cf_syntax.proofs.NamedReading.{NamesOnly, text_names_only}
 use Rattle.cf_syntax.proofs.RefusalLaws.{bind_ok}
 use Rattle.cf_syntax.proofs.SizeLaws.{EachWithin, CountWithin, pieces_within, pieces_count, lines_within, within_more, words_count, Grown, passed, read_as, ok_is, numbered_grown, numbers_grown, counted_few, member, Named, named_on, named_push, with_member}
 
@@ -435,15 +436,19 @@ all_placed : (threads : ℕ) (blocks : List Block) (hs : List (List ℕ)) → th
 all_placed threads blocks hs t few =
     All-map IsPlaced (handler_named threads blocks) hs (λ k d lt. placed_at 1024 threads (block_names (drop threads blocks)) _ few (omega (arith, t)))
 
-whole_numbered : (c : ℕ) (r : Reading) (s : Parts) → Bounded c r → whole r ≡ Ok s → IsNumbered s
+whole_numbered : (c : ℕ) (r : Reading) (s : Parts) → Bounded c r → whole r ≡ Ok s → NamesOnly s → IsNumbered s
 unfolding whole
-whole_numbered c r s h e =
+whole_numbered c r s h e own =
     let a = bind_ok (ended r) _ s e in
     let names = handler_names r.threads r.blocks r.open_block in
-    subst IsNumbered (ok_is (script_at r) s a.2) (record {
+    let same = ok_is (script_at r) s a.2 in
+    let named = subst NamesOnly (sym same) own in
+    subst IsNumbered same (record {
       threads = h.threads;
       handlers = all_placed r.threads r.blocks r.names.handlers h.threads (omega (arith, length-append (block_names (drop r.threads r.blocks)) (open_name r.open_block), h.few, h.named, counted_few (member names) r.names.handlers));
       blocks = h.blocks;
+      modes = named.modes;
+      named = named.threads;
     })
 
 -- a text has a script whose numbers fit
@@ -454,4 +459,4 @@ text_numbered bs s le e =
     let count : length (lines bs) ≤ length bs = omega (arith, length-map (pieces bs) without_return, pieces_count bs) in
     whole_numbered _ a.0 s
     (read_next (thread_names (lines bs)) 0 start (lines bs) a.0 started (omega (arith, count, le)) (within_more (length bs) SCRIPT_BYTES (lines bs) le (lines_within (length bs) (pieces bs) (pieces_within bs))) a.1)
-    (line_ok a.0.count (whole a.0) s a.2)
+    (line_ok a.0.count (whole a.0) s a.2) (text_names_only bs s e)

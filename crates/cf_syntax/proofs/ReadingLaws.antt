@@ -27,31 +27,31 @@ use Rattle.cf_syntax.specs.Stage.{is_of_stage, IsOfStage}
 
 -- ---- what a result has, if it is Ok
 
-record OkHas {A E : Type 0} (P : A → Type 0) (r : Result A E) : Type 0 where
-  has : (x : A) → r ≡ Ok x → P x
+pub record OkHas {A E : Type 0} (P : A → Type 0) (r : Result A E) : Type 0 where
+  pub has : (x : A) → r ≡ Ok x → P x
 
 value_of : {A E : Type 0} → A → Result A E → A
 value_of a (Ok x) = x
 value_of a (Err e) = a
 
-ok_has : {A E : Type 0} (P : A → Type 0) (x : A) → P x → OkHas {A = A} {E = E} P (Ok x)
+pub ok_has : {A E : Type 0} (P : A → Type 0) (x : A) → P x → OkHas {A = A} {E = E} P (Ok x)
 unfolding value_of
 ok_has {A = A} {E = E} P x h = record { has = λ y e. subst P (ap (λ (r : Result A E). value_of x r) e) h }
 
-err_has : {A E : Type 0} (P : A → Type 0) (d : E) → OkHas {A = A} {E = E} P (Err d)
+pub err_has : {A E : Type 0} (P : A → Type 0) (d : E) → OkHas {A = A} {E = E} P (Err d)
 err_has P d = record { has = λ y e. absurd cc }
 
-then_has : {A B E : Type 0} (P : B → Type 0) (r : Result A E) (f : A → Result B E)
+pub then_has : {A B E : Type 0} (P : B → Type 0) (r : Result A E) (f : A → Result B E)
     → ((x : A) → r ≡ Ok x → OkHas P (f x)) → OkHas P (r >>= f)
 then_has P (Ok x) f h = h x refl
 then_has P (Err e) f h = err_has P e
 
-either_has : {A E : Type 0} (P : A → Type 0) (b : Bool) (x y : Result A E) → OkHas P x → OkHas P y
+pub either_has : {A E : Type 0} (P : A → Type 0) (b : Bool) (x y : Result A E) → OkHas P x → OkHas P y
     → OkHas P (cond b x y)
 either_has P true x y h k = h
 either_has P false x y h k = k
 
-has_ok : {A E : Type 0} (P : A → Type 0) (r : Result A E) (x : A) → r ≡ Ok x → OkHas P r → P x
+pub has_ok : {A E : Type 0} (P : A → Type 0) (r : Result A E) (x : A) → r ≡ Ok x → OkHas P r → P x
 has_ok P r x e h = h.has x e
 
 -- ---- the form of a line
@@ -264,7 +264,7 @@ line_reads threads r l h =
 
 -- ---- the lines of a text
 
-numbered_has : {A : Type 0} (P : A → Type 0) (count : ℕ) (r : Result A Reason) → OkHas P r
+pub numbered_has : {A : Type 0} (P : A → Type 0) (count : ℕ) (r : Result A Reason) → OkHas P r
     → OkHas P (on_line_after count r)
 numbered_has P count (Ok x) h = ok_has P x (h.has x refl)
 numbered_has P count (Err e) h = err_has P _

@@ -2,15 +2,16 @@
 ghost use Rattle.std.specs.Prelude.{◌≡◌, ◌<◌, ◌≤◌, ◌⊎◌, ℕ, List, length, Option, Some, slice_get};
 ghost use Rattle.cf_ids.specs.declared.limits.TheConstants.{SCRIPT_BYTES};
 ghost use Rattle.cf_syntax.specs.Words.{words};
-ghost use Rattle.cf_syntax.specs.Numbered.{IsNumbered};
+ghost use Rattle.cf_syntax.specs.Numbered.{IsNumbered, NamesOwn};
 ghost use Rattle.cf_syntax.specs.Spaced.{Spaced};
-ghost use Rattle.cf_syntax.specs.BlockLines.{claims, packs, setup_lines, thread_block, thread_lines, uses_in};
+ghost use Rattle.cf_syntax.specs.BlockLines.{claims, handler_lines, packs, says, setup_lines, thread_block, thread_lines, uses_in};
 ghost use Rattle.cf_syntax.specs.Packs.{IsWithin};
 ghost use Rattle.cf_syntax.specs.Stage.{IsOfStage};
 ghost use Rattle.cf_syntax.specs.Text.{Text};
 ghost use Rattle.cf_syntax.specs.Refusals.{Refused};
 ghost use Rattle.cf_syntax.specs.declared.script.Parts.{Parts};
 ghost use Rattle.cf_syntax.specs.declared.script.Script.{Script};
+ghost use Rattle.cf_syntax.specs.declared.statement.Statement.{Statement};
 ghost use Rattle.cf_syntax.specs.declared.refusal.Refusal.{Refusal};
 
 /// Bytes are the text of a script, or they are refused, and not both. A text has one refusal, and is that of one
@@ -29,6 +30,14 @@ pub fn texts_are_of_the_stage()
 /// A script that is read from a text of at most 1,048,576 bytes has numbers that fit those of actions.
 pub fn a_text_has_numbers_that_fit()
     ensures { (bs : List ℕ) (s : Parts) → length bs ≤ SCRIPT_BYTES → Text bs s → IsNumbered s }
+{}
+
+/// A statement of a script whose numbers fit names a thread and a mode of the script, where it names one.
+pub fn statements_name_their_own()
+    ensures threads { (s : Script) (t n : ℕ) (x : Statement) → IsNumbered s
+        → slice_get (thread_lines s t) n ≡ Some (says x) → NamesOwn s x }
+    ensures handlers { (s : Script) (h n : ℕ) (x : Statement) → IsNumbered s
+        → slice_get (handler_lines s h) n ≡ Some (says x) → NamesOwn s x }
 {}
 
 /// The words that are found in a line are those that it has, and it has no others.

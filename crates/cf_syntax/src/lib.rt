@@ -20,7 +20,7 @@ pub use examples::{a_script_that_is_owned, an_owned_script_fits, scripts_that_ar
 pub use form::{BlockKind, NameTable, Operand, StatementForm};
 pub use laws::{
     a_line_has_the_words_that_are_found, a_text_has_numbers_that_fit, each_text_is_read_or_refused,
-    packs_are_within, texts_are_of_the_stage,
+    packs_are_within, statements_name_their_own, texts_are_of_the_stage,
 };
 pub use literal::{DataLiteral, TextLiteral};
 pub use mention::{Mention, ModeWord, Ownership, ThreadWord};

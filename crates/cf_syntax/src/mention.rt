@@ -1,4 +1,7 @@
 //! The words of a statement that name something, and what a statement does to the count of a variable.
+ghost use Rattle.std.specs.Prelude.{◌≡◌};
+ghost use Rattle.cf_syntax.specs.Numbered.{mode_word, thread_word};
+
 use cf_ids::{HandlerId, ModeId, ThreadId, TypeId, VarId};
 
 /// The word THREAD: the thread that acts, or one that is named.
@@ -10,6 +13,18 @@ pub enum ThreadWord {
     Named(Option<ThreadId>),
 }
 
+impl ThreadWord {
+    /// The thread that is named by its name, where the script has it.
+    pub(crate) fn by_name(&self) -> Option<ThreadId>
+        ensures { result ≡ thread_word self.now }
+    {
+        match self {
+            ThreadWord::Own => None,
+            ThreadWord::Named(thread) => *thread,
+        }
+    }
+}
+
 /// The word MODE: a mode, or the common items of a run loop.
 #[derive(Clone, Copy)]
 pub enum ModeWord {
@@ -17,6 +32,18 @@ pub enum ModeWord {
     Common,
     /// The name of a mode.
     Mode(ModeId),
+}
+
+impl ModeWord {
+    /// The mode that is named by its name.
+    pub(crate) fn by_name(&self) -> Option<ModeId>
+        ensures { result ≡ mode_word self.now }
+    {
+        match self {
+            ModeWord::Common => None,
+            ModeWord::Mode(mode) => Some(*mode),
+        }
+    }
 }
 
 /// A word of a line that names something, which the owner check looks at.

@@ -1,10 +1,11 @@
 //! What a statement names, uses, makes and does to the counts of variables.
-ghost use Rattle.std.specs.Prelude.{◌≡◌};
+ghost use Rattle.std.specs.Prelude.{◌≡◌, ◌↔◌, true};
 ghost use Rattle.cf_syntax.specs.Mentions.{mentions_of, thread_mention, info_mention, used, present, ownership_of, used_by, makes_object, pad};
+ghost use Rattle.cf_syntax.specs.Numbered.{NamesMode, NamesThread, mode_in, thread_in};
 
 use crate::mention::{Mention, Ownership, ThreadWord};
 use crate::statement::Statement;
-use cf_ids::VarId;
+use cf_ids::{ModeId, ThreadId, VarId};
 
 /// What a word THREAD names.
 fn thread_mention(thread: &ThreadWord) -> Option<Mention>
@@ -345,5 +346,50 @@ impl Statement {
                 | Statement::New { .. }
                 | Statement::StrSub { .. }
         )
+    }
+
+    /// The thread that the statement names by its name.
+    fn thread(&self) -> Option<ThreadId>
+        ensures { result ≡ thread_in self.now }
+    {
+        match self {
+            Statement::Add { thread, .. }
+            | Statement::Drop { thread, .. }
+            | Statement::Common { thread, .. }
+            | Statement::Wake { thread }
+            | Statement::Stop { thread } => thread.by_name(),
+            _ => None,
+        }
+    }
+
+    /// The mode that the statement names.
+    fn mode(&self) -> Option<ModeId>
+        ensures { result ≡ mode_in self.now }
+    {
+        match self {
+            Statement::Add { mode, .. } | Statement::Drop { mode, .. } => mode.by_name(),
+            Statement::Common { mode, .. } | Statement::Run { mode, .. } => Some(*mode),
+            _ => None,
+        }
+    }
+
+    /// Whether the thread that the statement names has a number below this, where it names one.
+    pub(crate) fn names_thread(&self, threads: usize) -> bool
+        ensures { (result ≡ true) ↔ NamesThread threads self.now }
+    {
+        match self.thread() {
+            Some(thread) => usize::from(thread.0) < threads,
+            None => true,
+        }
+    }
+
+    /// Whether the mode that the statement names has a number below this, where it names one.
+    pub(crate) fn names_mode(&self, modes: usize) -> bool
+        ensures { (result ≡ true) ↔ NamesMode modes self.now }
+    {
+        match self.mode() {
+            Some(mode) => usize::from(mode.0) < modes,
+            None => true,
+        }
     }
 }

@@ -1,12 +1,13 @@
 //! A script, its classes, its blocks and its names.
 ghost use Rattle.std.specs.Prelude.{◌≡◌, ◌≤◌, ◌<◌, ◌↔◌, IfSome, true, length, slice_get};
+ghost use Rattle.std.specs.List.{All};
 ghost use Rattle.std.specs.Option.{option_copied, option_map};
 ghost use Rattle.cf_ids.specs.declared.limits.TheConstants.{THREADS};
 ghost use Rattle.cf_syntax.specs.BlockLines.{handler_block};
-ghost use Rattle.cf_syntax.specs.Numbered.{FitsText, IsNumbered, IsPlaced};
+ghost use Rattle.cf_syntax.specs.Numbered.{FitsText, HasModes, IsNumbered, IsPlaced, ModesNamed, NamesMode, NamesThread, ThreadsNamed};
 
 use crate::statement::Statement;
-use cf_ids::{HandlerId, ModeId, NameId, SCRIPT_BYTES, Seq, THREADS, VarId};
+use cf_ids::{HandlerId, MODES, ModeId, NameId, SCRIPT_BYTES, Seq, THREADS, VarId};
 use std::marker::Model;
 
 /// A class line: the class with the type number 14 and the number of class lines before it.
@@ -79,7 +80,8 @@ pub struct Parts {
 }
 
 /// A script: parts whose numbers fit those of actions. There are at most 64 threads, the block of a handler has a
-/// number below 65,536, and no block has more statements or takes more from setup than a text can have bytes.
+/// number below 65,536, no block has more statements or takes more from setup than a text can have bytes, there are one
+/// to 1,024 modes, and a statement names no mode and no thread beyond them.
 #[derive(Drop)]
 pub struct Script {
     parts: Parts,
@@ -113,7 +115,53 @@ fn fits_text(block: &Block) -> bool
     block.uses.as_slice().len() <= SCRIPT_BYTES && block.statements.as_slice().len() <= SCRIPT_BYTES
 }
 
+/// Whether each thread that a block names has a number below this.
+fn threads_named(block: &Block, threads: usize) -> bool
+    ensures { (result ≡ true) ↔ ThreadsNamed threads block.now }
+{
+    block
+        .statements
+        .as_slice()
+        .iter()
+        .all(|statement| statement.names_thread(threads))
+}
+
+/// Whether each mode that a block names has a number below this.
+fn modes_named(block: &Block, modes: usize) -> bool
+    ensures { (result ≡ true) ↔ ModesNamed modes block.now }
+{
+    block
+        .statements
+        .as_slice()
+        .iter()
+        .all(|statement| statement.names_mode(modes))
+}
+
 impl Parts {
+    /// Whether there are modes, not too many, and no other is named.
+    fn has_modes(&self) -> bool
+        ensures { (result ≡ true) ↔ HasModes self.now }
+    {
+        let modes = self.modes.as_slice().len();
+        0 < modes
+            && modes <= MODES
+            && self
+                .blocks
+                .as_slice()
+                .iter()
+                .all(|block| modes_named(block, modes))
+    }
+
+    /// Whether no thread is named beyond those that there are.
+    fn names_own_threads(&self) -> bool
+        ensures { (result ≡ true) ↔ All (ThreadsNamed self.now.thread_count) self.now.blocks }
+    {
+        self.blocks
+            .as_slice()
+            .iter()
+            .all(|block| threads_named(block, self.thread_count))
+    }
+
     /// Whether the numbers fit those of actions, as those of parts that are read from a text do.
     pub fn are_numbered(&self) -> bool
         ensures { (result ≡ true) ↔ IsNumbered self.now }
@@ -125,6 +173,8 @@ impl Parts {
                 .iter()
                 .all(|handler| is_placed(handler))
             && self.blocks.as_slice().iter().all(|block| fits_text(block))
+            && self.has_modes()
+            && self.names_own_threads()
     }
 }
 

@@ -20,7 +20,7 @@ use Rattle.cf_syntax.specs.declared.mention.Ownership.{Ownership}
 use Rattle.cf_syntax.specs.declared.mention.Ownership.TheVariants.{Keeps, Binds, Retains, Releases}
 use Rattle.cf_syntax.specs.Mentions.{ownership_of, makes_object}
 use Rattle.cf_contents.specs.Keys.{Numbered, number_of, class_line}
-use Rattle.cf_contents.specs.Deeds.{Origin, nowhere, fresh, there, Change, unchanged, Deed, answering, creating, changing, binding, with_object, with_key, text_in, mutable_text_in, mutable_data_in, number_in, fields_in, elements_in, pairs_in, heap_in, members_in, with_text, with_mutable_text, with_mutable_data, with_number, with_fields, with_elements, with_pair, with_member, with_heap, unless_split, within, text_edit, data_edit, places_edit, as_kind, fresh_if, putting, adding_pair, setting_pair, replacing_pair, removing_pair, adding_member, setting_member, replacing_member, removing_member, counting_member, object_in_row, removing_least, add_member, put_member, deed_of}
+use Rattle.cf_contents.specs.Deeds.{Origin, nowhere, fresh, there, Change, unchanged, Deed, answering, creating, changing, binding, with_object, with_key, text_in, mutable_text_in, mutable_data_in, number_in, fields_in, elements_in, pairs_in, heap_in, members_in, with_text, with_mutable_text, with_mutable_data, with_number, with_fields, with_elements, with_pair, with_member, with_heap, unless_split, within, text_edit, data_edit, places_edit, as_kind, fresh_if, putting, adding_pair, setting_pair, replacing_pair, removing_pair, adding_member, setting_member, replacing_member, removing_member, counting_member, object_in_row, removing_least, add_member, put_member, in_item, deed_of}
 use Rattle.cf_contents.proofs.Sizes.{AddsOne}
 use Rattle.cf_contents.proofs.SlotLaws.{present-empty, MakesEmpty, named_in}
 
@@ -69,6 +69,11 @@ MakesNoItem nowhere = Unit {0}
 MakesNoItem (fresh ob) = IsNoItem ob.content
 MakesNoItem (there o) = Unit {0}
 
+-- no item of a run loop is changed
+abbrev pub ChangesNoItem : Change → Type 0
+ChangesNoItem (in_item valid item) = ⊥
+ChangesNoItem _ = Unit {0}
+
 -- only a form that makes objects gives a new one
 abbrev pub MakesOnly : Bool → Origin → Type 0
 MakesOnly true origin = Unit {0}
@@ -99,6 +104,7 @@ pub record Fits (ownership : Ownership) (making : Bool) (b c : Option Numbered) 
   pub items : MakesNoItem d.origin
   pub used : AreUsed b c (named_in d.change)
   pub one : AddsOne d.change
+  pub apart : ChangesNoItem d.change
 
 no_change : (ownership : Ownership) → ChangesFor ownership unchanged
 no_change Keeps = tt
@@ -148,7 +154,7 @@ pair_used b c k v first second = record { among = pair_among b c k v first secon
 
 module _ (ownership : Ownership) (making : Bool) (b c : Option Numbered) where
   answers : (a : Answer) → NamesNone a → Fits ownership making b c (answering a)
-  answers a names = record { makes = tt; small = tt; only = no_making making; changes = no_change ownership; names = names; skips = nothing_skipped a; items = tt; used = none b c; one = tt }
+  answers a names = record { makes = tt; small = tt; only = no_making making; changes = no_change ownership; names = names; skips = nothing_skipped a; items = tt; used = none b c; one = tt; apart = tt }
 
   by_object : (o : Option Numbered) (f : Numbered → Deed)
       → ((u : Numbered) → number_of o ≡ Some u.number → Fits ownership making b c (f u))
@@ -272,36 +278,36 @@ module _ (ownership : Ownership) (b c : Option Numbered) where
   makes : (class : ℕ) (content : Content) → slots_in content ≡ [] → size_of content ≡ 0 → IsNoItem content
       → Fits ownership true b c (creating class content)
   makes class content empty small items =
-      record { makes = empty; small = small; only = tt; changes = no_change ownership; names = tt; skips = refl; items = items; used = none b c; one = tt }
+      record { makes = empty; small = small; only = tt; changes = no_change ownership; names = tt; skips = refl; items = items; used = none b c; one = tt; apart = tt }
 
   takes : (o : Option ℕ) → Fits ownership false b c (binding o)
   takes None = answers ownership false b c _ tt
-  takes (Some o) = record { makes = tt; small = tt; only = tt; changes = no_change ownership; names = tt; skips = tt; items = tt; used = none b c; one = tt }
+  takes (Some o) = record { makes = tt; small = tt; only = tt; changes = no_change ownership; names = tt; skips = tt; items = tt; used = none b c; one = tt; apart = tt }
 
   makes_instance : (class : ℕ) (key : ℤ) (line : Option ClassLine)
       → Fits ownership true b c (fresh_if (instance_of class key line))
   makes_instance class key None = answers ownership true b c _ tt
   makes_instance class key (Some line) =
-      record { makes = present-empty line.fields; small = refl; only = tt; changes = no_change ownership; names = tt; skips = refl; items = tt; used = none b c; one = tt }
+      record { makes = present-empty line.fields; small = refl; only = tt; changes = no_change ownership; names = tt; skips = refl; items = tt; used = none b c; one = tt; apart = tt }
 
 -- a statement that changes an object
 module _ (b c : Option Numbered) where
   changes : (a : Answer) (change : Change) → Acts a → AreUsed b c (named_in change) → AddsOne change
-      → Fits Keeps false b c (changing a change)
-  changes a change acts used one = record { makes = tt; small = tt; only = tt; changes = tt; names = acts_names a acts; skips = acts_skips a change acts; items = tt; used = used; one = one }
+      → ChangesNoItem change → Fits Keeps false b c (changing a change)
+  changes a change acts used one apart = record { makes = tt; small = tt; only = tt; changes = tt; names = acts_names a acts; skips = acts_skips a change acts; items = tt; used = used; one = one; apart = apart }
 
   changes_text : (at len : ℕ) (other units : List ℕ) → Fits Keeps false b c (text_edit units at len other)
-  changes_text at len other units = by_cut Keeps false b c (split_fault units at len) _ (changes _ _ tt (none b c) tt)
+  changes_text at len other units = by_cut Keeps false b c (split_fault units at len) _ (changes _ _ tt (none b c) tt tt)
 
   changes_data : (at len : ℕ) (other bytes : List ℕ) → Fits Keeps false b c (data_edit bytes at len other)
   changes_data at len other bytes =
-      by_test Keeps false b c (nat_le (at + len) (length bytes)) _ _ (changes _ _ tt (none b c) tt) (answers Keeps false b c _ tt)
+      by_test Keeps false b c (nat_le (at + len) (length bytes)) _ _ (changes _ _ tt (none b c) tt tt) (answers Keeps false b c _ tt)
 
   changes_within : (t : Bool) (at out : ℕ) (enter : List (Option ℕ))
       → AreUsed b c (present enter) → length (present enter) ≤ 1
       → Fits Keeps false b c (within t (places_edit at out enter))
   changes_within t at out enter used one =
-      by_test Keeps false b c t _ _ (changes _ _ tt used one) (answers Keeps false b c _ tt)
+      by_test Keeps false b c t _ _ (changes _ _ tt used one tt) (answers Keeps false b c _ tt)
 
   reads_as : (kind : NumKind) (n : Number) → Fits Keeps false b c (as_kind kind n)
   reads_as kind n = by_test Keeps false b c (fits_kind kind n.value) _ _ (answers Keeps false b c _ tt) (answers Keeps false b c _ tt)
@@ -309,7 +315,7 @@ module _ (b c : Option Numbered) where
   -- by a key that is the second object, and a value that is the third
   module _ (key : Cell) (value : ℕ) (first : number_of b ≡ Some key.id) (second : number_of c ≡ Some value) where
     puts : (a : Answer) → Acts a → Fits Keeps false b c (putting a key value)
-    puts a acts = changes a _ acts (pair_used b c key.id value first second) tt
+    puts a acts = changes a _ acts (pair_used b c key.id value first second) tt tt
 
     adds_pair : (old : Option ℕ) → Fits Keeps false b c (adding_pair key value old)
     adds_pair None = puts _ tt
@@ -325,26 +331,26 @@ module _ (b c : Option Numbered) where
 
   removes_pair : (key : Cell) (old : Option ℕ) → Fits Keeps false b c (removing_pair key old)
   removes_pair key None = answers Keeps false b c _ tt
-  removes_pair key (Some old) = changes _ _ tt (none b c) tt
+  removes_pair key (Some old) = changes _ _ tt (none b c) tt tt
 
   -- by an element that is the second object
   module _ (x : Cell) (named : number_of b ≡ Some x.id) where
     adds_member : (counts : Bool) (row : Option (ℕ × ℕ)) → Fits Keeps false b c (adding_member counts x row)
-    adds_member counts None = changes _ (add_member x) tt (second_used b c x.id named) tt
+    adds_member counts None = changes _ (add_member x) tt (second_used b c x.id named) tt tt
     adds_member counts (Some row) =
-        by_test Keeps false b c counts _ _ (changes _ (add_member x) tt (second_used b c x.id named) tt) (answers Keeps false b c _ tt)
+        by_test Keeps false b c counts _ _ (changes _ (add_member x) tt (second_used b c x.id named) tt tt) (answers Keeps false b c _ tt)
 
     sets_member : (row : Option (ℕ × ℕ)) → Fits Keeps false b c (setting_member x row)
-    sets_member None = changes _ (put_member x) tt (second_used b c x.id named) tt
-    sets_member (Some row) = changes _ (put_member x) tt (second_used b c x.id named) tt
+    sets_member None = changes _ (put_member x) tt (second_used b c x.id named) tt tt
+    sets_member (Some row) = changes _ (put_member x) tt (second_used b c x.id named) tt tt
 
     replaces_member : (row : Option (ℕ × ℕ)) → Fits Keeps false b c (replacing_member x row)
     replaces_member None = answers Keeps false b c _ tt
-    replaces_member (Some row) = changes _ (put_member x) tt (second_used b c x.id named) tt
+    replaces_member (Some row) = changes _ (put_member x) tt (second_used b c x.id named) tt tt
 
   removes_member : (x : Cell) (row : Option (ℕ × ℕ)) → Fits Keeps false b c (removing_member x row)
   removes_member x None = answers Keeps false b c _ tt
-  removes_member x (Some row) = changes _ _ tt (none b c) tt
+  removes_member x (Some row) = changes _ _ tt (none b c) tt tt
 
   counts_member : (row : Option (ℕ × ℕ)) → Fits Keeps false b c (counting_member row)
   counts_member None = answers Keeps false b c _ tt
@@ -352,7 +358,7 @@ module _ (b c : Option Numbered) where
 
   removes_least : (row : Option ℕ) → Fits Keeps false b c (removing_least row)
   removes_least None = answers Keeps false b c _ tt
-  removes_least (Some row) = changes _ _ tt (none b c) tt
+  removes_least (Some row) = changes _ _ tt (none b c) tt tt
 
 -- ---- by forms
 
@@ -390,7 +396,7 @@ form_fits classes (forms.DataReplace v at len bytes) a b c = by_mutable_data Kee
 form_fits classes (forms.DataDelete v at len) a b c = by_mutable_data Keeps false b c a _ (changes_data b c at len [])
 form_fits classes (forms.NumAs v kind) a b c = by_number Keeps false b c a _ (reads_as b c kind)
 form_fits classes (forms.ArrAppend v x) a b c =
-    by_elements Keeps false b c a _ (λ os. by_object Keeps false b c b _ (λ u e. changes b c _ _ tt (second_used b c u.number e) (omega arith)))
+    by_elements Keeps false b c a _ (λ os. by_object Keeps false b c b _ (λ u e. changes b c _ _ tt (second_used b c u.number e) (omega arith) tt))
 form_fits classes (forms.ArrInsert v at x) a b c =
     by_elements Keeps false b c a _
     (λ os. by_object Keeps false b c b _ (λ u e. changes_within b c (nat_le at (length os)) at 0 _ (second_used b c u.number e) (omega arith)))
@@ -423,7 +429,7 @@ form_fits classes (forms.SetTake v set x) a b c =
     by_member (Binds v) false b c classes a b _ (λ counts element row named. takes (Binds v) b c (object_in_row row))
 form_fits classes (forms.HeapAdd v x) a b c =
     by_heap Keeps false b c a _
-    (λ plain rows. by_key Keeps false b c classes b _ (λ element named. changes b c _ _ tt (second_used b c element.id named) tt))
+    (λ plain rows. by_key Keeps false b c classes b _ (λ element named. changes b c _ _ tt (second_used b c element.id named) tt tt))
 form_fits classes (forms.HeapTake v heap) a b c = by_heap (Binds v) false b c a _ (λ plain rows. takes (Binds v) b c _)
 form_fits classes (forms.HeapRemove v) a b c = by_heap Keeps false b c a _ (λ plain rows. removes_least b c _)
 form_fits classes (forms.FieldSet v at x) a b c =

@@ -8,6 +8,7 @@ use Rattle.cf_ids.specs.declared.answer.Answer.{Answer}
 use Rattle.cf_ids.specs.declared.answer.Answer.TheVariants as answers
 use Rattle.cf_ids.specs.declared.answer.Ended.{Ended}
 use Rattle.cf_ids.specs.declared.answer.Ended.TheVariants.{More, Last}
+use Rattle.rl_modes.specs.Loops.{Loop}
 use Rattle.cf_syntax.specs.declared.script.Script.{Script}
 use Rattle.cf_syntax.specs.declared.statement.Statement.{Statement}
 use Rattle.cf_syntax.specs.declared.statement.Statement.TheVariants as forms
@@ -41,6 +42,8 @@ use Rattle.cf_world.specs.declared.flags.Flags.{Flags}
 use Rattle.cf_world.specs.Worlds.{ended_at}
 use Rattle.cf_world.specs.Grounds.{Mirrors, parcel_at, Follows}
 use Rattle.cf_world.specs.Entering.{answer_of_cut, finalised_if}
+use Rattle.cf_loops.specs.Following.{DemandLeavesLoops}
+use Rattle.cf_world.proofs.Passing.{KeepsLoops, releases_leave}
 use Rattle.cf_world.proofs.Counting.{Enters, enters_by, statement_is}
 use Rattle.cf_world.proofs.Growing.{follows_step}
 use Rattle.cf_world.proofs.Mirroring.{mirrored, mirrors_by, left-mirrors, live-body, mirrored_finalised, mirrored_dropped}
@@ -133,7 +136,7 @@ cut_taken t h st o of may =
 
 -- ---- what a step leaves that takes one
 
-module _ (s : Script) (t : ℕ) (st : State) (bodies : List Held) (rows : List (List (Option ℕ))) (flags : List Flags) (time : ℕ) (h : Follows s st bodies rows flags time) where
+module _ (s : Script) (t : ℕ) (st : State) (bodies : List Held) (rows : List (List (Option ℕ))) (flags : List Flags) (time : ℕ) (loops : List Loop) (h : Follows s st bodies rows flags time loops) (keeps : KeepsLoops s t st loops) where
   -- a step that takes a reference away, and what else of the parts it changes
   abbrev shrinking : Flow → Parts → Step
   shrinking f p = record { answer = answers.Ok; flow = f; parts = p; list = []; stops = None }
@@ -144,37 +147,37 @@ module _ (s : Script) (t : ℕ) (st : State) (bodies : List Held) (rows : List (
   abbrev told : ℕ → Answer
   told o = answer_of_cut (ended o) (type_in (slice_get st.parts.objects o))
 
-  shrink_enters : (d : Demand) (p : Parts) (k : Holder) (o : ℕ) (bodies' : List Held) → demanded s st t ≡ Some d
+  shrink_enters : (d : Demand) (p : Parts) (k : Holder) (o : ℕ) (bodies' : List Held) → demanded s st t ≡ Some d → DemandLeavesLoops d
       → step_of s t st (frames_at t st) d ≡ shrinking (shrinks (held_by k o)) p → NoParcel k → IsThere (shrinks (held_by k o)) st.edges
       → Mirrors p bodies' → p.flags ≡ st.parts.flags → p.time ≡ st.parts.time → o < length p.objects
-      → Enters s t st (told o) [] (finalised_if (ended o) o bodies') rows flags time
-  shrink_enters d p k o bodies' e is none there mirrors same_flags same_time made =
+      → Enters s t st (told o) [] (finalised_if (ended o) o bodies') rows flags time loops
+  shrink_enters d p k o bodies' e leaves is none there mirrors same_flags same_time made =
       let f = shrinks (held_by k o) in
       let self : counted (eqb o o) ≡ 1 = ap counted (eq-eqb o o refl) in
       let less : degree o (flowed f st.edges) + 1 ≡ degree o st.edges = omega (arith, degree-flow o f st.edges there, self) in
-      enters_by s t st d (shrinking f p) (told o) (finalised_if (ended o) o bodies') rows flags time e is
+      enters_by s t st d (shrinking f p) (told o) (finalised_if (ended o) o bodies') rows flags time loops e is
       (cut_answers o (degree o (flowed f st.edges)) (degree o st.edges) less (type_in (slice_get st.parts.objects o)))
-      (follows_step s t st d (shrinking f p) (finalised_if (ended o) o bodies') rows flags time is
+      (follows_step s t st d (shrinking f p) (finalised_if (ended o) o bodies') rows flags time loops is
       (cut_mirrors o (degree o (flowed f st.edges)) (degree o st.edges) less p bodies' made mirrors)
       h.parcels_are.has
       (λ u m. h.parcels_are.at u m ∙ sym (first_without (parcel u m) (held_by k o) st.edges (parcel_other u m k none)))
-      (h.flags_are ∙ sym same_flags) (h.time_is ∙ sym same_time))
+      (h.flags_are ∙ sym same_flags) (h.time_is ∙ sym same_time) (keeps d e leaves))
 
   -- a release: the object is live, and what the entry tells
   pub record Cuts (o : ℕ) : Type 0 where
     pub live : is_live_in bodies o ≡ true
     pub made : o < length st.parts.objects
-    pub enters : Enters s t st (told o) [] (finalised_if (ended o) o bodies) rows flags time
+    pub enters : Enters s t st (told o) [] (finalised_if (ended o) o bodies) rows flags time loops
 
-  cuts_by : (d : Demand) (k : Holder) (o : ℕ) → demanded s st t ≡ Some d
+  cuts_by : (d : Demand) (k : Holder) (o : ℕ) → demanded s st t ≡ Some d → DemandLeavesLoops d
       → step_of s t st (frames_at t st) d ≡ cut_step t k st o → IsOf t k → MayTake st t o → Cuts o
-  cuts_by d k o e is of may =
+  cuts_by d k o e leaves is of may =
       let taken = cut_taken t k st o of may in
       let made : o < length st.parts.objects = (live_of_test st o may.live).1 in
       record {
         live = h.mirrors.live o ∙ may.live;
         made = made;
-        enters = shrink_enters d st.parts taken.holder o bodies e (is ∙ ap (λ (f : Flow). flowing st answers.Ok f) taken.flow) taken.no_place taken.there h.mirrors refl refl made;
+        enters = shrink_enters d st.parts taken.holder o bodies e leaves (is ∙ ap (λ (f : Flow). flowing st answers.Ok f) taken.flow) taken.no_place taken.there h.mirrors refl refl made;
       }
 
   release_form : (x : Statement) (v : ℕ) → ownership_of x ≡ Releases v → x ≡ forms.Release v
@@ -183,7 +186,7 @@ module _ (s : Script) (t : ℕ) (st : State) (bodies : List Held) (rows : List (
 
   module _ (own : FitsByBlock s) (is_sound : IsSound s st) where
     pub owed_cuts : (o : ℕ) → demanded s st t ≡ Some (owes o) → Cuts o
-    owed_cuts o e = cuts_by (owes o) (owed t) o e refl (eq-eqb t t refl) (demand_may s t st is_sound own (owes o) e).0
+    owed_cuts o e = cuts_by (owes o) (owed t) o e tt refl (eq-eqb t t refl) (demand_may s t st is_sound own (owes o) e).0
 
     release_may : (v o : ℕ) → demanded s st t ≡ Some (does (says (forms.Release v)))
         → first_of (used_objects (bindings_of (frames_at t st)) (says (forms.Release v))) ≡ Some o → MayTake st t o
@@ -196,8 +199,8 @@ module _ (s : Script) (t : ℕ) (st : State) (bodies : List Held) (rows : List (
     release_cuts x v o e w object =
         let is : x ≡ forms.Release v = release_form x v w in
         let may = release_may v o (e ∙ ap (λ (y : Statement). Some (does (says y))) is) (ap (λ (y : Statement). first_of (used_objects (bindings_of (frames_at t st)) (says y))) (sym is) ∙ object) in
-        cuts_by (does (says x)) (variable t (depth_of (frames_at t st)) v) o e
-        (statement_is s t st bodies rows flags time h x (Releases v) w ∙ ap (release_step t (variable t (depth_of (frames_at t st)) v) st) object)
+        cuts_by (does (says x)) (variable t (depth_of (frames_at t st)) v) o e (releases_leave x v w)
+        (statement_is s t st bodies rows flags time loops h keeps x (Releases v) w ∙ ap (release_step t (variable t (depth_of (frames_at t st)) v) st) object)
         (eq-eqb t t refl) may
 
     -- a slot that is given up
@@ -207,7 +210,7 @@ module _ (s : Script) (t : ℕ) (st : State) (bodies : List Held) (rows : List (
       pub live : is_live_in (with_body body_dropped b bodies) o ≡ true
       pub made : o < length st.parts.objects
       pub enters : Enters s t st (told o) []
-          (finalised_if (ended o) o (with_body body_dropped b bodies)) rows flags time
+          (finalised_if (ended o) o (with_body body_dropped b bodies)) rows flags time loops
 
     pub drop_drops : (b k o : ℕ) → demanded s st t ≡ Some (drops b k o) → Drops b o
     drop_drops b k o e =
@@ -223,7 +226,7 @@ module _ (s : Script) (t : ℕ) (st : State) (bodies : List Held) (rows : List (
           first = ap (λ (os : List ℕ). slice_get os 0) (left-mirrors st.parts.objects st.parts.finalised st.parts.dropped bodies b (mirrored st.parts bodies h.mirrors) ∙ left_here b k o st slot_is);
           live = live-body body_dropped (λ x. refl) b o bodies ∙ is_live_object;
           made = lives.1;
-          enters = shrink_enters (drops b k o) (record st.parts { dropped = b ∷ st.parts.dropped }) (slot b) o (with_body body_dropped b bodies) e refl tt fits.there
+          enters = shrink_enters (drops b k o) (record st.parts { dropped = b ∷ st.parts.dropped }) (slot b) o (with_body body_dropped b bodies) e tt refl tt fits.there
               (mirrors_by (record st.parts { dropped = b ∷ st.parts.dropped }) (with_body body_dropped b bodies) (mirrored_dropped st.parts.objects st.parts.finalised st.parts.dropped bodies b (mirrored st.parts bodies h.mirrors) made_body)) refl refl lives.1;
         }
       where

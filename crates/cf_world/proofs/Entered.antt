@@ -26,6 +26,7 @@ use Rattle.cf_world.specs.Grounds.{GroundView, IsGround, ends_in, flags_of, parc
 use Rattle.cf_world.specs.Entering.{MayAct, IsRetain, IsSkip, IsCut, IsDrop, IsClaim, IsPack, IsEnd, answer_for, answer_of_cut, finalised_if, flags_at_end, packed_rows}
 use Rattle.cf_world.proofs.Counting.{Enters, retain_enters, skip_enters, end_enters}
 use Rattle.cf_world.proofs.Cutting.{Cuts, Drops, owed_cuts, release_cuts, drop_drops}
+use Rattle.cf_world.proofs.Passing.{KeepsLoops, keeps_loops}
 use Rattle.cf_world.proofs.Packing.{rows_with, pack_within, claim_within, claim_enters, pack_enters}
 
 -- what is done where something is found is done
@@ -51,36 +52,39 @@ module _ (g : Inside) (t : ℕ) (inv : IsGround g) where
   pub is_sound : IsSound s st
   is_sound = sound s g.journal.items inv.script.owned
 
-  pub retain_tells : (object : Option ℕ) → IsRetain (view_of g) t object
-      → Enters s t st (answer_for object) (present (object ∷ [])) g.store.bodies g.parcels g.flags.items g.time
-  retain_tells object r = retain_enters s t st g.store.bodies g.parcels g.flags.items g.time inv.follows r.statement r.var object r.demands r.retains r.object_is
+  pub keeps : KeepsLoops s t st g.loops
+  keeps = keeps_loops s t st own is_sound inv.script.stage g.loops inv.follows.has_loops
 
-  pub skip_tells : IsSkip (view_of g) t → Enters s t st answers.Skip [] g.store.bodies g.parcels g.flags.items g.time
-  skip_tells r = skip_enters s t st g.store.bodies g.parcels g.flags.items g.time inv.follows r.statement r.var r.demands r.releases r.empty
+  pub retain_tells : (object : Option ℕ) → IsRetain (view_of g) t object
+      → Enters s t st (answer_for object) (present (object ∷ [])) g.store.bodies g.parcels g.flags.items g.time g.loops
+  retain_tells object r = retain_enters s t st g.store.bodies g.parcels g.flags.items g.time g.loops inv.follows keeps r.statement r.var object r.demands r.retains r.object_is
+
+  pub skip_tells : IsSkip (view_of g) t → Enters s t st answers.Skip [] g.store.bodies g.parcels g.flags.items g.time g.loops
+  skip_tells r = skip_enters s t st g.store.bodies g.parcels g.flags.items g.time g.loops inv.follows keeps r.statement r.var r.demands r.releases r.empty
 
   pub cut_tells : (o : ℕ) → IsCut (view_of g) t o
-      → Cuts s t st g.store.bodies g.parcels g.flags.items g.time inv.follows o
-  cut_tells o (inl r) = release_cuts s t st g.store.bodies g.parcels g.flags.items g.time inv.follows own is_sound r.statement r.var o r.demands r.releases r.object
-  cut_tells o (inr e) = owed_cuts s t st g.store.bodies g.parcels g.flags.items g.time inv.follows own is_sound o e
+      → Cuts s t st g.store.bodies g.parcels g.flags.items g.time g.loops inv.follows keeps o
+  cut_tells o (inl r) = release_cuts s t st g.store.bodies g.parcels g.flags.items g.time g.loops inv.follows keeps own is_sound r.statement r.var o r.demands r.releases r.object
+  cut_tells o (inr e) = owed_cuts s t st g.store.bodies g.parcels g.flags.items g.time g.loops inv.follows keeps own is_sound o e
 
   -- the same, by what is left
   pub cut_entered : (o : ℕ) → IsCut (view_of g) t o → (ended : Ended) → ends_in (view_of g) o ended
       → (bodies : List Held) → bodies ≡ finalised_if ended o g.store.bodies
-      → Enters s t st (answer_of_cut ended (type_in (slice_get st.parts.objects o))) [] bodies g.parcels g.flags.items g.time
+      → Enters s t st (answer_of_cut ended (type_in (slice_get st.parts.objects o))) [] bodies g.parcels g.flags.items g.time g.loops
   cut_entered o r ended e bodies is =
-      subst (λ (bs : List Held). Enters s t st (answer_of_cut ended (type_in (slice_get st.parts.objects o))) [] bs g.parcels g.flags.items g.time) (sym is)
-      (subst (λ (d : Ended). Enters s t st (answer_of_cut d (type_in (slice_get st.parts.objects o))) [] (finalised_if d o g.store.bodies) g.parcels g.flags.items g.time) (sym e) (cut_tells o r).enters)
+      subst (λ (bs : List Held). Enters s t st (answer_of_cut ended (type_in (slice_get st.parts.objects o))) [] bs g.parcels g.flags.items g.time g.loops) (sym is)
+      (subst (λ (d : Ended). Enters s t st (answer_of_cut d (type_in (slice_get st.parts.objects o))) [] (finalised_if d o g.store.bodies) g.parcels g.flags.items g.time g.loops) (sym e) (cut_tells o r).enters)
 
   pub drop_tells : (b o : ℕ) → IsDrop (view_of g) t b o
-      → Drops s t st g.store.bodies g.parcels g.flags.items g.time inv.follows own is_sound b o
-  drop_tells b o r = drop_drops s t st g.store.bodies g.parcels g.flags.items g.time inv.follows own is_sound b r.place o r.demands
+      → Drops s t st g.store.bodies g.parcels g.flags.items g.time g.loops inv.follows keeps own is_sound b o
+  drop_tells b o r = drop_drops s t st g.store.bodies g.parcels g.flags.items g.time g.loops inv.follows keeps own is_sound b r.place o r.demands
 
   pub drop_entered : (b o : ℕ) → IsDrop (view_of g) t b o → (ended : Ended) → ends_in (view_of g) o ended
       → (left bodies : List Held) → left ≡ with_body body_dropped b g.store.bodies
-      → bodies ≡ finalised_if ended o left → Enters s t st (answer_of_cut ended (type_in (slice_get st.parts.objects o))) [] bodies g.parcels g.flags.items g.time
+      → bodies ≡ finalised_if ended o left → Enters s t st (answer_of_cut ended (type_in (slice_get st.parts.objects o))) [] bodies g.parcels g.flags.items g.time g.loops
   drop_entered b o r ended e left bodies dropped is =
-      subst (λ (bs : List Held). Enters s t st (answer_of_cut ended (type_in (slice_get st.parts.objects o))) [] bs g.parcels g.flags.items g.time) (sym (is ∙ ap (finalised_if ended o) dropped))
-      (subst (λ (d : Ended). Enters s t st (answer_of_cut d (type_in (slice_get st.parts.objects o))) [] (finalised_if d o (with_body body_dropped b g.store.bodies)) g.parcels g.flags.items g.time) (sym e) (drop_tells b o r).enters)
+      subst (λ (bs : List Held). Enters s t st (answer_of_cut ended (type_in (slice_get st.parts.objects o))) [] bs g.parcels g.flags.items g.time g.loops) (sym (is ∙ ap (finalised_if ended o) dropped))
+      (subst (λ (d : Ended). Enters s t st (answer_of_cut d (type_in (slice_get st.parts.objects o))) [] (finalised_if d o (with_body body_dropped b g.store.bodies)) g.parcels g.flags.items g.time g.loops) (sym e) (drop_tells b o r).enters)
 
   plain : t < s.thread_count → IsPlainStand t (stand_at t st.stands)
   plain lt = (plain_after s g.journal.items inv.script.stage).stands t lt
@@ -96,15 +100,15 @@ module _ (g : Inside) (t : ℕ) (inv : IsGround g) where
   )
 
   pub claim_tells : (k : ℕ) → t < s.thread_count → IsClaim (view_of g) t k
-      → Enters s t st (answer_for (parcel_at g.parcels t k)) [] g.store.bodies (rows_with g.parcels t k None) g.flags.items g.time
+      → Enters s t st (answer_for (parcel_at g.parcels t k)) [] g.store.bodies (rows_with g.parcels t k None) g.flags.items g.time g.loops
   claim_tells k lt r =
-      claim_enters s t st g.store.bodies g.parcels g.flags.items g.time inv.follows k r.var r.demands lt (claim_place k lt r) (parcels_one s g.journal.items t k)
+      claim_enters s t st g.store.bodies g.parcels g.flags.items g.time g.loops inv.follows keeps k r.var r.demands lt (claim_place k lt r) (parcels_one s g.journal.items t k)
 
   pub claim_entered : (k : ℕ) → t < s.thread_count → IsClaim (view_of g) t k → (rows : List (List (Option ℕ)))
       → rows ≡ rows_with g.parcels t k None
-      → Enters s t st (answer_for (parcel_at g.parcels t k)) [] g.store.bodies rows g.flags.items g.time
+      → Enters s t st (answer_for (parcel_at g.parcels t k)) [] g.store.bodies rows g.flags.items g.time g.loops
   claim_entered k lt r rows is =
-      subst (λ (q : List (List (Option ℕ))). Enters s t st (answer_for (parcel_at g.parcels t k)) [] g.store.bodies q g.flags.items g.time) (sym is) (claim_tells k lt r)
+      subst (λ (q : List (List (Option ℕ))). Enters s t st (answer_for (parcel_at g.parcels t k)) [] g.store.bodies q g.flags.items g.time g.loops) (sym is) (claim_tells k lt r)
 
   pub pack_place : (u k : ℕ) (object : Option ℕ) → t < s.thread_count → IsPack (view_of g) t u k object → IsWithin s u k
   pack_place u k object lt r = pack_within s t st (plain lt) u k r.var r.demands
@@ -118,17 +122,17 @@ module _ (g : Inside) (t : ℕ) (inv : IsGround g) where
       )
 
   pub pack_tells : (u k : ℕ) (object : Option ℕ) → t < s.thread_count → IsPack (view_of g) t u k object
-      → Enters s t st (answer_for object) [] g.store.bodies (packed_rows g.parcels u k object) g.flags.items g.time
+      → Enters s t st (answer_for object) [] g.store.bodies (packed_rows g.parcels u k object) g.flags.items g.time g.loops
   pack_tells u k object lt r =
-      pack_enters s t st g.store.bodies g.parcels g.flags.items g.time inv.follows u k r.var r.demands (pack_place u k object lt r) own is_sound object r.object_is
+      pack_enters s t st g.store.bodies g.parcels g.flags.items g.time g.loops inv.follows keeps u k r.var r.demands (pack_place u k object lt r) own is_sound object r.object_is
 
   pub pack_entered : (u k : ℕ) (object : Option ℕ) → t < s.thread_count → IsPack (view_of g) t u k object
       → (rows : List (List (Option ℕ))) → rows ≡ packed_rows g.parcels u k object
-      → Enters s t st (answer_for object) [] g.store.bodies rows g.flags.items g.time
+      → Enters s t st (answer_for object) [] g.store.bodies rows g.flags.items g.time g.loops
   pack_entered u k object lt r rows is =
-      subst (λ (q : List (List (Option ℕ))). Enters s t st (answer_for object) [] g.store.bodies q g.flags.items g.time) (sym is) (pack_tells u k object lt r)
+      subst (λ (q : List (List (Option ℕ))). Enters s t st (answer_for object) [] g.store.bodies q g.flags.items g.time g.loops) (sym is) (pack_tells u k object lt r)
 
   pub end_tells : (flags : List Flags) → IsEnd (view_of g) t
       → map flags_of flags ≡ flags_at_end t (map flags_of g.flags.items)
-      → Enters s t st answers.Ok [] g.store.bodies g.parcels flags g.time
-  end_tells flags e is = end_enters s t st g.store.bodies g.parcels g.flags.items g.time inv.follows flags e is
+      → Enters s t st answers.Ok [] g.store.bodies g.parcels flags g.time g.loops
+  end_tells flags e is = end_enters s t st g.store.bodies g.parcels g.flags.items g.time g.loops inv.follows keeps flags e is

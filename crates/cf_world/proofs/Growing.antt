@@ -4,6 +4,7 @@ use Rattle.std.specs.Prelude.{vec_len, vec_capacity}
 use Rattle.std.specs.Global.{Vec}
 use Rattle.std.specs.List.{list_all, list_any}
 use Rattle.std.proofs.lemmas.Bool.{and_parts}
+use Rattle.rl_modes.specs.Loops.{Loop}
 use Rattle.cf_syntax.specs.declared.script.Script.{Script}
 use Rattle.cf_syntax.specs.Stage.{IsOfStage}
 use Rattle.cf_syntax.proofs.BlockLaws.{owned_fits}
@@ -30,7 +31,7 @@ use Rattle.cf_model.proofs.Sound.{sound}
 use Rattle.cf_world.specs.declared.flags.Flags.{Flags}
 use Rattle.cf_world.specs.declared.ground.Ground.TheInside.{Inside}
 use Rattle.cf_world.specs.Worlds.{entry_of}
-use Rattle.cf_world.specs.Grounds.{GroundView, Mirrors, parcel_at, HasPlaces, HoldsParcels, flags_of, Follows, MayRun, IsGround, state_of, view_of}
+use Rattle.cf_world.specs.Grounds.{GroundView, Mirrors, parcel_at, HasPlaces, HoldsParcels, flags_of, HasLoops, Follows, MayRun, IsGround, state_of, view_of}
 use Rattle.cf_world.specs.Entering.{MayAct, HasEntered, demand_in}
 
 -- ---- a journal of a script of today's forms has no tick and no stall
@@ -117,19 +118,19 @@ module _ (g : Inside) (t : ℕ) (a : Action) (d : Demand) (inv : IsGround g) (ac
 
   pub ground_after : (g' : Inside) → g'.script ≡ g.script
       → g'.journal.items ≡ g.journal.items ++ entry_of s t now a ∷ []
-      → Follows s (done_by s t now d) g'.store.bodies g'.parcels g'.flags.items g'.time → IsGround g'
+      → Follows s (done_by s t now d) g'.store.bodies g'.parcels g'.flags.items g'.time g'.loops → IsGround g'
   ground_after g' same grown follows =
       let long : List Entry = g.journal.items ++ entry_of s t now a ∷ [] in
       let legal : IsLegal s long = longer_legal s g.journal.items t a inv.script inv.legal acts.next acts.few in
       let after : After s long ≡ done_by s t now d = longer_after s g.journal.items t a inv.script inv.legal acts.next acts.few d demands in
-      let here : Follows s (After s g'.journal.items) g'.store.bodies g'.parcels g'.flags.items g'.time =
-      subst (λ (es : List Entry). Follows s (After s es) g'.store.bodies g'.parcels g'.flags.items g'.time) (sym grown)
-      (subst (λ (x : State). Follows s x g'.store.bodies g'.parcels g'.flags.items g'.time) (sym after) follows) in
+      let here : Follows s (After s g'.journal.items) g'.store.bodies g'.parcels g'.flags.items g'.time g'.loops =
+      subst (λ (es : List Entry). Follows s (After s es) g'.store.bodies g'.parcels g'.flags.items g'.time g'.loops) (sym grown)
+      (subst (λ (x : State). Follows s x g'.store.bodies g'.parcels g'.flags.items g'.time g'.loops) (sym after) follows) in
       record {
         script = subst MayRun (sym same) inv.script;
         legal = subst (λ (x : Script). IsLegal x g'.journal.items) (sym same) (subst (IsLegal s) (sym grown) legal);
         short = omega (arith, ap length grown, length-append g.journal.items (entry_of s t now a ∷ []), acts.short);
-        follows = subst (λ (x : Script). Follows x (After x g'.journal.items) g'.store.bodies g'.parcels g'.flags.items g'.time) (sym same) here;
+        follows = subst (λ (x : Script). Follows x (After x g'.journal.items) g'.store.bodies g'.parcels g'.flags.items g'.time g'.loops) (sym same) here;
       }
 
 -- what the callers of an entry see of it
@@ -162,16 +163,18 @@ parts_by s t st d =
 
 -- fields that follow the parts and the references of a step follow the state that it leaves
 pub follows_step : (s : Script) (t : ℕ) (st : State) (d : Demand) (step : Step) (bodies : List Held)
-    (rows : List (List (Option ℕ))) (flags : List Flags) (time : ℕ)
+    (rows : List (List (Option ℕ))) (flags : List Flags) (time : ℕ) (loops : List Loop)
     → step_of s t st (frames_at t st) d ≡ step → Mirrors (record step.parts { finalised = step_finals step st ++ step.parts.finalised }) bodies → HasPlaces s rows
     → ((u k : ℕ) → parcel_at rows u k ≡ first_held (parcel u k) (flowed step.flow st.edges)) → map flags_of flags ≡ step.parts.flags → time ≡ step.parts.time
-    → Follows s (done_by s t st d) bodies rows flags time
-follows_step s t st d step bodies rows flags time is mirrors has at flags_are time_is =
+    → HasLoops s (done_by s t st d) loops
+    → Follows s (done_by s t st d) bodies rows flags time loops
+follows_step s t st d step bodies rows flags time loops is mirrors has at flags_are time_is has_loops =
     record {
       mirrors = subst (λ (x : Step). Mirrors (record x.parts { finalised = step_finals x st ++ x.parts.finalised }) bodies) (sym is) mirrors;
       parcels_are = record { has = has; at = λ u k. at u k ∙ ap (λ (x : Step). first_held (parcel u k) (flowed x.flow st.edges)) (sym is) };
       flags_are = flags_are ∙ ap (λ (x : Step). x.parts.flags) (sym is);
       time_is = time_is ∙ ap (λ (x : Step). x.parts.time) (sym is);
+      has_loops = has_loops;
     }
 
 -- ---- flows that pass a holder by

@@ -25,6 +25,7 @@ use Rattle.cf_world.specs.declared.ground.Ground.TheInside.{Inside}
 use Rattle.cf_world.specs.declared.next.LeadNext.{LeadNext}
 use Rattle.cf_world.specs.declared.next.LeadNext.TheVariants as leads
 use Rattle.cf_world.specs.Worlds.{lead_of, IsTick}
+use Rattle.cf_loops.proofs.Telling.{kept}
 use Rattle.cf_world.specs.Grounds.{GroundView, Follows, Mirrors, HoldsParcels, MayRun, IsGround, flags_of, sleeping_of, state_of, view_of}
 use Rattle.cf_world.specs.Begun.{AreFrames}
 use Rattle.cf_world.specs.Leads.{lead_on, lead_entry, HasPlaceFor, HasLed}
@@ -150,17 +151,17 @@ module _ (g : Inside) (inv : IsGround g) where
 
   ground_led : (a : Action) (g' : Inside) → IsLegalEntry s st (lead_entry a) → length es < 4000000 → g'.script ≡ s
       → g'.journal.items ≡ es ++ lead_entry a ∷ []
-      → Follows s (after_action s lead st a) g'.store.bodies g'.parcels g'.flags.items g'.time → IsGround g'
+      → Follows s (after_action s lead st a) g'.store.bodies g'.parcels g'.flags.items g'.time g'.loops → IsGround g'
   ground_led a g' entry short same grown follows =
       let long : List Entry = es ++ lead_entry a ∷ [] in
-      let here : Follows s (After s g'.journal.items) g'.store.bodies g'.parcels g'.flags.items g'.time =
-      subst (λ (fs : List Entry). Follows s (After s fs) g'.store.bodies g'.parcels g'.flags.items g'.time) (sym grown)
-      (subst (λ (x : State). Follows s x g'.store.bodies g'.parcels g'.flags.items g'.time) (sym (after_led a)) follows) in
+      let here : Follows s (After s g'.journal.items) g'.store.bodies g'.parcels g'.flags.items g'.time g'.loops =
+      subst (λ (fs : List Entry). Follows s (After s fs) g'.store.bodies g'.parcels g'.flags.items g'.time g'.loops) (sym grown)
+      (subst (λ (x : State). Follows s x g'.store.bodies g'.parcels g'.flags.items g'.time g'.loops) (sym (after_led a)) follows) in
       record {
         script = subst MayRun (sym same) inv.script;
         legal = subst (λ (x : Script). IsLegal x g'.journal.items) (sym same) (subst (IsLegal s) (sym grown) (legal_led a entry));
         short = omega (arith, ap length grown, length-append es (lead_entry a ∷ []), short);
-        follows = subst (λ (x : Script). Follows x (After x g'.journal.items) g'.store.bodies g'.parcels g'.flags.items g'.time) (sym same) here;
+        follows = subst (λ (x : Script). Follows x (After x g'.journal.items) g'.store.bodies g'.parcels g'.flags.items g'.time g'.loops) (sym same) here;
       }
 
   tick_legal : (time : ℕ) → IsTick (lead_of (lead_next s es)) time → IsLegalEntry s st (lead_entry (actions.Tick time))
@@ -171,26 +172,34 @@ module _ (g : Inside) (inv : IsGround g) where
 
   tick_follows : (time : ℕ) (flags : List Flags)
       → map flags_of flags ≡ map (tick_flags time) (map flags_of g.flags.items)
-      → Follows s (ticked time st) g.store.bodies g.parcels flags time
+      → Follows s (ticked time st) g.store.bodies g.parcels flags time g.loops
   tick_follows time flags e = record {
     mirrors = record { objects_are = inv.follows.mirrors.objects_are; live = inv.follows.mirrors.live; given_up = inv.follows.mirrors.given_up };
     parcels_are = record { has = inv.follows.parcels_are.has; at = inv.follows.parcels_are.at };
     flags_are = e ∙ ap (map (tick_flags time)) inv.follows.flags_are;
     time_is = refl;
+    has_loops = record {
+      loops_are =
+          kept s st.parts (ticked time st).parts st.edges st.edges g.loops inv.follows.has_loops.loops_are
+          (record { commons = refl; kinds = λ i k e. e }) (λ r is. refl);
+      unregistered = inv.follows.has_loops.unregistered;
+    };
   }
 
   pub tick_ground : (time : ℕ) (g' : Inside) → IsTick (lead_of (lead_next s es)) time → length es < 4000000
       → g'.script ≡ s → g'.journal.items ≡ es ++ lead_entry (actions.Tick time) ∷ []
-      → g'.store.bodies ≡ g.store.bodies → g'.parcels ≡ g.parcels → map flags_of g'.flags.items ≡ map (tick_flags time) (map flags_of g.flags.items) → g'.time ≡ time → IsGround g'
-  tick_ground time g' due short same grown bodies parcels flags at =
+      → g'.store.bodies ≡ g.store.bodies → g'.parcels ≡ g.parcels → map flags_of g'.flags.items ≡ map (tick_flags time) (map flags_of g.flags.items) → g'.time ≡ time
+      → g'.loops ≡ g.loops → IsGround g'
+  tick_ground time g' due short same grown bodies parcels flags at loops =
       ground_led (actions.Tick time) g' (tick_legal time due) short same grown
-      (rw (bodies, parcels, at) (tick_follows time g'.flags.items flags))
+      (rw (bodies, parcels, at, loops) (tick_follows time g'.flags.items flags))
 
   pub stall_ground : (g' : Inside) → lead_of (lead_next s es) ≡ leads.Stall → length es < 4000000 → g'.script ≡ s
       → g'.journal.items ≡ es ++ lead_entry actions.Stall ∷ []
-      → g'.store.bodies ≡ g.store.bodies → g'.parcels ≡ g.parcels → g'.flags.items ≡ g.flags.items → g'.time ≡ g.time → IsGround g'
-  stall_ground g' due short same grown bodies parcels flags at =
-      ground_led actions.Stall g' (stall_legal due) short same grown (rw (bodies, parcels, flags, at) inv.follows)
+      → g'.store.bodies ≡ g.store.bodies → g'.parcels ≡ g.parcels → g'.flags.items ≡ g.flags.items → g'.time ≡ g.time
+      → g'.loops ≡ g.loops → IsGround g'
+  stall_ground g' due short same grown bodies parcels flags at loops =
+      ground_led actions.Stall g' (stall_legal due) short same grown (rw (bodies, parcels, flags, at, loops) inv.follows)
 
   led_view : (a : Action) (g' : Inside) → IsLegalEntry s st (lead_entry a)
       → (after_action s lead st a).stands ≡ st.stands → g'.script ≡ s → g'.journal.items ≡ es ++ lead_entry a ∷ []

@@ -12,11 +12,13 @@ pub mod Looks
 pub mod Mirroring
 pub mod Moving
 pub mod Packing
+pub mod Passing
 pub mod Placing
 pub mod Rooming
 pub mod Starting
 pub mod Stating
 pub mod Telling
 pub mod Waking
+pub mod Begins
 pub mod EdgeLists
 pub mod Referring

@@ -5,6 +5,7 @@ use Rattle.std.proofs.lemmas.Bool.{eq-eqb}
 use Rattle.std.proofs.lemmas.Bool.Decides.{eqb_tells}
 use Rattle.cf_ids.specs.declared.answer.Answer.{Answer}
 use Rattle.cf_ids.specs.declared.answer.Answer.TheVariants as answers
+use Rattle.rl_modes.specs.Loops.{Loop}
 use Rattle.cf_syntax.specs.declared.script.Script.{Script}
 use Rattle.cf_syntax.specs.BlockLines.{BlockLine, claims, packs, thread_block, uses_in, thread_lines}
 use Rattle.cf_syntax.specs.Owned.{FitsByBlock}
@@ -32,6 +33,7 @@ use Rattle.cf_model.proofs.Views.{FrameView, StandView, WorkView, is_call, is_cl
 use Rattle.cf_world.specs.declared.flags.Flags.{Flags}
 use Rattle.cf_world.specs.Grounds.{parcel_at, HasPlaces, Follows}
 use Rattle.cf_world.specs.Entering.{answer_for, packed_rows}
+use Rattle.cf_world.proofs.Passing.{KeepsLoops}
 use Rattle.cf_world.proofs.Counting.{Enters, enters_by, grows_follows, quiet_follows}
 use Rattle.cf_world.proofs.Cutting.{own_some, no_parcel}
 
@@ -124,7 +126,7 @@ module _ (s : Script) (t : ℕ) (st : State) (plain : IsPlainStand t (stand_at t
 
 -- ---- what a claim and a pack leave
 
-module _ (s : Script) (t : ℕ) (st : State) (bodies : List Held) (rows : List (List (Option ℕ))) (flags : List Flags) (time : ℕ) (h : Follows s st bodies rows flags time) where
+module _ (s : Script) (t : ℕ) (st : State) (bodies : List Held) (rows : List (List (Option ℕ))) (flags : List Flags) (time : ℕ) (loops : List Loop) (h : Follows s st bodies rows flags time loops) (keeps : KeepsLoops s t st loops) where
   -- a place of a parcel, and what it has after an entry
   at_place : (u k : ℕ) (object : Option ℕ) (edges : List Reference) → u < length rows → k < length (get_or rows u [])
       → first_held (parcel u k) edges ≡ object → ((v m : ℕ) → (v ≡ u → m ≡ k → ⊥) → first_held (parcel v m) edges ≡ first_held (parcel v m) st.edges)
@@ -152,22 +154,22 @@ module _ (s : Script) (t : ℕ) (st : State) (bodies : List Held) (rows : List (
     has_place = subst (λ (n : ℕ). k < n) (sym (h.parcels_are.has.places t thread)) place
 
     claimed : (object : Option ℕ) → first_held (parcel t k) st.edges ≡ object
-        → Enters s t st (answer_for object) [] bodies (rows_with rows t k None) flags time
+        → Enters s t st (answer_for object) [] bodies (rows_with rows t k None) flags time loops
     claimed None none =
         let is = ap (λ (o : Option ℕ). claim_step st (parcel t k) o to) none in
-        enters_by s t st (does (claims k v)) (idle st answers.Skip) answers.Skip bodies (rows_with rows t k None) flags time e is refl
-        (grows_follows s t st bodies rows flags time h (does (claims k v)) answers.Skip [] [] (rows_with rows t k None) is (places_kept rows t k None has_thread s h.parcels_are.has)
+        enters_by s t st (does (claims k v)) (idle st answers.Skip) answers.Skip bodies (rows_with rows t k None) flags time loops e is refl
+        (grows_follows s t st bodies rows flags time loops h keeps (does (claims k v)) answers.Skip [] [] (rows_with rows t k None) e tt is (places_kept rows t k None has_thread s h.parcels_are.has)
         (at_place t k None st.edges has_thread has_place none (λ u m apart. refl)))
     claimed (Some o) found =
         let is = ap (λ (p : Option ℕ). claim_step st (parcel t k) p to) found in
         let moves = moves_to to (held_by (parcel t k) o ∷ []) in
-        enters_by s t st (does (claims k v)) (flowing st answers.Ok (grows [] moves)) answers.Ok bodies (rows_with rows t k None) flags time e is refl
-        (grows_follows s t st bodies rows flags time h (does (claims k v)) answers.Ok [] moves (rows_with rows t k None) is (places_kept rows t k None has_thread s h.parcels_are.has)
+        enters_by s t st (does (claims k v)) (flowing st answers.Ok (grows [] moves)) answers.Ok bodies (rows_with rows t k None) flags time loops e is refl
+        (grows_follows s t st bodies rows flags time loops h keeps (does (claims k v)) answers.Ok [] moves (rows_with rows t k None) e tt is (places_kept rows t k None has_thread s h.parcels_are.has)
         (at_place t k None (flowed (grows [] moves) st.edges) has_thread has_place (one_at_most.gone o found)
         (λ u m apart. first_moved (parcel u m) (held_by (parcel t k) o) to st.edges (parcel_apart u m t k apart) refl)))
 
-    pub claim_enters : Enters s t st (answer_for (parcel_at rows t k)) [] bodies (rows_with rows t k None) flags time
-    claim_enters = subst (λ (o : Option ℕ). Enters s t st (answer_for o) [] bodies (rows_with rows t k None) flags time) (sym (h.parcels_are.at t k)) (claimed (first_held (parcel t k) st.edges) refl)
+    pub claim_enters : Enters s t st (answer_for (parcel_at rows t k)) [] bodies (rows_with rows t k None) flags time loops
+    claim_enters = subst (λ (o : Option ℕ). Enters s t st (answer_for o) [] bodies (rows_with rows t k None) flags time loops) (sym (h.parcels_are.at t k)) (claimed (first_held (parcel t k) st.edges) refl)
 
   module _ (u k : ℕ) (v : Option ℕ) (e : demanded s st t ≡ Some (does (packs u k v))) (within : IsWithin s u k) (own : FitsByBlock s) (is_sound : IsSound s st) where
     abbrev from : Holder
@@ -189,11 +191,11 @@ module _ (s : Script) (t : ℕ) (st : State) (bodies : List Held) (rows : List (
         (demand_may s t st is_sound own (does (packs u k v)) e)).0
 
     packed : (object : Option ℕ) → object_at (bindings_of (frames_at t st)) v ≡ object
-        → Enters s t st (answer_for object) [] bodies (packed_rows rows u k object) flags time
+        → Enters s t st (answer_for object) [] bodies (packed_rows rows u k object) flags time loops
     packed None none =
         let is = ap (λ (o : Option ℕ). pack_step t st from o (parcel u k)) none in
-        enters_by s t st (does (packs u k v)) (idle st answers.Skip) answers.Skip bodies rows flags time e is refl
-        (quiet_follows s t st bodies rows flags time h (does (packs u k v)) answers.Skip [] [] is (λ w m. tt))
+        enters_by s t st (does (packs u k v)) (idle st answers.Skip) answers.Skip bodies rows flags time loops e is refl
+        (quiet_follows s t st bodies rows flags time loops h keeps (does (packs u k v)) answers.Skip [] [] e tt is (λ w m. tt))
     packed (Some o) found =
         let may = pack_may o found in
         let of : IsOf t from = packed_is_own t (depth_of (frames_at t st)) v in
@@ -206,11 +208,11 @@ module _ (s : Script) (t : ℕ) (st : State) (bodies : List Held) (rows : List (
         ap (λ (p : Option ℕ). pack_step t st from p (parcel u k)) found
         ∙ ap (λ (p : Option Reference). flowing st answers.Ok (grows [] (moves_to (parcel u k) (option_to_list p ++ [])))) reference in
         let other = no_parcel t q.0.holder has.thread in
-        enters_by s t st (does (packs u k v)) (flowing st answers.Ok (grows [] moves)) answers.Ok bodies (rows_with rows u k (Some o)) flags time e is refl
-        (grows_follows s t st bodies rows flags time h (does (packs u k v)) answers.Ok [] moves (rows_with rows u k (Some o)) is (places_kept rows u k (Some o) has_row s h.parcels_are.has)
+        enters_by s t st (does (packs u k v)) (flowing st answers.Ok (grows [] moves)) answers.Ok bodies (rows_with rows u k (Some o)) flags time loops e is refl
+        (grows_follows s t st bodies rows flags time loops h keeps (does (packs u k v)) answers.Ok [] moves (rows_with rows u k (Some o)) e tt is (places_kept rows u k (Some o) has_row s h.parcels_are.has)
         (at_place u k (Some o) (flowed (grows [] moves) st.edges) has_row has_word (first_moved_here (parcel u k) r st.edges)
         (λ w m apart. first_moved (parcel w m) r (parcel u k) st.edges (parcel_other w m q.0.holder other) (parcel_apart w m u k apart))))
 
     pub pack_enters : (object : Option ℕ) → object_at (bindings_of (frames_at t st)) v ≡ object
-        → Enters s t st (answer_for object) [] bodies (packed_rows rows u k object) flags time
+        → Enters s t st (answer_for object) [] bodies (packed_rows rows u k object) flags time loops
     pack_enters object is = packed object is

@@ -43,6 +43,9 @@ use Rattle.cf_world.specs.Worlds.{entry_of}
 use Rattle.cf_world.specs.Grounds.{Mirrors, Follows, IsGround, view_of, state_of, deed_of}
 use Rattle.cf_world.specs.Entering.{MayAct, IsDeed, IsBinding, demand_in, gained_in, listed_if, listed_in, used_in}
 use Rattle.cf_world.proofs.Growing.{follows_step, passes_held}
+use Rattle.cf_syntax.proofs.BlockLaws.{owned_fits}
+use Rattle.cf_model.proofs.Sound.{sound}
+use Rattle.cf_world.proofs.Passing.{KeepsLoops, keeps_loops, said_of_stage, staged_leave, binds_leave}
 use Rattle.cf_world.proofs.Mirroring.{AreMirrored, mirrored, mirrors_by, mirrored_changed, mirrored_made, bodies_unchanged, count-mirrors}
 
 if_some : {A : Type 0} (o : Option A) (x : A) (P : A → Type 0) → o ≡ Some x → IfSome o P → P x
@@ -146,21 +149,25 @@ module _ (g : Inside) (t : ℕ) (inv : IsGround g) (deed : IsDeed (view_of g) t)
       ∙ ap (λ (d : Deal). deal_step t d (posts_of st.parts x used)) deal_is
       ∙ ap (deal_step t (change_deal st.parts does_it.answer (first_of used) does_it.change)) plainly.posts
 
+  keeps : KeepsLoops s t st g.loops
+  keeps = keeps_loops s t st (owned_fits s inv.script.owned) (sound s g.journal.items inv.script.owned) inv.script.stage g.loops inv.follows.has_loops
+
   pub dealt_ready : g.store.ready ≡ Some (deed_of s st x used)
   dealt_ready = deed.ready
 
   pub dealt_follows : (bodies : List Held)
       → IfSome g.store.ready (λ (r : Ready). bodies ≡ bodies_changed r.object r.deed.change g.store.bodies)
-      → Follows s (done_by s t st (does (says x))) bodies g.parcels g.flags.items g.time
+      → Follows s (done_by s t st (does (says x))) bodies g.parcels g.flags.items g.time g.loops
   dealt_follows bodies h =
       let is : bodies ≡ bodies_changed (first_of used) does_it.change g.store.bodies = if_some g.store.ready (deed_of s st x used) _ deed.ready h in
       let old = inv.follows in
-      follows_step s t st (does (says x)) changed bodies g.parcels g.flags.items g.time step_is
+      follows_step s t st (does (says x)) changed bodies g.parcels g.flags.items g.time g.loops step_is
       (subst (Mirrors _) (sym is) (deal_mirrors t st does_it.answer does_it.change (first_of used) g.store.bodies old.mirrors))
       old.parcels_are.has
       (λ u k. old.parcels_are.at u k ∙ sym (deal_parcels t st does_it.answer does_it.change (first_of used) u k))
       (old.flags_are ∙ deal_flags t st does_it.answer does_it.change (first_of used))
       (old.time_is ∙ deal_time t st does_it.answer does_it.change (first_of used))
+      (keeps (does (says x)) deed.demands (staged_leave x (said_of_stage s st t inv.script.stage x deed.demands)))
 
   pub dealt_entry : (a : Action) (e : Edited) → IfSome g.store.ready (λ (r : Ready). applies.IsDeed r.deed e)
       → ◌≡◌ {A = Entry} (record { thread = t; action = a; answer = e.answer }) (entry_of s t st a)
@@ -277,6 +284,10 @@ module _ (g : Inside) (t : ℕ) (a : Action) (inv : IsGround g) (acts : MayAct (
   abbrev bound : Step
   bound = bind_step (variable t depth binding.var) now.parts (record { answer = its_deed.answer; origin = its_deed.origin })
 
+  keeps_said : KeepsLoops script t now g.loops
+  keeps_said =
+      keeps_loops script t now (owned_fits script inv.script.owned) (sound script g.journal.items inv.script.owned) inv.script.stage g.loops inv.follows.has_loops
+
   plain_bind : DealsPlainly script t now said uses
   plain_bind =
       deals_plainly script t now said uses (staged (does (says said)) said (plain_demand script now t (does (says said)) inv.script.stage (plain_after script g.journal.items inv.script.stage) binding.demands) refl)
@@ -328,15 +339,15 @@ module _ (g : Inside) (t : ℕ) (a : Action) (inv : IsGround g) (acts : MayAct (
         (λ made. omega (arith, ap length (bodies_are bodies kept), count-mirrors now.parts g.store.bodies inv.follows.mirrors, acts.few (ap makes_line binding.demands ∙ made))))
 
     pub bound_follows : (after : List Held) → after ≡ bodies ++ bodies_from (origin_of e.origin)
-        → Follows script (done_by script t now (does (says said))) after g.parcels g.flags.items g.time
+        → Follows script (done_by script t now (does (says said))) after g.parcels g.flags.items g.time g.loops
     bound_follows after grown =
         let old = inv.follows in
         let same : after ≡ g.store.bodies ++ bodies_from its_deed.origin = grown ∙ ap (λ (bs : List Held). bs ++ bodies_from (origin_of e.origin)) (bodies_are bodies kept) ∙ ap (λ (o : Origin). g.store.bodies ++ bodies_from o) is.origin in
-        follows_step script t now (does (says said)) bound after g.parcels g.flags.items g.time binds_is
+        follows_step script t now (does (says said)) bound after g.parcels g.flags.items g.time g.loops binds_is
         (subst (Mirrors _) (sym same) (bind_mirrors t depth binding.var now its_deed.answer g.store.bodies old.mirrors unmade undropped its_deed.origin))
         old.parcels_are.has
         (λ u k. old.parcels_are.at u k ∙ sym (bind_parcels t depth binding.var now its_deed.answer g.store.bodies old.mirrors unmade undropped its_deed.origin fits.makes u k))
-        old.flags_are old.time_is
+        old.flags_are old.time_is (keeps_said (does (says said)) binding.demands (binds_leave said binding.var binding.binds))
 
     object_is : (object : Option ℕ) → object ≡ found_in bodies (origin_of e.origin)
         → object ≡ found now.parts its_deed.origin

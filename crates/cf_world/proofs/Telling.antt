@@ -9,13 +9,16 @@ use Rattle.std.proofs.lemmas.Bool.Decides.{nat_tests, eqb_tells}
 use Rattle.cf_syntax.specs.declared.script.Script.{Script}
 use Rattle.cf_syntax.specs.declared.statement.Statement.{Statement}
 use Rattle.cf_graph.specs.Holders.{parcel}
-use Rattle.cf_contents.specs.Contents.{Object, times, slots_at}
+use Rattle.cf_contents.specs.Contents.{Content, item_content, Object, times, slots_at}
 use Rattle.cf_contents.specs.Deeds.{deed_at, first_of}
-use Rattle.cf_contents.specs.Stores.{Held, MayGrow, Ready, is_live_in, given_up_in, left_in, ready_deed}
+use Rattle.cf_body.specs.Items.{ItemView, item_in, seen_of}
+use Rattle.cf_body.specs.declared.item.LoopItem.{LoopItem}
+use Rattle.cf_store.specs.Sources.{item_at}
+use Rattle.cf_contents.specs.Stores.{objects_of, Held, MayGrow, Ready, is_live_in, given_up_in, left_in, ready_deed}
 use Rattle.cf_next.specs.Facts.{Callout}
 use Rattle.cf_model.specs.declared.entry.Entry.{Entry}
 use Rattle.cf_model.specs.State.{State, Parts, left_of, first_held, start, flags_at, flags_of as fresh_flags}
-use Rattle.cf_model.specs.Things.{Thing, thing_at, is_valid_thing, is_signalled_thing, date_of_thing, repeats_thing, callout_of_thing, opens_thing, items_in, is_empty_mode}
+use Rattle.cf_model.specs.Things.{Thing, thing_in, thing_of, thing_at}
 use Rattle.cf_model.specs.Known.{receiver_in, slot_left, facts_of}
 use Rattle.cf_model.specs.Journals.{After, IsLegal}
 use Rattle.cf_model.specs.Stage.{IsPlainState}
@@ -27,47 +30,47 @@ use Rattle.cf_world.specs.Grounds.{GroundView, Mirrors, parcel_at, HasPlaces, Ho
 use Rattle.cf_world.specs.Entering.{IsLastAnswer}
 use Rattle.cf_world.proofs.Mirroring.{left-mirrors, mirrored}
 
+-- ---- items
+
+-- an item as the state has it
+abbrev pub thing_of_view : ItemView → Thing
+thing_of_view x = record { handler = x.handler; info = x.info; valid = x.valid; item = x.item }
+
+in_content : (c : Content) → thing_in c ≡ option_map thing_of_view (item_in c)
+in_content (item_content handler info valid item) = refl
+in_content _ = refl
+
+among_bodies : (bodies : List Held) (i : ℕ)
+    → thing_of (slice_get (objects_of bodies) i) ≡ option_map thing_of_view (item_at bodies i)
+among_bodies [] i = refl
+among_bodies (h ∷ hs) zero = in_content h.object.content
+among_bodies (h ∷ hs) (suc i) = among_bodies hs i
+
 -- ---- facts
 
-none_opens : (p : Parts) (items : List ℕ) → ((i : ℕ) → thing_at p i ≡ None)
-    → list_any (λ i. opens_thing (thing_at p i)) items ≡ false
-none_opens p [] h = refl
-none_opens p (i ∷ items) h = rw (h i) (none_opens p items h)
+module _ (g : Inside) (inv : IsGround g) where
+  abbrev state : State
+  state = After g.script g.journal.items
 
--- ---- of a script of today's forms no loop and no notice has anything
+  pub thing_told : (i : ℕ) → thing_at state.parts i ≡ option_map thing_of_view (item_at g.store.bodies i)
+  thing_told i =
+      ap (λ (obs : List Object). thing_of (slice_get obs i)) (sym inv.follows.mirrors.objects_are) ∙ among_bodies g.store.bodies i
 
-module _ (v : GroundView) (run : MayRun v.script) where
-  plain_view : IsPlainState v.script (state_of v)
-  plain_view = plain_after v.script v.journal run.stage
+  pub item_told : (i : ℕ) (item : LoopItem) → option_map seen_of (Some item) ≡ item_at g.store.bodies i
+      → thing_at state.parts i ≡ Some (thing_of_view (seen_of item))
+  item_told i item e = thing_told i ∙ ap (option_map thing_of_view) (sym e)
 
-  pub tells_holds : (t m i : ℕ) → false ≡ (known v).holds t m i
-  tells_holds t m i = sym (plain_view.no_mode_has t m i)
+  pub no_item_told : (i : ℕ) → ◌≡◌ {A = Option ItemView} None (item_at g.store.bodies i) → thing_at state.parts i ≡ None
+  no_item_told i e = thing_told i ∙ ap (option_map thing_of_view) (sym e)
 
-  pub tells_empty : (t m : ℕ) → true ≡ (known v).is_empty t m
-  tells_empty t m = sym (ap not (none_opens (state_of v).parts (items_in (state_of v) t m) plain_view.parts.things))
-
-  pub tells_valid : (i : ℕ) → false ≡ (known v).is_valid i
-  tells_valid i = sym (ap is_valid_thing (plain_view.parts.things i))
-
-  pub tells_signalled : (i : ℕ) → false ≡ (known v).is_signalled i
-  tells_signalled i = sym (ap is_signalled_thing (plain_view.parts.things i))
-
-  pub tells_date : (i : ℕ) → None ≡ (known v).next_date i
-  tells_date i = sym (ap date_of_thing (plain_view.parts.things i))
-
-  pub tells_repeats : (i : ℕ) → false ≡ (known v).repeats i
-  tells_repeats i = sym (ap repeats_thing (plain_view.parts.things i))
-
-  pub tells_callout : (i : ℕ) → None ≡ (known v).callout i
-  tells_callout i = sym (ap callout_of_thing (plain_view.parts.things i))
-
-  pub tells_receiver : (r : ℕ) → None ≡ (known v).receiver r
-  tells_receiver r =
-      sym (ap (receiver_in (state_of v).parts) (ap (λ rs. slice_index_or rs r None) plain_view.parts.registrations ∙ no_row r))
-    where
-      no_row : {A : Type 0} (n : ℕ) → slice_index_or {A = Option A} [] n None ≡ None
-      no_row zero = refl
-      no_row (suc n) = refl
+-- nothing is registered, and so nobody receives
+pub no_receiver : (p : Parts) (r : ℕ) → p.registrations ≡ []
+    → None ≡ receiver_in p (slice_index_or p.registrations r None)
+no_receiver p r e = sym (ap (receiver_in p) (ap (λ rs. slice_index_or rs r None) e ∙ no_row r))
+  where
+    no_row : {A : Type 0} (n : ℕ) → slice_index_or {A = Option A} [] n None ≡ None
+    no_row zero = refl
+    no_row (suc n) = refl
 
 -- ---- flags, and the deed that is ready
 

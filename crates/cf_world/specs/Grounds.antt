@@ -15,6 +15,8 @@ use Rattle.cf_contents.specs.Deeds.{deed_at, first_of}
 use Rattle.cf_contents.specs.Stores.{Held, Ready, objects_of, is_live_in, given_up_in}
 use Rattle.cf_next.specs.Facts.{Facts}
 use Rattle.cf_syntax.specs.Numbered.{IsNumbered}
+use Rattle.rl_modes.specs.Loops.{Loop}
+use Rattle.cf_loops.specs.Following.{AreLoops}
 use Rattle.cf_model.specs.declared.entry.Entry.{Entry}
 use Rattle.cf_model.specs.State as states
 use Rattle.cf_model.specs.State.{State, Parts, Sleeping, awake, until, first_held, start}
@@ -73,12 +75,19 @@ flags_of f = record { is_started = f.is_started; sleep = sleeping_of f.sleep; is
 abbrev pub AreFirst : Script → List Flags → Type 0
 AreFirst s flags = map flags_of flags ≡ (start s).parts.flags
 
+-- the loops are those of a state, in which nothing is registered
+pub record HasLoops (s : Script) (st : State) (loops : List Loop) : Type 0 where
+  pub loops_are : AreLoops s st.parts st.edges loops
+  pub unregistered : st.parts.registrations ≡ []
+
 -- the parts follow a state
-pub record Follows (s : Script) (st : State) (bodies : List Held) (parcels : List (List (Option ℕ))) (flags : List Flags) (time : ℕ) : Type 0 where
+pub record Follows (s : Script) (st : State) (bodies : List Held) (parcels : List (List (Option ℕ)))
+    (flags : List Flags) (time : ℕ) (loops : List Loop) : Type 0 where
   pub mirrors : Mirrors st.parts bodies
   pub parcels_are : HoldsParcels s st parcels
   pub flags_are : map flags_of flags ≡ st.parts.flags
   pub time_is : time ≡ st.parts.time
+  pub has_loops : HasLoops s st loops
 
 -- a script that may run: it is owned, its forms are those of today, and its numbers fit
 pub record MayRun (s : Script) : Type 0 where
@@ -96,6 +105,7 @@ pub record IsGround (g : Inside) : Type 0 where
   pub legal : IsLegal g.script g.journal.items
   pub short : length g.journal.items ≤ 4000000
   pub follows : Follows g.script (After g.script g.journal.items) g.store.bodies g.parcels g.flags.items g.time
+      g.loops
 
 -- what callers see of a ground
 abbrev pub view_of : Inside → GroundView

@@ -14,7 +14,9 @@ ghost use Rattle.std.specs.Prelude.{slice_get};
 
 use crate::flags::Flags;
 use crate::parcels::Parcels;
+use cf_body::ItemState;
 use cf_ids::{Answer, Ended, HandlerId, ModeId, OBJECTS, ObjId, ThreadId};
+use cf_loops::Loops;
 use cf_model::Entry;
 use cf_next::{Facts, Used};
 use cf_owncheck::Checked;
@@ -24,7 +26,7 @@ use std::alloc::{AllocError as NoMemory, Global};
 use std::marker::Model;
 
 /// What a world keeps beside where its threads stand: the script, the journal, the bodies, what the parcels have, the
-/// flags of the threads, and the time. Contracts see the script, the journal and the room that there is; all else is
+/// flags and the run loops of the threads, and the time. Contracts see the script, the journal and the room that there is; all else is
 /// the state after the journal.
 #[derive(Drop)]
 pub(crate) struct Ground {
@@ -36,6 +38,7 @@ pub(crate) struct Ground {
     pub(crate) flags: Vec<Flags>,
     /// In ticks.
     pub(crate) time: u64,
+    pub(crate) loops: Loops,
 }
 
 impl Model for Ground {
@@ -57,42 +60,50 @@ impl Facts for Ground {
         self.time
     }
 
-    // The forms of the script are those of today: none makes an item of a run loop or a registration.
-    fn holds(&self, _t: ThreadId, _m: ModeId, _i: ObjId) -> bool {
-        self.script();
-        false
+    fn holds(&self, t: ThreadId, m: ModeId, i: ObjId) -> bool {
+        self.loops.holds(t, m, i)
     }
 
-    fn is_empty(&self, _t: ThreadId, _m: ModeId) -> bool {
-        self.script();
-        true
+    fn is_empty(&self, t: ThreadId, m: ModeId) -> bool {
+        self.loops.is_empty(t, m)
     }
 
-    fn is_valid(&self, _i: ObjId) -> bool {
-        self.script();
-        false
+    fn is_valid(&self, i: ObjId) -> bool {
+        match self.store.item(i) {
+            Some(item) => item.valid,
+            None => false,
+        }
     }
 
-    fn is_signalled(&self, _s: ObjId) -> bool {
-        self.script();
-        false
+    fn is_signalled(&self, s: ObjId) -> bool {
+        match self.store.item(s) {
+            Some(item) => item.is_signalled(),
+            None => false,
+        }
     }
 
-    fn next_date(&self, _t: ObjId) -> Option<u64> {
-        self.script();
-        None
+    // Of the items of a run loop the store has sources, which have no date and are no observers.
+    fn next_date(&self, t: ObjId) -> Option<u64> {
+        match self.store.item(t)?.state {
+            ItemState::Source { .. } => None,
+        }
     }
 
-    fn repeats(&self, _o: ObjId) -> bool {
-        self.script();
-        false
+    fn repeats(&self, o: ObjId) -> bool {
+        match self.store.item(o) {
+            Some(item) => match item.state {
+                ItemState::Source { .. } => false,
+            },
+            None => false,
+        }
     }
 
-    fn callout(&self, _i: ObjId) -> Option<(HandlerId, Option<ObjId>)> {
-        self.script();
-        None
+    fn callout(&self, i: ObjId) -> Option<(HandlerId, Option<ObjId>)> {
+        let item = self.store.item(i)?;
+        Some((item.handler, item.info))
     }
 
+    // No form that the reader takes registers anything.
     fn receiver(&self, _r: u32) -> Option<(HandlerId, ObjId)> {
         self.script();
         None
@@ -122,6 +133,7 @@ impl Ground {
         journal.reserve(limit as usize)?;
         let parcels = Parcels::new(alloc, script.script())?;
         let flags = first_flags(alloc, script.script())?;
+        let loops = Loops::new(alloc, script.script().threads())?;
         Ok(Ground {
             script,
             journal,
@@ -129,13 +141,15 @@ impl Ground {
             parcels,
             flags,
             time: 0,
+            loops,
         })
     }
 
-    /// The script.
+    /// The script, which registers nothing.
     pub fn script(&self) -> &Script
         ensures script { result.now ≡ self.now.script }
         ensures runs { MayRun self.now.script }
+        ensures unregistered { (state_of self.now).parts.registrations ≡ [] }
     {
         self.script.script()
     }

@@ -28,7 +28,7 @@ invariant_of-self c =
 pub returns : goal.returns
 returns c = record {
   entered = rw (← c.self.view_is) (entered_view c.self.inside c.args.t c.args.action c.self.invariant (rw (← c.self.view_is) at c.requires.acts) _ _
-      (record { script = c.self.inside.script; journal = c.write.new.journal; store = c.retire.new.store; parcels = c.self.inside.parcels; flags = c.self.inside.flags; time = c.self.inside.time })
+      (record { script = c.self.inside.script; journal = c.write.new.journal; store = c.retire.new.store; parcels = c.self.inside.parcels; flags = c.self.inside.flags; time = c.self.inside.time; loops = c.self.inside.loops })
       (drop_entered c.self.inside c.args.t c.self.invariant c.args.body c.args.object (rw (← c.self.view_is) at c.requires.drop) c.args.ended (rw (← c.self.view_is) at c.requires.ended) _ _
       (where_found _ _ _ _ _ (drop_tells c.self.inside c.args.t c.self.invariant c.args.body c.args.object (rw (← c.self.view_is) at c.requires.drop)).first c.drop_slot.ensures.slot c.drop_slot.ensures.given_up) c.retire.ensures)
       c.answer_of_cut-answer.result (rw (← c.self.view_is) at c.answer_of_cut-answer.ensures) refl c.write.ensures.items c.write.ensures.room);

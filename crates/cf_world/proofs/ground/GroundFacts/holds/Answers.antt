@@ -1,6 +1,8 @@
 -- Answers to the goals of `ground::GroundFacts::holds`.
-use Rattle.cf_world.proofs.Telling.{tells_holds}
+use Rattle.cf_model.specs.Journals.{After}
 use Rattle.cf_world.proofs.ground.GroundFacts.holds.Goals as goal
 
 pub returns : goal.returns
-returns c = tells_holds c.args.self.now c.script.ensures.runs c.args._t c.args._m c.args._i
+returns c =
+    let g = c.self.inside in
+    rw (← c.self.view_is) (c.holds.ensures g.script (After g.script g.journal.items) c.self.invariant.follows.has_loops.loops_are)

@@ -5,6 +5,7 @@ pub mod FormHintLaws
 pub mod HexLaws
 pub mod HintLaws
 pub mod NameLaws
+pub mod NearLaws
 pub mod NumberLaws
 pub mod OpeningLaws
 pub mod ReaderLaws

@@ -6,3 +6,4 @@ pub mod Shapes
 pub mod TableViews
 pub mod Tables
 pub mod Views
+pub mod Whole

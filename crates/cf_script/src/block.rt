@@ -2,6 +2,7 @@
 ghost use Rattle.std.specs.Prelude.{◌≡◌, ◌+◌, ◌<◌, ◌^◌, IfOk, IfSome, IsTrue, Ok, OnOk, Some, [], length, map, position};
 ghost use Rattle.std.specs.Option.{option_map};
 ghost use Rattle.std.specs.Str.{bytes_eq, IsUtf8};
+ghost use Rattle.cf_syntax.specs.Words.{words};
 ghost use Rattle.cf_syntax.specs.Text.{Opened, start, is_header, new_block, with_statement, is_handler, close_block, end_line, place_line, header_line, spoken_line, after_line, handler_named, ended, script_at, whole};
 ghost use Rattle.cf_script.specs.Gives.{GivesAs};
 ghost use Rattle.cf_script.specs.Views.{lent};
@@ -15,7 +16,7 @@ use crate::names::{Names, copies, in_order};
 use crate::openings::after;
 use crate::shapes::known_statement;
 use crate::statements::read_statement;
-use crate::words::{is, split_words, word_at};
+use crate::words::{is, word_at, words_of};
 use cf_ids::Seq;
 use cf_syntax::{Block, BlockKind, Given, Handler, Parts, Reason, Statement};
 use std::alloc::{AllocError, Global};
@@ -196,11 +197,13 @@ impl Reader {
         alloc: Global,
         found: &mut Vec<&'a [u8]>,
         line: &'a [u8],
+        has_words: bool,
     ) -> Result<(), LineFault>
-        requires { self.old.count + 1 < 2 ^ 32 }
+        requires count { self.old.count + 1 < 2 ^ 32 }
+        requires words { IsTrue has_words → words line.now ≡ Some (lent found.old.items) }
         ensures { GivesAs (λ _. reading_of self.new) result (spoken_line [] (reading_of self.old) line.now) }
     {
-        split_words(found, line)?;
+        words_of(found, line, has_words)?;
         let words = found.as_slice();
         if self.count != 0 {
             return self.place_line(alloc, words);
@@ -212,7 +215,7 @@ impl Reader {
         }
     }
 
-    /// A line more; it may be known that it is UTF-8.
+    /// A line more; it may be known that it is UTF-8, and `found` may have its words.
     #[tactic(auto, unfolding(cf_syntax::specs::Text::after_line))]
     pub fn after_line<'a>(
         &mut self,
@@ -220,9 +223,11 @@ impl Reader {
         found: &mut Vec<&'a [u8]>,
         line: &'a [u8],
         is_known: bool,
+        has_words: bool,
     ) -> Result<(), LineFault>
         requires count { self.old.count + 1 < 2 ^ 32 }
         requires utf8 { IsTrue is_known → IsUtf8 line.now }
+        requires words { IsTrue has_words → words line.now ≡ Some (lent found.old.items) }
         ensures read { GivesAs (λ _. reading_of self.new) result (after_line [] (reading_of self.old) line.now) }
         ensures count { OnOk result (self.new.count ≡ self.old.count + 1) }
     {
@@ -231,7 +236,7 @@ impl Reader {
         }
         let count = self.count + 1;
         if self.count == 0 || !says_nothing(line) {
-            self.spoken_line(alloc, found, line)?;
+            self.spoken_line(alloc, found, line, has_words)?;
         }
         self.count = count;
         Ok(())

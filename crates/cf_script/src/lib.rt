@@ -9,6 +9,7 @@ mod forms;
 mod hints;
 mod lines;
 mod names;
+mod near;
 mod numbers;
 mod openings;
 mod operands;

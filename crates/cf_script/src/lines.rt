@@ -1,5 +1,5 @@
 //! The lines of a text.
-ghost use Rattle.std.specs.Prelude.{◌≡◌, ◌∷◌, ◌<◌, IsTrue, length};
+ghost use Rattle.std.specs.Prelude.{◌≡◌, ◌∷◌, ◌<◌, IfSome, IsTrue, Some, length, take};
 ghost use Rattle.std.specs.Prelude.{nat_eq, ◌==◌, position};
 ghost use Rattle.std.specs.Str.{is_utf8, IsUtf8};
 ghost use Rattle.cf_syntax.specs.Lines.{lines, without_return};
@@ -14,6 +14,18 @@ fn line_end(bytes: &[u8]) -> Option<usize>
     memchr(b'\n', bytes)
 }
 
+/// The place of the first LF, which may be known.
+#[inline(always)]
+fn known_end(bytes: &[u8], known: Option<usize>) -> Option<usize>
+    requires { IfSome known (λ n. position (λ b. b == 10) bytes.now ≡ Some n) }
+    ensures { result ≡ position (λ b. b == 10) bytes.now }
+{
+    match known {
+        Some(end) => Some(end),
+        None => line_end(bytes),
+    }
+}
+
 /// A piece without the CR at its end.
 fn without_return(piece: &[u8]) -> &[u8]
     ensures { result.now ≡ without_return piece.now }
@@ -24,14 +36,17 @@ fn without_return(piece: &[u8]) -> &[u8]
     }
 }
 
-/// The first line, and the bytes after it.
-pub(crate) fn next_line(bytes: &[u8]) -> (&[u8], &[u8])
-    requires { 0 < length bytes.now }
+/// The first line, and the bytes after it. Where its LF is, may be known.
+#[inline(always)]
+pub(crate) fn next_line(bytes: &[u8], known: Option<usize>) -> (&[u8], &[u8])
+    requires some { 0 < length bytes.now }
+    requires known { IfSome known (λ n. position (λ b. b == 10) bytes.now ≡ Some n) }
+    ensures first { IfSome known (λ n. result.0.now ≡ without_return (take n bytes.now)) }
     ensures lines { lines bytes.now ≡ result.0.now ∷ lines result.1.now }
     ensures shorter { length result.1.now < length bytes.now }
     ensures utf8 { IsUtf8 bytes.now → IsUtf8 result.0.now × IsUtf8 result.1.now }
 {
-    match line_end(bytes) {
+    match known_end(bytes, known) {
         Some(end) => {
             let (piece, rest) = bytes.split_at(end);
             let (_, after) = rest.split_at(1);

@@ -9,6 +9,7 @@ ghost use Rattle.cf_script.specs.Gives.{Gives, GivesFault};
 use crate::block::Reader;
 use crate::fault::{LineFault, ScriptFault};
 use crate::lines::{is_utf8, next_line};
+use crate::near::near_words;
 use cf_syntax::{Refusal, Script};
 use std::alloc::Global;
 
@@ -41,9 +42,10 @@ pub fn read_script(alloc: Global, bytes: &[u8]) -> Result<Script, ScriptFault>
     let is_known = is_utf8(bytes);
     let mut rest = bytes;
     while !rest.is_empty() {
-        let (line, after) = next_line(rest);
+        let near = near_words(&mut found, rest);
+        let (line, after) = next_line(rest, near);
         let count = reader.count;
-        if let Err(fault) = reader.after_line(alloc, &mut found, line, is_known) {
+        if let Err(fault) = reader.after_line(alloc, &mut found, line, is_known, near.is_some()) {
             return Err(on_line(count, fault));
         }
         rest = after;

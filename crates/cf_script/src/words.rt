@@ -1,5 +1,5 @@
 //! The words of a line.
-ghost use Rattle.std.specs.Prelude.{◌≡◌, ◌≤◌, ◌<◌, ◌∷◌, length, take, drop, MatchOption, IfSome, IfOk, slice_index, None, true, false};
+ghost use Rattle.std.specs.Prelude.{◌≡◌, ◌≤◌, ◌<◌, ◌∷◌, length, take, drop, MatchOption, IfSome, IfOk, IsTrue, slice_index, None, Some, true, false};
 ghost use Rattle.std.specs.List.{list_all, list_any};
 ghost use Rattle.std.specs.Str.{bytes_eq};
 ghost use Rattle.cf_syntax.specs.Words.{is_blank, goes, words, words_from, is_letter, is_name_byte, is_reserved, is_name, is_text, unescape, text_from, text_of};
@@ -154,6 +154,22 @@ pub(crate) fn split_words<'a>(found: &mut Vec<&'a [u8]>, line: &'a [u8]) -> Resu
         rest = skip_blanks(after);
     }
     Ok(())
+}
+
+/// The words of a line, which may be those that `found` has.
+#[inline(always)]
+pub(crate) fn words_of<'a>(
+    found: &mut Vec<&'a [u8]>,
+    line: &'a [u8],
+    has_words: bool,
+) -> Result<(), LineFault>
+    requires { IsTrue has_words → words line.now ≡ Some (lent found.old.items) }
+    ensures { GivesAs (λ _. lent found.new.items) result (needed Text (words line.now)) }
+{
+    if has_words {
+        return Ok(());
+    }
+    split_words(found, line)
 }
 
 /// Whether two words are the same.

@@ -4,9 +4,11 @@ use Rattle.cf_syntax.specs.Lines.{lines}
 use Rattle.cf_syntax.specs.Text.{Reading}
 use Rattle.cf_syntax.proofs.NumberedLaws.{text_numbered}
 use Rattle.cf_syntax.proofs.ReadingLaws.{text_of_stage}
+use Rattle.cf_script.specs.Views.{lent}
 use Rattle.cf_script.specs.BlockViews.{reading_of}
 use Rattle.cf_script.proofs.ThreadLaws.{finish, script_finish}
 use Rattle.cf_script.proofs.ReaderLaws.{line_refused, none_left, read_whole}
+use Rattle.cf_script.proofs.NearLaws.{words_known}
 use Rattle.cf_script.proofs.Utf8.{where_true}
 use Rattle.cf_script.proofs.reader.read_script.Goals as goal
 
@@ -38,3 +40,8 @@ returns-in-Ok-whole-clause-stage c =
     let none = none_left c.loop-rest.rest.now c.is_empty.result c.is_empty.ensures c.loop-rest-test.false in
     rw c.new-in-Ok-whole.ensures (text_of_stage c.args.bytes.now c.in-Ok-whole.parts
     (read_whole c.args.bytes.now (reading_of c.loop-rest.reader) c.loop-rest.rest.now c.in-Ok-whole.parts c.loop-rest.invariant.so_far none c.in-Ok-whole.ensures))
+
+pub after_line-requires-clause-words : goal.after_line-requires-clause-words
+after_line-requires-clause-words c =
+    words_known c.near_words-near.result c.is_some.result c.loop-rest.rest.now c.next_line.result.0.now (lent c.near_words-near.new.found.items)
+    c.is_some.ensures c.near_words-near.ensures.words c.next_line.ensures.first

@@ -1,5 +1,6 @@
 -- A name at a place where one was found before.
-use Rattle.std.proofs.Common.{◌≡◌, ℕ, ◌<◌, ◌≤◌, Bool, true, false, List, length, get_or, Ok, inl, inr, sym, ◌∙◌, arith, ltb, subst}
+use Rattle.std.proofs.Common.{◌≡◌, ℕ, ◌<◌, ◌≤◌, Bool, true, false, eqb, List, [], ◌∷◌, length, get_or, Ok, inl, inr, refl, sym, ◌∙◌, arith, ltb, subst}
+use Rattle.std.specs.Prelude.{◌&&◌}
 use Rattle.std.specs.List.{IsDistinct, position_or_len}
 use Rattle.std.specs.Str.{bytes_eq}
 use Rattle.std.specs.Global.{Vec}
@@ -20,6 +21,18 @@ pub same_word : (w a b : List ℕ) → bytes_eq w a ≡ true → bytes_eq w b �
 same_word w a b e f =
     let one : a ≡ b = sym ((bytes_eq-Decides w a).0 e) ∙ (bytes_eq-Decides w b).0 f in
     (bytes_eq-Decides a b).1 one
+
+both_bytes : (t : Bool) → t ≡ (t && true)
+both_bytes true = refl
+both_bytes false = refl
+
+-- words of one byte
+pub one_byte : (a b : List ℕ) → length a ≡ 1 → length b ≡ 1 → eqb (get_or a 0 0) (get_or b 0 0) ≡ bytes_eq a b
+one_byte [] b e f = absurd (omega (arith, e))
+one_byte (x ∷ y ∷ a) b e f = absurd (omega (arith, e))
+one_byte (x ∷ []) [] e f = absurd (omega (arith, f))
+one_byte (x ∷ []) (y ∷ z ∷ b) e f = absurd (omega (arith, f))
+one_byte (x ∷ []) (y ∷ []) e f = both_bytes (eqb x y)
 
 hint_passes : (word : List ℕ) (names : List (Vec ℕ)) (i : ℕ) (x : Vec ℕ) → x ≡ get_or names i x
     → bytes_eq word x.items ≡ true → bytes_eq word (get_or names i x).items ≡ true

@@ -172,12 +172,17 @@ pub(crate) fn words_of<'a>(
     split_words(found, line)
 }
 
-/// Whether two words are the same.
+/// Whether two words are the same. Those of a byte are compared without a call.
 #[inline(always)]
+#[tactic(auto, using(crate::proofs::HintLaws::one_byte))]
 pub(crate) fn is(word: &[u8], text: &[u8]) -> bool
     ensures { result ≡ bytes_eq word.now text.now }
 {
-    word == text
+    if word.len() == 1 && text.len() == 1 {
+        word[0] == text[0]
+    } else {
+        word == text
+    }
 }
 
 /// The word at a place, or no bytes where there is none.

@@ -48,8 +48,18 @@ pub fn came_of_script(
     })
 }
 
-// The owned script that bytes are the text of, if they are.
-fn owned_script(alloc: Global, bytes: &[u8]) -> Result<Option<Checked>, AllocError>
+/// The run of a script with this limit, from 1 to 4,000,000; none if the bytes are refused.
+pub fn run_of_script(alloc: Global, bytes: &[u8], limit: u64) -> Result<Option<Ran>, AllocError> {
+    let Some(checked) = owned_script(alloc, bytes)? else {
+        return Ok(None);
+    };
+    let limit = limit.clamp(1, 4_000_000) as u32;
+    let ran = serial_run(alloc, checked, limit, &mut StepClock)?;
+    Ok(Some(ran))
+}
+
+/// The owned script that bytes are the text of, if they are.
+pub fn owned_script(alloc: Global, bytes: &[u8]) -> Result<Option<Checked>, AllocError>
     ensures { IfOk result (λ o. IfSome o (λ c. IsOfStage c)) }
 {
     if SCRIPT_BYTES < bytes.len() {

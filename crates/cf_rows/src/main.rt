@@ -4,23 +4,30 @@
 
 mod answers;
 mod case;
+mod change;
 mod direct;
 mod fault;
 mod file;
+mod judged;
 mod outcome;
+mod row;
 mod text;
 
 use crate::case::Case;
+use crate::change::CHANGES;
 use crate::file::cases_of;
+use crate::judged::{Judged, judge};
 use crate::outcome::differences_of;
+use crate::row::is_one_string_legal;
 use std::process::ExitCode;
 use std::{fs, io};
 
-/// How many cases there were, and how many of them did not come to what is wanted.
-#[derive(Clone, Copy)]
+/// How many cases there were, how many of them did not come to what is wanted, and what was judged.
+#[derive(Drop)]
 struct Tally {
     cases: u64,
     differing: u64,
+    judged: Judged,
 }
 
 impl Tally {
@@ -36,6 +43,7 @@ fn run_case(rt: &HostRuntime, file: &str, case: &Case, tally: &mut Tally) -> io:
     let differences = differences_of(rt.alloc(), case)?;
     let name = case.name.as_str();
     tally.count(!differences.is_empty());
+    judge(rt, file, case, &mut tally.judged)?;
     if differences.is_empty() {
         println!(rt; "{file}: {name}")
     } else {
@@ -78,16 +86,60 @@ fn run_list(rt: &HostRuntime, tally: &mut Tally) -> io::Result<()> {
         run_file(rt, file, tally)?;
     }
     let cases = tally.cases;
-    println!(rt; "{cases} cases")
+    println!(rt; "{cases} cases")?;
+    tell_judged(rt, &tally.judged)
+}
+
+// Tells how many journals were judged, and how many changed ones, by what was changed.
+fn tell_judged(rt: &HostRuntime, judged: &Judged) -> io::Result<()> {
+    let journals = judged.journals;
+    println!(rt; "{journals} journals are legal")?;
+    for (change, count) in CHANGES.iter().zip(judged.changed.iter()) {
+        let words = change.words();
+        println!(rt; "{count} journals with an entry {words}")?;
+    }
+    let legal = judged.legal;
+    println!(rt; "{legal} changed journals are legal")
+}
+
+// Judges the journal of one string, and the same with `more` for `final`.
+fn run_row(rt: &HostRuntime, tally: &mut Tally) -> io::Result<()> {
+    for finalises in [true, false] {
+        let words = if finalises { "`final`" } else { "`more`" };
+        let found = match is_one_string_legal(rt.alloc(), finalises)? {
+            Some(true) => "legal",
+            Some(false) => "refused",
+            None => "NOT READ",
+        };
+        println!(rt; "one string, made and released with {words}: {found}")?;
+        if (found == "legal") != finalises {
+            tally.judged.count_wrong();
+        }
+    }
+    Ok(())
+}
+
+// Nothing was run; these changed journals are to be legal.
+fn tally_of(rt: &HostRuntime) -> io::Result<Tally> {
+    let listed = fs::read_to_string(rt, "legal")?;
+    Ok(Tally {
+        cases: 0,
+        differing: 0,
+        judged: Judged::new(listed),
+    })
+}
+
+// Runs all cases, and tells whether each is as its file says and each journal is judged as it has to be.
+fn run(rt: &HostRuntime) -> io::Result<bool> {
+    let mut tally = tally_of(rt)?;
+    run_list(rt, &mut tally)?;
+    run_row(rt, &mut tally)?;
+    Ok(tally.differing == 0 && tally.judged.is_right())
 }
 
 fn main(rt: HostRuntime) -> ExitCode {
-    let mut tally = Tally {
-        cases: 0,
-        differing: 0,
-    };
-    match run_list(&rt, &mut tally) {
-        Ok(()) if tally.differing == 0 => ExitCode::SUCCESS,
+    match run(&rt) {
+        Ok(true) => ExitCode::SUCCESS,
         _ => ExitCode::FAILURE,
     }
 }

@@ -1,6 +1,7 @@
 -- The lists of what a thread has references to, one element more, and the counts of lines, one line more.
-use Rattle.std.proofs.Common.{◌≡◌, ℕ, zero, suc, ◌+◌, ◌-◌, ◌<◌, ◌≤◌, ◌^◌, List, [], ◌∷◌, ◌++◌, length, take, replicate, get_or, Option, Some, None, refl, sym, ap, ◌∙◌, subst, arith, append_assoc}
+use Rattle.std.proofs.Common.{◌≡◌, ℕ, zero, suc, ◌+◌, ◌-◌, ◌<◌, ◌≤◌, ◌^◌, List, [], ◌∷◌, ◌++◌, length, take, replicate, get_or, Option, Some, None, inl, inr, refl, sym, ap, ◌∙◌, subst, arith, append_assoc}
 use Rattle.std.specs.Prelude.{slice_get}
+use Rattle.std.proofs.lemmas.Bool.{cases_lt}
 use Rattle.cf_ids.specs.declared.limits.TheConstants.{VARIABLES}
 use Rattle.cf_syntax.specs.declared.counts.Counts.{Counts}
 use Rattle.cf_syntax.specs.declared.script.Script.{Script}
@@ -11,11 +12,12 @@ use Rattle.cf_syntax.proofs.OwnedLaws.{total_le, bound_by_le, given_by_le, taken
 use Rattle.cf_next.specs.declared.object.MaybeObject.{MaybeObject}
 use Rattle.cf_next.specs.declared.parts.Work.{Work as CodeWork}
 use Rattle.cf_next.specs.Stands.{look, Frame, Kind, Stand, Work, release_of, spend_of, slots_of}
+use Rattle.cf_next.specs.Advance.{kind_item}
 use Rattle.cf_next.specs.Demands.{frame_lines}
-use Rattle.cf_next.specs.Next.{top_frame}
 use Rattle.cf_next.specs.Views.{cell_of, object_of, work_of, works_of}
-use Rattle.cf_next.specs.Held.{below, copies, counted_objects, frame_objects, held_objects, owed_objects, passed_lines, variable_objects}
+use Rattle.cf_next.specs.Held.{HaveVariables, below, copies, counted_objects, frame_at, frame_objects, frames_objects, held_objects, owed_objects, passed_lines, variable_objects}
 use Rattle.cf_next.proofs.CallLaws.{works-last}
+use Rattle.cf_next.proofs.DepthLaws.{get-any}
 
 pub below-none : {A : Type 0} (f : ℕ → List A) → below f 0 ≡ []
 unfolding below
@@ -107,12 +109,6 @@ owed-append (slots_of b k ∷ us) vs = owed-append us vs
 
 -- ---- variables
 
-get-any : (table : List MaybeObject) (v : ℕ) (d e : MaybeObject) → v < length table
-    → get_or table v d ≡ get_or table v e
-get-any [] v d e lt = absurd (omega arith)
-get-any (x ∷ xs) zero d e lt = refl
-get-any (x ∷ xs) (suc v) d e lt = get-any xs v d e (omega (arith, lt))
-
 pub variable-more : (table : List MaybeObject) (c : Counts) (v : ℕ) (d : MaybeObject) (found : Option ℕ) (n : ℕ)
     (start before after : List ℕ)
     → v < length table → found ≡ object_of (get_or table v d)
@@ -137,21 +133,39 @@ counted-same table c done f t cells =
     (λ v small. ap (λ (found : Option ℕ). copies found (get_or c.given v 0 - get_or c.released v 0)) (cells v)
     ∙ ap (λ (n : ℕ). copies (look v f.bindings) (n - get_or c.released v 0)) (t.gives v small) ∙ ap (λ (n : ℕ). copies (look v f.bindings) (given v done - n)) (t.takes v small))
 
--- what is appended one after another is all that is held
-pub held-whole : (s : Script) (stand : Stand) (table : List MaybeObject) (c : Counts) (k : Kind) (b n : ℕ)
-    (work : List Work) (start first after : List ℕ)
-    → Counted c (take n (frame_lines s k b)) → n ≡ (top_frame stand.frames).number → k ≡ (top_frame stand.frames).kind → b ≡ (top_frame stand.frames).block
-    → ((v : ℕ) → cell_of table v ≡ look v (top_frame stand.frames).bindings) → work ≡ stand.work
-    → first ≡ start ++ below (counted_objects table c) VARIABLES → after ≡ first ++ owed_objects work → after ≡ start ++ held_objects s stand
-held-whole s stand table c k b n work start first after counted number kind block cells is variables owed =
-    let f = top_frame stand.frames in
+-- what is appended of a frame one after another is all that it has references to
+pub frame-whole : (s : Script) (f : Frame) (table : List MaybeObject) (c : Counts) (k : Kind) (b n : ℕ)
+    (item : Option ℕ) (start first after : List ℕ)
+    → Counted c (take n (frame_lines s k b)) → n ≡ f.number → k ≡ f.kind → b ≡ f.block
+    → ((v : ℕ) → cell_of table v ≡ look v f.bindings) → item ≡ kind_item k
+    → first ≡ start ++ below (counted_objects table c) VARIABLES → after ≡ first ++ copies item 1 → after ≡ start ++ frame_objects s f
+frame-whole s f table c k b n item start first after counted number kind block cells called variables is =
     let passed : Counted c (passed_lines s f) =
     subst (λ (m : ℕ). Counted c (take m (frame_lines s f.kind f.block))) number
     (subst (λ (j : Kind). Counted c (take n (frame_lines s j f.block))) kind
     (subst (λ (a : ℕ). Counted c (take n (frame_lines s k a))) block counted)) in
+    let variables_of : List ℕ = below (variable_objects (passed_lines s f) f) VARIABLES in
+    is ∙ ap (λ (o : Option ℕ). first ++ copies o 1) (called ∙ ap kind_item kind)
+    ∙ ap (λ (xs : List ℕ). xs ++ copies (kind_item f.kind) 1) (variables ∙ ap (λ (xs : List ℕ). start ++ xs) (counted-same table c (passed_lines s f) f passed cells))
+    ∙ append_assoc start variables_of (copies (kind_item f.kind) 1)
+
+-- the variables of one frame more
+pub have-more : (fs : List Frame) (n : ℕ) → HaveVariables fs n
+    → ((v : ℕ) → VARIABLES ≤ v → look v (frame_at fs n).bindings ≡ None) → HaveVariables fs (n + 1)
+have-more fs n all here d v less le = elim (cases_lt d n) [
+  | inl lt ↦ all d v lt le
+  | inr ge ↦
+      let e : n ≡ d = omega (arith, ge, less) in ap (λ (k : ℕ). look v (frame_at fs k).bindings) (sym e) ∙ here v le
+]
+
+-- what is appended one after another is all that is held
+pub held-whole : (s : Script) (stand : Stand) (fs : List Frame) (work : List Work) (start first after : List ℕ)
+    → fs ≡ stand.frames → work ≡ stand.work → first ≡ start ++ frames_objects s fs → after ≡ first ++ owed_objects work
+    → after ≡ start ++ held_objects s stand
+held-whole s stand fs work start first after same is framed owed =
     owed ∙ ap (λ (ws : List Work). first ++ owed_objects ws) is
-    ∙ ap (λ (xs : List ℕ). xs ++ owed_objects stand.work) (variables ∙ ap (λ (xs : List ℕ). start ++ xs) (counted-same table c (passed_lines s f) f passed cells))
-    ∙ append_assoc start (frame_objects s f) (owed_objects stand.work)
+    ∙ ap (λ (xs : List ℕ). xs ++ owed_objects stand.work) (framed ∙ ap (λ (gs : List Frame). start ++ frames_objects s gs) same)
+    ∙ append_assoc start (frames_objects s stand.frames) (owed_objects stand.work)
 
 -- one item of work more, of which the first stands last
 pub owed-more : (ws xs : List CodeWork) (x : CodeWork) (before after all : List ℕ) → ws ≡ xs ++ x ∷ []

@@ -10,4 +10,5 @@ pub mod SuffixLaws
 pub mod FrameLaws
 pub mod AheadLaws
 pub mod FormLaws
+pub mod DepthLaws
 pub mod HeldLaws

@@ -1,16 +1,18 @@
--- What a thread has references to, by its innermost frame and its work: each object as often as it has. This project's
--- own.
-use Rattle.std.specs.Prelude.{ℕ, zero, suc, ◌-◌, List, [], ◌∷◌, ◌++◌, take, replicate, slice_index, Option, Some, None}
+-- What a thread has references to, by its frames and its work: each object as often as it has. This project's own.
+use Rattle.std.specs.Prelude.{◌≡◌, ℕ, zero, suc, ◌-◌, ◌<◌, ◌≤◌, List, [], ◌∷◌, ◌++◌, length, take, replicate, slice_index, Option, Some, None}
 use Rattle.cf_ids.specs.declared.limits.TheConstants.{VARIABLES}
 use Rattle.cf_syntax.specs.declared.script.Script.{Script}
 use Rattle.cf_syntax.specs.declared.counts.Counts.{Counts}
 use Rattle.cf_syntax.specs.BlockLines.{BlockLine}
 use Rattle.cf_syntax.specs.Owned.{given, released}
 use Rattle.cf_next.specs.declared.object.MaybeObject.{MaybeObject}
+use Rattle.cf_next.specs.declared.parts.Frame.{Frame as CodeFrame}
 use Rattle.cf_next.specs.Stands.{look, Frame, Work, release_of, spend_of, slots_of, Stand}
+use Rattle.cf_next.specs.Advance.{kind_item}
 use Rattle.cf_next.specs.Demands.{frame_lines}
+use Rattle.cf_next.specs.Grids.{at_depth}
 use Rattle.cf_next.specs.Next.{top_frame}
-use Rattle.cf_next.specs.Views.{cell_of}
+use Rattle.cf_next.specs.Views.{block_in, cell_of, kind_of}
 
 -- the lists of the numbers below one, one after another
 unfoldable pub below : {A : Type 0} → (ℕ → List A) → ℕ → List A
@@ -41,10 +43,38 @@ owed_objects (release_of o ∷ work) = o ∷ owed_objects work
 owed_objects (spend_of i ∷ work) = owed_objects work
 owed_objects (slots_of b k ∷ work) = owed_objects work
 
--- the objects of the variables of a frame
+-- ---- frames
+
+-- the frame at a depth, that is with so many below it; if there is none, one that has no line
+abbrev pub frame_at : List Frame → (depth : ℕ) → Frame
+frame_at fs d = at_depth (top_frame []) fs d
+
+-- the objects of the variables of a frame, and the item of its callout, if it has one
 abbrev pub frame_objects : Script → Frame → List ℕ
-frame_objects s f = below (variable_objects (passed_lines s f) f) VARIABLES
+frame_objects s f = below (variable_objects (passed_lines s f) f) VARIABLES ++ copies (kind_item f.kind) 1
+
+-- those of the frame at a depth
+abbrev pub depth_objects : Script → List Frame → (depth : ℕ) → List ℕ
+depth_objects s fs d = frame_objects s (frame_at fs d)
+
+-- those of all frames, of the outermost one first
+abbrev pub frames_objects : Script → List Frame → List ℕ
+frames_objects s fs = below (depth_objects s fs) (length fs)
 
 -- what a thread has references to by where it stands
 abbrev pub held_objects : Script → Stand → List ℕ
-held_objects s stand = frame_objects s (top_frame stand.frames) ++ owed_objects stand.work
+held_objects s stand = frames_objects s stand.frames ++ owed_objects stand.work
+
+-- the variables of the outermost frames, so many, have numbers below 256
+abbrev pub HaveVariables : List Frame → (n : ℕ) → Type 0
+HaveVariables fs n = (d v : ℕ) → d < n → VARIABLES ≤ v → look v (frame_at fs d).bindings ≡ None
+
+-- those of all frames have
+abbrev pub HasVariables : List Frame → Type 0
+HasVariables fs = HaveVariables fs (length fs)
+
+-- a frame without its variables and what it collected is the one at a depth
+pub record IsFrameAt (fs : List Frame) (d : ℕ) (x : CodeFrame) : Type 0 where
+  pub kind : kind_of x.kind ≡ (frame_at fs d).kind
+  pub block : block_in x.kind ≡ (frame_at fs d).block
+  pub number : x.number ≡ (frame_at fs d).number

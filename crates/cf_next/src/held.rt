@@ -1,12 +1,12 @@
 //! What a thread has references to, by where it stands.
-ghost use Rattle.std.specs.Prelude.{◌≡◌, ℕ, ◌≤◌, ◌++◌, ◌∷◌, [], None, take, replicate, OnOk};
+ghost use Rattle.std.specs.Prelude.{◌≡◌, ℕ, ◌<◌, ◌≤◌, ◌++◌, ◌∷◌, [], None, length, take, replicate, OnOk};
 ghost use Rattle.cf_ids.specs.declared.limits.TheConstants.{VARIABLES};
 ghost use Rattle.cf_syntax.specs.BlockLines.{line_ownership};
 ghost use Rattle.cf_syntax.specs.Counting.{Counted};
+ghost use Rattle.cf_next.specs.Advance.{kind_item};
 ghost use Rattle.cf_next.specs.Demands.{frame_lines};
-ghost use Rattle.cf_next.specs.Held.{below, copies, counted_objects, held_objects, owed_objects};
+ghost use Rattle.cf_next.specs.Held.{HasVariables, below, copies, counted_objects, depth_objects, frame_at, frames_objects, held_objects, owed_objects};
 ghost use Rattle.cf_next.specs.Lines.{line_of};
-ghost use Rattle.cf_next.specs.Next.{top_frame};
 ghost use Rattle.cf_next.specs.Stands.{look};
 ghost use Rattle.cf_next.specs.Views.{block_in, kind_of, work_of, works_of};
 
@@ -14,20 +14,63 @@ use crate::frames::Frames;
 use crate::lines::{Line, kind_line};
 use crate::object::MaybeObject;
 use crate::parts::{Kind, Work};
+use crate::stack::{Stack, fill, no_cells};
 use cf_ids::{ObjId, VARIABLES, VarId};
 use cf_syntax::{Counts, Ownership, Script};
 use std::alloc::AllocError as NoMemory;
 
 impl Frames {
-    /// Appends the objects to which the innermost frame and the work have references, each as often as they have.
+    /// Appends the objects to which the frames and the work have references, each as often as they have: those of the
+    /// outermost frame first.
     pub fn held(&self, script: &Script, out: &mut Vec<ObjId>) -> Result<(), NoMemory>
         requires { script.now.thread_count ≤ 64 }
         ensures objects { OnOk result (out.new.items ≡ out.old.items ++ held_objects script.now self.now.stand) }
-        ensures variables { (v : ℕ) → VARIABLES ≤ v → look v (top_frame self.now.stand.frames).bindings ≡ None }
+        ensures variables { OnOk result (HasVariables self.now.stand.frames) }
     {
-        let counts = count_lines(script, self.stack.kind(), self.stack.number());
-        add_variables(out, self.stack.table(), &counts)?;
+        add_frames(out, script, &self.stack)?;
         add_owed(out, self.work.as_slice())
+    }
+}
+
+/// Appends what all frames have references to, the outermost first.
+fn add_frames(out: &mut Vec<ObjId>, script: &Script, stack: &Stack) -> Result<(), NoMemory>
+    requires { script.now.thread_count ≤ 64 }
+    ensures objects { OnOk result (out.new.items ≡ out.old.items ++ frames_objects script.now stack.now.frames) }
+    ensures variables { OnOk result (HasVariables stack.now.frames) }
+{
+    for depth in 0..stack.count() {
+        add_frame(out, script, stack, depth)?;
+    }
+    Ok(())
+}
+
+/// Appends what the frame has references to that so many others are below.
+fn add_frame(
+    out: &mut Vec<ObjId>,
+    script: &Script,
+    stack: &Stack,
+    depth: usize,
+) -> Result<(), NoMemory>
+    requires threads { script.now.thread_count ≤ 64 }
+    requires there { depth < length stack.now.frames }
+    ensures objects { OnOk result (out.new.items ≡ out.old.items ++ depth_objects script.now stack.now.frames depth) }
+    ensures variables { (v : ℕ) → VARIABLES ≤ v → look v (frame_at stack.now.frames depth).bindings ≡ None }
+{
+    let frame = stack.frame(depth);
+    let counts = count_lines(script, &frame.kind, frame.number);
+    let mut table = no_cells();
+    fill(&mut table, stack.bound(depth));
+    add_variables(out, &table, &counts)?;
+    add_variable(out, item(&frame.kind), 1)
+}
+
+/// The item that is called in a frame, if one is.
+fn item(kind: &Kind) -> Option<ObjId>
+    ensures { result ≡ kind_item (kind_of kind.now) }
+{
+    match kind {
+        Kind::Handler { callee, .. } => callee.item(),
+        _ => None,
     }
 }
 

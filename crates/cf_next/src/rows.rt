@@ -1,6 +1,6 @@
 //! Rows of cells on top of one another, in one vector.
-ghost use Rattle.std.specs.Prelude.{◌≡◌, ◌+◌, ◌<◌, ◌≤◌, ◌++◌, ◌∷◌, [], drop, length, take, OnOk};
-ghost use Rattle.cf_next.specs.Grids.{top_row, on_top_row};
+ghost use Rattle.std.specs.Prelude.{◌≡◌, ◌+◌, ◌<◌, ◌≤◌, ◌++◌, ◌∷◌, [], drop, length, reverse, take, OnOk};
+ghost use Rattle.cf_next.specs.Grids.{at_depth, top_row, on_top_row};
 
 use std::alloc::{AllocError as NoMemory, Global};
 use std::marker::Model;
@@ -58,6 +58,31 @@ impl<T> Rows<T> {
         ensures { result.now ≡ top_row self.now.rows }
     {
         &self.cells[self.start..]
+    }
+
+    /// The cells of the row that so many others are below.
+    pub(crate) fn row(&self, depth: usize) -> &[T]
+        requires { depth < length self.now.rows }
+        ensures { result.now ≡ at_depth [] self.now.rows depth }
+    {
+        let below = self.below.as_slice();
+        let count = self.cells.len();
+        let start = start_at(below, self.start, count, depth);
+        let end = start_at(below, self.start, count, depth + 1);
+        &self.cells[start..end]
+    }
+}
+
+/// Where the row begins that so many others are below: the topmost one at `top`, and one above it at `end`.
+fn start_at(below: &[usize], top: usize, end: usize, depth: usize) -> usize
+    ensures { result ≡ at_depth end (top ∷ reverse below.now) depth }
+{
+    if depth < below.len() {
+        below[depth]
+    } else if depth == below.len() {
+        top
+    } else {
+        end
     }
 }
 

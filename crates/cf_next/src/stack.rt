@@ -3,6 +3,7 @@ ghost use Rattle.std.specs.Prelude.{◌≡◌, ℕ, None, ◌+◌, ◌-◌, ◌�
 ghost use Rattle.std.specs.Option.{option_copied, option_map};
 ghost use Rattle.cf_ids.specs.declared.limits.TheConstants.{VARIABLES};
 ghost use Rattle.cf_next.specs.Stands.{look, opening_stand, has_run, stop_frames};
+ghost use Rattle.cf_next.specs.Held.{IsFrameAt, frame_at};
 ghost use Rattle.cf_next.specs.Next.{top_frame};
 ghost use Rattle.cf_next.specs.Advance.{kind_called, on_top};
 ghost use Rattle.cf_next.specs.Standing.{innermost_run};
@@ -91,6 +92,33 @@ impl Stack {
         self.below.len()
     }
 
+    /// How many frames there are.
+    pub(crate) fn count(&self) -> usize
+        ensures { result ≡ length self.now.frames }
+    {
+        self.below.len() + 1
+    }
+
+    /// The frame that so many others are below.
+    pub(crate) fn frame(&self, depth: usize) -> &Frame
+        requires { depth < length self.now.frames }
+        ensures { IsFrameAt self.now.frames depth result.now }
+    {
+        if depth < self.below.len() {
+            &self.below[depth]
+        } else {
+            &self.top
+        }
+    }
+
+    /// What the variables of the frame were bound to that so many others are below, the newest last.
+    pub(crate) fn bound(&self, depth: usize) -> &[Bound]
+        requires { depth < length self.now.frames }
+        ensures { bindings_of result.now ≡ (frame_at self.now.frames depth).bindings }
+    {
+        self.bindings.row(depth)
+    }
+
     /// What the innermost frame is of.
     pub(crate) fn kind(&self) -> &Kind
         ensures some { HasFrame self.now.frames }
@@ -112,14 +140,6 @@ impl Stack {
         ensures { result ≡ look variable (top_frame self.now.frames).bindings }
     {
         self.table[usize::from(variable.0)].object()
-    }
-
-    /// What the variables of the innermost frame have, by number.
-    pub(crate) fn table(&self) -> &[MaybeObject; VARIABLES]
-        ensures cells { (v : ℕ) → cell_of result.now v ≡ look v (top_frame self.now.frames).bindings }
-        ensures size { length result.now ≡ VARIABLES }
-    {
-        &self.table
     }
 
     /// What the innermost frame collected and is not called yet, the first one last.
@@ -242,7 +262,7 @@ impl Stack {
 
 /// A table that has nothing.
 #[inline(always)]
-fn no_cells() -> [MaybeObject; VARIABLES]
+pub(crate) fn no_cells() -> [MaybeObject; VARIABLES]
     ensures { (v : ℕ) → cell_of result v ≡ None }
 {
     [MaybeObject::NONE; VARIABLES]
@@ -257,7 +277,7 @@ fn set(table: &mut [MaybeObject; VARIABLES], bound: &Bound)
 }
 
 /// Makes a table of what variables were bound to, the newest last.
-fn fill(table: &mut [MaybeObject; VARIABLES], row: &[Bound])
+pub(crate) fn fill(table: &mut [MaybeObject; VARIABLES], row: &[Bound])
     ensures size { length table.new ≡ VARIABLES }
     ensures cells { (v : ℕ) → cell_of table.new v ≡ look v (bindings_of row.now) }
 {

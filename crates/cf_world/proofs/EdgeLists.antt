@@ -1,19 +1,21 @@
 -- Edges that are added one after another are those of lists of references, one list more.
 use Rattle.std.proofs.Common.{◌≡◌, ℕ, zero, suc, ◌+◌, ◌-◌, ◌<◌, ◌≤◌, List, [], ◌∷◌, ◌++◌, length, take, map, get_or, Option, Some, None, inl, inr, refl, sym, ap, ◌∙◌, subst, arith, append_assoc}
-use Rattle.std.specs.Prelude.{slice_get, slice_index_or}
+use Rattle.std.specs.Prelude.{slice_get}
 use Rattle.std.proofs.lemmas.Bool.{cases_lt}
 use Rattle.std.proofs.lemmas.List.{map-append}
+use Rattle.cf_ids.specs.declared.limits.TheConstants.{VARIABLES}
 use Rattle.cf_syntax.specs.declared.script.Script.{Script}
 use Rattle.cf_graph.specs.declared.edge.Edge.{Edge}
-use Rattle.cf_graph.specs.Holders.{variable, owed, slot}
+use Rattle.cf_graph.specs.declared.edge.Owner.{Owner}
+use Rattle.cf_graph.specs.Holders.{Holder, variable, callout, owed, slot, owner_of}
 use Rattle.cf_graph.specs.Edges.{Reference, edge_of, edges_of, held_by}
+use Rattle.cf_next.specs.Advance.{kind_item}
 use Rattle.cf_next.specs.Stands.{Frame, Stand}
-use Rattle.cf_next.specs.Next.{top_frame}
 use Rattle.cf_next.specs.Standing.{Standing}
-use Rattle.cf_next.specs.Held.{below, held_objects, owed_objects, passed_lines, variable_objects, frame_objects}
+use Rattle.cf_next.specs.Held.{HasVariables, below, copies, depth_objects, frame_at, frame_objects, frames_objects, held_objects, owed_objects, passed_lines, variable_objects}
 use Rattle.cf_next.proofs.HeldLaws.{below-none, below-suc, below-more}
 use Rattle.cf_model.specs.State.{stand_at}
-use Rattle.cf_world.specs.Referring.{HasVariables, AllHaveVariables, stands_of, thread_edge, thread_references, stand_references, variable_references}
+use Rattle.cf_world.specs.Referring.{AllHaveVariables, depth_references, frame_references, frames_references, stands_of, thread_edge, thread_references, stand_references, variable_references}
 
 -- what is after one list more
 pub edges-more : (f : ℕ → List Reference) (n : ℕ) (start before after more : List Edge)
@@ -27,36 +29,52 @@ edges-more f n start before after more so_far is here =
 
 -- ---- threads
 
-variable-edges : (t v : ℕ) (os : List ℕ) → edges_of (map (held_by (variable t 0 v)) os) ≡ map (thread_edge t) os
-variable-edges t v [] = refl
-variable-edges t v (o ∷ os) = ap (λ (es : List Edge). thread_edge t o ∷ es) (variable-edges t v os)
+abbrev edge_with : Owner → ℕ → Edge
+edge_with w o = record { owner = w; object = o }
 
-owed-edges : (t : ℕ) (os : List ℕ) → edges_of (map (held_by (owed t)) os) ≡ map (thread_edge t) os
-owed-edges t [] = refl
-owed-edges t (o ∷ os) = ap (λ (es : List Edge). thread_edge t o ∷ es) (owed-edges t os)
+-- the edges of what a holder of a thread holds
+holder-edges : (t : ℕ) (h : Holder) (os : List ℕ) → owner_of h ≡ owner_of (owed t)
+    → edges_of (map (held_by h) os) ≡ map (thread_edge t) os
+holder-edges t h [] is = refl
+holder-edges t h (o ∷ os) is =
+    ap (λ (w : Owner). edge_with w o ∷ edges_of (map (held_by h) os)) is
+    ∙ ap (λ (es : List Edge). thread_edge t o ∷ es) (holder-edges t h os is)
 
-frame-edges : (s : Script) (t : ℕ) (f : Frame) (n : ℕ)
-    → edges_of (below (variable_references s t f) n) ≡ map (thread_edge t) (below (variable_objects (passed_lines s f) f) n)
-frame-edges s t f zero = ap edges_of (below-none (variable_references s t f)) ∙ sym (ap (map (thread_edge t)) (below-none (variable_objects (passed_lines s f) f)))
-frame-edges s t f (suc n) =
-    let os = variable_objects (passed_lines s f) f in
-    let rs = variable_references s t f in
+-- the same of lists one after another
+below-edges : (t : ℕ) (rs : ℕ → List Reference) (os : ℕ → List ℕ) (n : ℕ)
+    → ((k : ℕ) → edges_of (rs k) ≡ map (thread_edge t) (os k)) → edges_of (below rs n) ≡ map (thread_edge t) (below os n)
+below-edges t rs os zero each = ap edges_of (below-none rs) ∙ sym (ap (map (thread_edge t)) (below-none os))
+below-edges t rs os (suc n) each =
     ap edges_of (below-suc rs n) ∙ map-append edge_of (below rs n) (rs n)
-    ∙ ap (λ (es : List Edge). es ++ edges_of (rs n)) (frame-edges s t f n)
-    ∙ ap (λ (es : List Edge). map (thread_edge t) (below os n) ++ es) (variable-edges t n (os n))
+    ∙ ap (λ (es : List Edge). es ++ edges_of (rs n)) (below-edges t rs os n each)
+    ∙ ap (λ (es : List Edge). map (thread_edge t) (below os n) ++ es) (each n)
     ∙ sym (map-append (thread_edge t) (below os n) (os n)) ∙ ap (map (thread_edge t)) (sym (below-suc os n))
+
+-- and of two lists
+both-edges : (t : ℕ) (rs qs : List Reference) (os ps : List ℕ) → edges_of rs ≡ map (thread_edge t) os
+    → edges_of qs ≡ map (thread_edge t) ps → edges_of (rs ++ qs) ≡ map (thread_edge t) (os ++ ps)
+both-edges t rs qs os ps first second =
+    map-append edge_of rs qs ∙ ap (λ (es : List Edge). es ++ edges_of qs) first
+    ∙ ap (λ (es : List Edge). map (thread_edge t) os ++ es) second ∙ sym (map-append (thread_edge t) os ps)
+
+frame-edges : (s : Script) (t d : ℕ) (f : Frame)
+    → edges_of (frame_references s t d f) ≡ map (thread_edge t) (frame_objects s f)
+frame-edges s t d f =
+    let os = variable_objects (passed_lines s f) f in
+    let items = copies (kind_item f.kind) 1 in
+    both-edges t (below (variable_references s t d f) VARIABLES) (map (held_by (callout t d)) items) (below os VARIABLES) items
+    (below-edges t (variable_references s t d f) os VARIABLES (λ v. holder-edges t (variable t d v) (os v) refl))
+    (holder-edges t (callout t d) items refl)
 
 -- the edges of a thread lead to what it holds
 pub thread-edges : (s : Script) (t : ℕ) (stand : Stand)
     → edges_of (thread_references s t stand) ≡ map (thread_edge t) (held_objects s stand)
 thread-edges s t stand =
-    let f = top_frame stand.frames in
+    let fs = stand.frames in
     let os = owed_objects stand.work in
-    let rs = below (variable_references s t f) 256 in
-    map-append edge_of rs (map (held_by (owed t)) os)
-    ∙ ap (λ (es : List Edge). es ++ edges_of (map (held_by (owed t)) os)) (frame-edges s t f 256)
-    ∙ ap (λ (es : List Edge). map (thread_edge t) (frame_objects s f) ++ es) (owed-edges t os)
-    ∙ sym (map-append (thread_edge t) (frame_objects s f) os)
+    both-edges t (frames_references s t fs) (map (held_by (owed t)) os) (frames_objects s fs) os
+    (below-edges t (depth_references s t fs) (depth_objects s fs) (length fs) (λ d. frame-edges s t d (frame_at fs d)))
+    (holder-edges t (owed t) os refl)
 
 pub thread-added : (s : Script) (t : ℕ) (stand : Stand) (none objects : List ℕ) (before after : List Edge) → none ≡ []
     → objects ≡ none ++ held_objects s stand → after ≡ before ++ map (thread_edge t) objects
@@ -80,13 +98,13 @@ threads-more s frames t d start before after lt so_far is =
     (ap (λ (x : Stand). edges_of (thread_references s t x)) (stand-is frames t d lt))
 
 pub variables-more : (frames : List Standing) (t : ℕ) (d : Standing) → t < length frames
-    → AllHaveVariables (stands_of frames) t → HasVariables (get_or frames t d).stand
+    → AllHaveVariables (stands_of frames) t → HasVariables (get_or frames t d).stand.frames
     → AllHaveVariables (stands_of frames) (t + 1)
 variables-more frames t d lt all here u less = elim (cases_lt u t) [
   | inl a ↦ all u a
   | inr le ↦
       let e : t ≡ u = omega (arith, le, less) in
-      subst (λ (n : ℕ). HasVariables (stand_at n (stands_of frames))) e (subst HasVariables (sym (stand-is frames t d lt)) here)
+      subst (λ (n : ℕ). HasVariables (stand_at n (stands_of frames)).frames) e (subst (λ (x : Stand). HasVariables x.frames) (sym (stand-is frames t d lt)) here)
 ]
 
 -- ---- slots

@@ -21,4 +21,5 @@ pub mod Telling
 pub mod Waking
 pub mod Begins
 pub mod EdgeLists
+pub mod Weighing
 pub mod Referring

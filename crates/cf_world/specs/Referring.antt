@@ -1,27 +1,40 @@
--- The references that there are, by the parts of a world: those of variables and of owed work by where threads stand,
--- those of parcels by their rows, and those of slots by bodies. This project's own.
-use Rattle.std.specs.Prelude.{◌≡◌, ℕ, ◌<◌, ◌≤◌, List, [], ◌∷◌, ◌++◌, length, map, Option, None, slice_index_or}
+-- The references that there are, by the parts of a world: those of variables, of callouts and of owed work by where
+-- threads stand, those of parcels by their rows, and those of slots by bodies. This project's own.
+use Rattle.std.specs.Prelude.{◌≡◌, ℕ, ◌<◌, List, [], ◌++◌, length, map, Option, slice_index_or}
 use Rattle.cf_ids.specs.declared.limits.TheConstants.{VARIABLES}
 use Rattle.cf_syntax.specs.declared.script.Script.{Script}
 use Rattle.cf_graph.specs.declared.edge.Edge.{Edge}
-use Rattle.cf_graph.specs.Holders.{variable, owed, parcel, slot}
+use Rattle.cf_graph.specs.Holders.{variable, callout, owed, parcel, slot}
 use Rattle.cf_graph.specs.Edges.{Reference, held_by, held_if, edge_of, edges_of}
 use Rattle.cf_contents.specs.Stores.{Held, left_in}
-use Rattle.cf_next.specs.Stands.{look, Frame, Stand}
-use Rattle.cf_next.specs.Next.{top_frame}
+use Rattle.cf_next.specs.Advance.{kind_item}
+use Rattle.cf_next.specs.Stands.{Frame, Stand}
 use Rattle.cf_next.specs.Standing.{Standing}
-use Rattle.cf_next.specs.Held.{below, passed_lines, variable_objects, owed_objects}
+use Rattle.cf_next.specs.Held.{HasVariables, below, copies, frame_at, passed_lines, variable_objects, owed_objects}
 use Rattle.cf_model.specs.State.{stand_at}
 use Rattle.cf_world.specs.Grounds.{GroundView, HoldsParcels, Mirrors, parcel_at, state_of}
 
--- the references of a variable of a thread's one frame, as many as the lines done leave to it
-abbrev pub variable_references : Script → ℕ → Frame → ℕ → List Reference
-variable_references s t f v = map (held_by (variable t 0 v)) (variable_objects (passed_lines s f) f v)
+-- the references of a variable of a thread's frame, by how many are below it, as many as the lines done leave to it
+abbrev pub variable_references : Script → (t depth : ℕ) → Frame → ℕ → List Reference
+variable_references s t d f v = map (held_by (variable t d v)) (variable_objects (passed_lines s f) f v)
 
--- those of a thread: of its variables and of its work
+-- those of a frame: of its variables, and of its callout
+abbrev pub frame_references : Script → (t depth : ℕ) → Frame → List Reference
+frame_references s t d f =
+    below (variable_references s t d f) VARIABLES ++ map (held_by (callout t d)) (copies (kind_item f.kind) 1)
+
+-- those of the frame at a depth
+abbrev pub depth_references : Script → ℕ → List Frame → (depth : ℕ) → List Reference
+depth_references s t fs d = frame_references s t d (frame_at fs d)
+
+-- those of all frames of a thread
+abbrev pub frames_references : Script → ℕ → List Frame → List Reference
+frames_references s t fs = below (depth_references s t fs) (length fs)
+
+-- those of a thread: of its frames and of its work
 abbrev pub thread_references : Script → ℕ → Stand → List Reference
 thread_references s t stand =
-    below (variable_references s t (top_frame stand.frames)) VARIABLES ++ map (held_by (owed t)) (owed_objects stand.work)
+    frames_references s t stand.frames ++ map (held_by (owed t)) (owed_objects stand.work)
 
 -- the same by the stands of all threads
 abbrev pub stand_references : Script → List Stand → ℕ → List Reference
@@ -43,13 +56,9 @@ slot_references bodies b = map (held_by (slot b)) (left_in bodies b)
 abbrev pub thread_edge : ℕ → ℕ → Edge
 thread_edge t o = edge_of (held_by (owed t) o)
 
--- the variables of a thread's frame have numbers below 256
-abbrev pub HasVariables : Stand → Type 0
-HasVariables stand = (v : ℕ) → VARIABLES ≤ v → look v (top_frame stand.frames).bindings ≡ None
-
--- the same of each of the first threads, so many
+-- the variables of each frame of the first threads, so many, have numbers below 256
 abbrev pub AllHaveVariables : List Stand → ℕ → Type 0
-AllHaveVariables stands n = (t : ℕ) → t < n → HasVariables (stand_at t stands)
+AllHaveVariables stands n = (t : ℕ) → t < n → HasVariables (stand_at t stands).frames
 
 -- the stands of threads
 abbrev pub stands_of : List Standing → List Stand

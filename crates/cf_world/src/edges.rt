@@ -4,10 +4,10 @@ ghost use Rattle.cf_ids.specs.declared.limits.TheConstants.{OBJECTS};
 ghost use Rattle.cf_syntax.specs.BlockLines.{thread_block, uses_in};
 ghost use Rattle.cf_graph.specs.declared.edge.Edge.{Edge};
 ghost use Rattle.cf_graph.specs.Edges.{edges_of};
-ghost use Rattle.cf_next.specs.Held.{below};
+ghost use Rattle.cf_next.specs.Held.{HasVariables, below};
 ghost use Rattle.cf_next.specs.Standing.{Standing};
 ghost use Rattle.cf_world.specs.Grounds.{HasPlaces};
-ghost use Rattle.cf_world.specs.Referring.{AddsGround, HasVariables, AllHaveVariables, parcel_references, place_references, slot_references, stand_references, stands_of, thread_edge, thread_references};
+ghost use Rattle.cf_world.specs.Referring.{AddsGround, AllHaveVariables, parcel_references, place_references, slot_references, stand_references, stands_of, thread_edge, thread_references};
 ghost use Rattle.cf_world.specs.Worlds.{edges_in};
 
 use crate::begun::Begun;
@@ -59,7 +59,7 @@ fn add_held(edges: &mut Vec<Edge>, t: ThreadId, objects: &[ObjId]) -> Result<(),
     Ok(())
 }
 
-/// Adds the edges of a thread: of its variables, and of what it owes.
+/// Adds the edges of a thread: of its frames, and of what it owes.
 fn add_thread(
     alloc: Global,
     edges: &mut Vec<Edge>,
@@ -70,7 +70,7 @@ fn add_thread(
     requires { script.now.thread_count ≤ 64 }
     ensures items { OnOk result
         (edges.new.items ≡ edges.old.items ++ edges_of (thread_references script.now t frames.now.stand)) }
-    ensures variables { HasVariables frames.now.stand }
+    ensures variables { OnOk result (HasVariables frames.now.stand.frames) }
 {
     let mut objects = Vec::new(alloc);
     frames.held(script, &mut objects)?;

@@ -1,6 +1,5 @@
 -- The files of lemmas of cf_history.
 pub mod SerialLaws
-pub mod DeedLaws
 pub mod ItemLaws
 pub mod ItemSteps
 pub mod StepLaws

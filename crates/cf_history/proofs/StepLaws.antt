@@ -18,7 +18,7 @@ use Rattle.cf_contents.specs.Contents.{Object}
 use Rattle.cf_contents.specs.Keys.{numbered}
 use Rattle.cf_contents.specs.Deeds.{Origin, nowhere, fresh, there, Change, deed_at}
 use Rattle.cf_contents.proofs.ContentLaws.{length-objects_after}
-use Rattle.cf_contents.proofs.FormLaws.{NamesNone, form_fits}
+use Rattle.cf_contents.proofs.FormLaws.{NamesNone, MakesNoItem, ChangesNoItem, form_fits}
 use Rattle.cf_next.specs.declared.action.Action.{Action}
 use Rattle.cf_next.specs.declared.action.Action.TheVariants as actions
 use Rattle.cf_next.specs.Actions.{Site, action_of}
@@ -29,11 +29,11 @@ use Rattle.cf_model.specs.Things.{Thing, thing_at, thing_of}
 use Rattle.cf_model.specs.Own.{own_reference, present_of}
 use Rattle.cf_model.specs.Deals.{Deal, answering, deal_of, change_deal, change_unless_skipped, with_used, with_thing, thing_deal, with_filter, with_item, thread_in, place_in, stays_in_one, is_elsewhere, holds_at, signal_deal, invalidate_deal, leaving, every_place}
 use Rattle.cf_model.specs.Steps.{Step, flowing, step_answer, cut_answer, cut_flow, type_in, Made, item_made, bound_if, object_answer, bind_step, retain_step, release_step, statement_step}
+use Rattle.cf_model.proofs.DeedLaws.{deed_edits, deed_makes, keeps_things, no_item}
 use Rattle.cf_model.proofs.Unfinalised.{deal_names}
 use Rattle.cf_history.specs.Written.{statement_of}
 use Rattle.cf_history.specs.History.{names, is_ok, signalled_in, called_in, invalidated_in, is_source_form, is_item_form, binds}
 use Rattle.cf_history.specs.Timing.{time_in, timing_in, timing_if}
-use Rattle.cf_history.proofs.DeedLaws.{IsPlainChange, IsPlainOrigin, plain_deed, keeps_things}
 use Rattle.cf_history.proofs.ItemLaws.{Tells, Quiet, quiet_tells, made_same, thing_plain, made_more}
 use Rattle.cf_history.proofs.ItemSteps.{event, begins_tell, signal_tells, ends_tell}
 
@@ -125,11 +125,11 @@ module _ (s : Script) (i t : ℕ) (st : State) where
   filter_deal None object deal h = h None
   filter_deal (Some v) object deal h = used_deal object (λ o. deal (Some o)) (λ o. h (Some o))
 
-  plain_unless : (answer : Answer) (c : Change) → IsPlainChange c → IsPlainChange (change_unless_skipped answer c)
+  plain_unless : (answer : Answer) (c : Change) → ChangesNoItem c → ChangesNoItem (change_unless_skipped answer c)
   plain_unless answers.Skip c h = tt
   plain_unless _ c h = h
 
-  body_deal : (answer : Answer) (b : Option ℕ) (c : Change) → IsPlainChange c
+  body_deal : (answer : Answer) (b : Option ℕ) (c : Change) → ChangesNoItem c
       → QuietDeal (change_deal st.parts answer b c)
   body_deal answer None c h = quiet_deal
   body_deal answer (Some b) c h = (refl, length-objects_after (Some b) c st.parts.objects, keeps_things b c st.parts.objects i h)
@@ -159,7 +159,7 @@ module _ (s : Script) (i t : ℕ) (st : State) where
   deal_quiet x used h =
       let deed = deed_at s.classes st.parts.objects x used in
       body_deal deed.answer (first_of used) (change_unless_skipped deed.answer deed.change)
-      (plain_unless deed.answer deed.change (plain_deed s.classes x (numbered st.parts.objects (used_at used 0)) (numbered st.parts.objects (used_at used 1)) (numbered st.parts.objects (used_at used 2))).0)
+      (plain_unless deed.answer deed.change (deed_edits s.classes st.parts.objects x used))
 
   names_unbound : (a : Answer) → NamesNone a → bound_in a ≡ None
   names_unbound (answers.Object o) h = absurd h
@@ -187,13 +187,13 @@ module _ (s : Script) (i t : ℕ) (st : State) where
       already : (b c : Bool) → b ≡ true → b ≡ (b || c)
       already b c e = grind arith
 
-  bound_quiet : (k : Holder) (answer : Answer) (origin : Origin) → IsPlainOrigin origin → bound_in answer ≡ None
+  bound_quiet : (k : Holder) (answer : Answer) (origin : Origin) → MakesNoItem origin → bound_in answer ≡ None
       → QuietStep (bind_step k st.parts (record { answer = answer; origin = origin }))
   bound_quiet k answer nowhere h none = still_step _ refl (append-nil st.parts.objects) none
   bound_quiet k answer (fresh ob) h none = record {
     time = refl;
     made = made_more st.parts.objects ob i;
-    things = thing_plain st.parts.objects ob i h;
+    things = thing_plain st.parts.objects ob i (no_item ob.content h);
   }
   bound_quiet k answer (there o) h none = record {
     time = refl;
@@ -208,7 +208,7 @@ module _ (s : Script) (i t : ℕ) (st : State) where
       let b = numbered st.parts.objects (used_at used 1) in
       let c = numbered st.parts.objects (used_at used 2) in
       let deed = deed_at s.classes st.parts.objects x used in
-      bound_quiet k deed.answer deed.origin (plain_deed s.classes x a b c).1 (names_unbound deed.answer (form_fits s.classes x a b c).names)
+      bound_quiet k deed.answer deed.origin (deed_makes s.classes st.parts.objects x used) (names_unbound deed.answer (form_fits s.classes x a b c).names)
   bound_by k x used (Some m) e = absurd cc
 
   -- ---- statements

@@ -7,10 +7,13 @@ pub mod Owning
 pub mod Stepping
 pub mod Coming
 pub mod Balance
+pub mod BlockFrames
 pub mod Phases
 pub mod OwnLaws
 pub mod Places
+pub mod Cutting
 pub mod DealLaws
+pub mod DeedLaws
 pub mod Legal
 pub mod Fitting
 pub mod Keeping

@@ -15,13 +15,14 @@ use Rattle.cf_contents.specs.Items.{Item}
 use Rattle.cf_contents.specs.Contents.{Content, text_content, data_content, instance_content, array_content, dictionary_content, set_content, bag_content, heap_content, item_content, Object}
 use Rattle.cf_contents.specs.Keys.{numbered}
 use Rattle.cf_contents.specs.Deeds.{Origin, nowhere, fresh, there, Change, unchanged, in_text, in_data, in_places, put_pair, remove_pair, add_member, put_member, remove_member, remove_least, in_item, Splice, text_after, data_after, places_after, put_after, removed_after, added_after, put_member_after, removed_member_after, least_after, item_after, content_after, with_change}
-use Rattle.cf_contents.proofs.FormLaws.{form_fits, IsNoItem, MakesNoItem, SkipsAll}
+use Rattle.cf_contents.proofs.FormLaws.{form_fits, MakesNoItem, SkipsAll}
 use Rattle.cf_next.specs.Advance.{is_post, run_frames}
 use Rattle.cf_model.specs.State.{Parts, State}
 use Rattle.cf_model.specs.Things.{thing_in, thing_of}
 use Rattle.cf_model.specs.Deals.{change_unless_skipped, deal_of, posts_of}
 use Rattle.cf_model.specs.Steps.{item_made, made_from}
 use Rattle.cf_model.specs.Stage.{deed_in, deed_deal, DealsPlainly}
+use Rattle.cf_model.proofs.DeedLaws.{no_item}
 
 -- ---- a deed that is skipped changes nothing
 
@@ -160,10 +161,6 @@ pub append_no_things : (obs more : List Object) → NoThings obs → NoThings mo
 append_no_things [] more h k i = k i
 append_no_things (ob ∷ obs) more h k zero = h zero
 append_no_things (ob ∷ obs) more h k (suc i) = append_no_things obs more (λ j. h (suc j)) k i
-
-no_item : (c : Content) → IsNoItem c → thing_in c ≡ None
-no_item (item_content handler info v i) h = absurd h
-no_item _ h = refl
 
 none_there : NoThings []
 none_there zero = refl

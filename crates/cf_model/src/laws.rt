@@ -1,30 +1,36 @@
 //! Laws of journals, which hold of every script.
-ghost use Rattle.std.specs.Prelude.{◌≡◌, ◌<◌, ℕ, true, false, List, ◌∷◌, ◌++◌, Option, Some, slice_get};
+ghost use Rattle.std.specs.Prelude.{◌≡◌, ◌≢◌, ◌<◌, ℕ, true, false, List, ◌∷◌, ◌++◌, Option, Some, None, slice_get};
 ghost use Rattle.cf_syntax.specs.declared.script.Script.{Script};
 ghost use Rattle.cf_model.specs.declared.entry.Entry.{Entry};
 ghost use Rattle.cf_model.specs.Bounds.{AddsFew, AreFew, FewOfLegal, FewReferences, GainsAreListed, NumbersOfLists};
 ghost use Rattle.cf_model.specs.Choices.{IsDetermined};
 ghost use Rattle.cf_model.specs.Changes.{ChangesCount, IsOneWay};
-ghost use Rattle.cf_model.specs.Flowing.{ChangesGrow, GainsFew, GainsFit, HeldChanges};
+ghost use Rattle.cf_model.specs.Flowing.{ChangesGrow, GainsFew, GainsFit, HeldChanges, flow_in};
 ghost use Rattle.cf_model.specs.Coming.{ComingIsHad, ComingStays, FirstIsNext, OwnStays};
 ghost use Rattle.cf_model.specs.Finals.{FinalsFit};
 ghost use Rattle.cf_model.specs.Growing.{GrowsBy};
-ghost use Rattle.cf_model.specs.Journals.{After, IsLegal, all_sleep};
+ghost use Rattle.cf_model.specs.Journals.{After, IsLegal, Next, all_sleep};
 ghost use Rattle.cf_model.specs.Leading.{LeadTells};
 ghost use Rattle.cf_model.specs.Parcels.{HasOneAtMost};
 ghost use Rattle.cf_model.specs.Owned.{GivesUp, NextIsLegal, ReleaseIsOwn, UsesFit};
 ghost use Rattle.cf_model.specs.Sharing.{AllInView, IsEmpty, MadeWhereChanged, TimesByLead};
 ghost use Rattle.cf_model.specs.Tokens.{HeldAsTold};
 ghost use Rattle.cf_graph.specs.Edges.{Reference};
+ghost use Rattle.cf_graph.specs.Flows.{cut_of as taken_by};
 ghost use Rattle.cf_graph.specs.Holders.{parcel};
 ghost use Rattle.cf_syntax.specs.Owned.{Owned};
 ghost use Rattle.cf_syntax.specs.declared.statement.Statement.{Statement};
 ghost use Rattle.cf_syntax.specs.BlockLines.{says};
 ghost use Rattle.cf_syntax.specs.Stage.{is_of_stage, IsOfStage};
+ghost use Rattle.cf_contents.specs.Contents.{Object};
+ghost use Rattle.cf_contents.specs.Deeds.{deed_at, fresh, with_change};
+ghost use Rattle.cf_next.specs.declared.action.Action.{Action};
+ghost use Rattle.cf_next.specs.Actions.{cut_of};
 ghost use Rattle.cf_next.specs.Stands.{Kind};
 ghost use Rattle.cf_next.specs.Demands.{Demand, frame_lines};
 ghost use Rattle.cf_model.specs.State.{State, stand_at};
 ghost use Rattle.cf_model.specs.Steps.{demanded};
+ghost use Rattle.cf_model.specs.Things.{thing_in, thing_of};
 ghost use Rattle.cf_model.specs.Stage.{IsPlainStand, IsPlainState, IsPlainDemand, DealsPlainly};
 
 /// Two legal journals of a script with the same threads, and the same ticks and stalls of the lead, are equal: the
@@ -147,6 +153,30 @@ pub fn lead_tells_the_times()
 /// A script without threads has no reference and no next action.
 pub fn nothing_without_threads()
     ensures { (s : Script) (es : List Entry) → s.thread_count ≡ 0 → IsEmpty s es }
+{}
+
+/// After every list of entries of every script a thread that is not done demands something, whatever handlers and runs
+/// it is in.
+pub fn threads_demand_until_done()
+    ensures { (s : Script) (es : List Entry) (t : ℕ) → t < s.thread_count
+        → (stand_at t (After s es).stands).is_done ≡ false → demanded s (After s es) t ≢ None }
+{}
+
+/// After every list of entries of an owned script, what a thread's next action takes a reference away from is what the
+/// action names: of a release, of what is owed and of a slot that is given up their object, and nothing of any other.
+pub fn actions_name_what_they_take()
+    ensures { (s : Script) (es : List Entry) (t : ℕ) (a : Action) → Owned s → Next s (After s es) t ≡ Some a
+        → taken_by (flow_in s t (After s es) a) ≡ cut_of a }
+{}
+
+/// The deed of a statement changes no item of a run loop and makes none: whatever body the change is in, each object is
+/// the item that it was before.
+pub fn deeds_change_no_item()
+    ensures changed { (s : Script) (objects : List Object) (x : Statement) (used : List (Option ℕ)) (b i : ℕ)
+        → thing_of (slice_get (with_change b (deed_at s.classes objects x used).change objects) i)
+        ≡ thing_of (slice_get objects i) }
+    ensures made { (s : Script) (objects : List Object) (x : Statement) (used : List (Option ℕ)) (new : Object)
+        → (deed_at s.classes objects x used).origin ≡ fresh new → thing_in new.content ≡ None }
 {}
 
 /// What a line of a frame says is of a form that the reader takes, where the script's statements are.

@@ -1,8 +1,9 @@
 -- Flows and parts that loops cannot tell.
-use Rattle.std.proofs.Common.{◌≡◌, ℕ, zero, suc, Bool, List, [], ◌∷◌, ◌++◌, map, Option, Some, refl, ap, subst, arith}
+use Rattle.std.proofs.Common.{◌≡◌, ℕ, zero, suc, Bool, List, [], ◌∷◌, ◌++◌, map, Option, Some, refl, ap, ◌∙◌, subst, arith}
 use Rattle.std.specs.Prelude.{slice_get}
 use Rattle.cf_ids.specs.declared.numbers.ItemKind.{ItemKind}
 use Rattle.cf_syntax.specs.declared.script.Script.{Script}
+use Rattle.cf_syntax.specs.declared.statement.Statement.{Statement}
 use Rattle.cf_graph.specs.Holders.{Holder, variable, callout, owed, parcel, slot, in_mode, in_common}
 use Rattle.cf_graph.specs.Edges.{Reference, held_by, weigh, one}
 use Rattle.cf_graph.specs.Operations.{moved}
@@ -10,10 +11,11 @@ use Rattle.cf_graph.specs.Flows.{Flow, Move, grows, shrinks, flowed, flow_won, f
 use Rattle.cf_graph.proofs.Flows.{holders_apart, weigh-flow}
 use Rattle.cf_contents.specs.Items.{Item, kind_of}
 use Rattle.cf_contents.specs.Contents.{Object, Content, item_content}
-use Rattle.cf_contents.specs.Deeds.{Change, unchanged, in_text, in_data, in_places, put_pair, remove_pair, add_member, put_member, remove_member, remove_least, in_item, content_after, with_change}
+use Rattle.cf_contents.specs.Deeds.{Change, unchanged, in_text, in_data, in_places, put_pair, remove_pair, add_member, put_member, remove_member, remove_least, in_item, content_after, deed_at, with_change}
 use Rattle.cf_model.specs.State.{Parts}
 use Rattle.cf_model.specs.Things.{thing_in, thing_of}
 use Rattle.cf_model.specs.Own.{moves_to}
+use Rattle.cf_model.proofs.DeedLaws.{deed_keeps}
 use Rattle.cf_model.proofs.OwnLaws.{IsOf, AllOf}
 use Rattle.rl_modes.specs.Loops.{Loop}
 use Rattle.cf_loops.specs.Following.{AreLoops, IsPlaceOfLoop, SamePlaces, AllElsewhere, MovesElsewhere, IsElsewhere, SameItems, KeepsKinds, KeepsKind, kind_in}
@@ -113,3 +115,8 @@ kinds_changed zero change (ob ∷ obs) fits zero k e = content_kind change ob.co
 kinds_changed zero change (ob ∷ obs) fits (suc i) k e = e
 kinds_changed (suc o) change (ob ∷ obs) fits zero k e = e
 kinds_changed (suc o) change (ob ∷ obs) fits (suc i) k e = kinds_changed o change obs fits i k e
+
+-- the deed of a statement leaves each item as it is
+pub kinds_of_deeds : (s : Script) (o : ℕ) (obs : List Object) (x : Statement) (used : List (Option ℕ))
+    → KeepsKinds obs (with_change o (deed_at s.classes obs x used).change obs)
+kinds_of_deeds s o obs x used i k e = ap kind_in (deed_keeps s.classes obs x used o i) ∙ e

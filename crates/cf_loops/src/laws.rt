@@ -1,13 +1,14 @@
 //! Laws of loops and states.
-ghost use Rattle.std.specs.Prelude.{◌≡◌, ℕ, List, ◌++◌, Some, slice_get};
+ghost use Rattle.std.specs.Prelude.{◌≡◌, ℕ, List, ◌++◌, Option, Some, slice_get};
 ghost use Rattle.cf_ids.specs.declared.numbers.ItemKind.{ItemKind};
 ghost use Rattle.cf_syntax.specs.declared.script.Script.{Script};
+ghost use Rattle.cf_syntax.specs.declared.statement.Statement.{Statement};
 ghost use Rattle.rl_base.specs.declared.places.Place.{Place};
 ghost use Rattle.rl_modes.specs.Loops.{Loop, holds_at};
 ghost use Rattle.cf_graph.specs.Edges.{Reference, has};
 ghost use Rattle.cf_graph.specs.Flows.{Flow, IsThere, flowed};
 ghost use Rattle.cf_contents.specs.Contents.{Object};
-ghost use Rattle.cf_contents.specs.Deeds.{Change, with_change};
+ghost use Rattle.cf_contents.specs.Deeds.{Change, deed_at, with_change};
 ghost use Rattle.cf_next.specs.Stands.{Frame};
 ghost use Rattle.cf_next.specs.Demands.{Demand};
 ghost use Rattle.cf_model.specs.State.{Parts, State};
@@ -33,12 +34,14 @@ pub fn loops_are_kept()
 {}
 
 /// Items stay, each of its kind, when objects come after those that are there, and when an object is changed, if the
-/// change gives an item no other kind.
+/// change gives an item no other kind. The deed of a statement gives none, whatever object it changes.
 pub fn items_stay()
     ensures made { (objects more : List Object) → KeepsKinds objects (objects ++ more) }
     ensures changed { (o : ℕ) (change : Change) (objects : List Object)
         → ((k : ItemKind) → kind_in (thing_of (slice_get objects o)) ≡ Some k → KeepsKind change k)
         → KeepsKinds objects (with_change o change objects) }
+    ensures deeds { (s : Script) (o : ℕ) (objects : List Object) (x : Statement) (used : List (Option ℕ))
+        → KeepsKinds objects (with_change o (deed_at s.classes objects x used).change objects) }
 {}
 
 /// The step of what a thread demands has nothing to do with places of loops, but for the forms `add`, `drop`, `common`

@@ -269,6 +269,7 @@ impl Frames {
     }
 
     /// The same by what `step` found, which is not looked up again.
+    #[inline(always)]
     pub fn advance_by<F: Facts>(
         &mut self,
         script: &Script,
@@ -343,6 +344,7 @@ impl Frames {
     }
 
     /// The same, with the object to which the entry takes a reference away.
+    #[inline(always)]
     fn go_on<F: Facts>(
         &mut self,
         facts: &F,
@@ -383,6 +385,7 @@ impl Frames {
     }
 
     /// An entry for which there is room.
+    #[inline(always)]
     fn go_on_with_room<F: Facts>(
         &mut self,
         facts: &F,

@@ -27,7 +27,6 @@ use Rattle.cf_model.proofs.Growth.{grows_by}
 use Rattle.cf_model.proofs.Listing.{gains_are_listed}
 use Rattle.cf_model.proofs.Numbering.{picked_is, pointer_most}
 use Rattle.cf_model.proofs.OwnedNext.{legal_next, next_uses}
-use Rattle.cf_model.proofs.PlainStates.{plain_after, plain_demand}
 use Rattle.cf_model.proofs.Sound.{sound}
 use Rattle.cf_model.proofs.Steady.{IsSteady}
 use Rattle.cf_world.specs.declared.next.Next.{Next}
@@ -37,7 +36,7 @@ use Rattle.cf_serial.specs.declared.run.Run.{Run}
 use Rattle.cf_serial.specs.Numbers.{NumbersView}
 use Rattle.cf_serial.specs.Serial.{AreDegrees, ClockFits}
 use Rattle.cf_serial.specs.Running.{ActsNext, ClockKeeps, IsRun, IsStep, picked_by, picks}
-use Rattle.cf_serial.proofs.Cuts.{CutsAs, cut_size, cuts_are, demand_cuts, gains_none, one_cut}
+use Rattle.cf_model.proofs.Cutting.{CutsAs, cut_size, cuts_are, demand_cuts, gains_none, one_cut}
 use Rattle.cf_serial.proofs.Nexts.{MayAct, NextTells, next_tells, unstalled}
 use Rattle.cf_serial.proofs.Raising.{index-past, index_lowered, size_lowered, times_le-length}
 use Rattle.cf_serial.proofs.Timing.{MovesNoTime, fits_still}
@@ -109,10 +108,10 @@ module _ (r : Run) (run : IsRun r) (t : ℕ) (a : Action) (pick : picks r ≡ So
   below_lead = omega (arith, within, run.threads_are, run.few_threads)
 
   may : MayAct s r.world.limit es t a
-  may = act_tells s r.world.limit es t a (next_of s r.world.limit es t) (next_tells s r.world.limit es t run.stage within) (ap (λ (o : Option Script). act_in (next_by o r.world t)) (sym run.begun) ∙ acts)
+  may = act_tells s r.world.limit es t a (next_of s r.world.limit es t) (next_tells s r.world.limit es t within) (ap (λ (o : Option Script). act_in (next_by o r.world t)) (sym run.begun) ∙ acts)
 
   not_stalled : has_stalled es ≡ false
-  not_stalled = unstalled s r.world.limit es t run.stage within run.within run.asleep may.can
+  not_stalled = unstalled s r.world.limit es t within run.within run.asleep may.can
 
   entry : IsLegalEntry s st e
   entry = legal_next s st t a (owned_fits s run.owned) (sound s es run.owned) may.next may.room
@@ -145,7 +144,7 @@ module _ (r : Run) (run : IsRun r) (t : ℕ) (a : Action) (pick : picks r ≡ So
   cuts_as =
       let d = done.acts.demand in
       subst (λ (b : Action). CutsAs (cut_of b) step.flow) done.acts.action
-      (demand_cuts s t st (frames_at t st) (owners_of a) d (plain_demand s st t d run.stage (plain_after s es run.stage) done.acts.demands)
+      (demand_cuts s t st (frames_at t st) (owners_of a) d
       (subst (λ (b : Action). MayUseAll st t (owners_of a) (action_uses b)) (sym done.acts.action) uses))
 
   -- how many references lead to an object after it
@@ -191,7 +190,6 @@ module _ (r : Run) (run : IsRun r) (t : ℕ) (a : Action) (pick : picks r ≡ So
   grown gained n few counts = record {
     script = s;
     begun = run.begun;
-    stage = run.stage;
     owned = run.owned;
     most = run.most;
     within = omega (arith, may.below, length-append es (e ∷ []));

@@ -163,7 +163,6 @@ module _ (r : Run) (run : IsRun r) (none : picks r ≡ None) where
       run = record {
         script = s;
         begun = run.begun;
-        stage = run.stage;
         owned = run.owned;
         most = run.most;
         within = omega (arith, below, length-append es (e ∷ []));

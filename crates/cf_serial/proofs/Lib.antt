@@ -1,6 +1,5 @@
 -- Lemmas of cf_serial.
 mod Closing
-mod Cuts
 mod Finding
 mod Growing
 mod Leads

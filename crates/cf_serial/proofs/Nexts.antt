@@ -3,11 +3,8 @@ use Rattle.std.proofs.Common.{◌≡◌, ℕ, ◌<◌, ◌≤◌, Bool, true, fa
 use Rattle.std.specs.Prelude.{nat_le, not, ◌&&◌, IsTrue, IsSomeAnd}
 use Rattle.std.proofs.lemmas.Bool.Decides.{nat_tests}
 use Rattle.cf_syntax.specs.declared.script.Script.{Script}
-use Rattle.cf_syntax.specs.Stage.{IsOfStage}
 use Rattle.cf_next.specs.declared.action.Action.{Action}
-use Rattle.cf_next.specs.Facts.{Facts}
-use Rattle.cf_next.specs.Stands.{Frame, Stand}
-use Rattle.cf_next.specs.Demands.{Demand, or_else, work_demand, frame_demand, demand}
+use Rattle.cf_next.specs.Demands.{Demand}
 use Rattle.cf_next.specs.Next.{action_if}
 use Rattle.cf_model.specs.declared.entry.Entry.{Entry}
 use Rattle.cf_model.specs.declared.ending.Ending.TheVariants as endings
@@ -16,43 +13,12 @@ use Rattle.cf_model.specs.Known.{facts_of}
 use Rattle.cf_model.specs.Steps.{demanded, frames_at}
 use Rattle.cf_model.specs.Journals.{After, Next as next_action, all_sleep, can_go, has_stalled, IsWhole, makes, sleeps}
 use Rattle.cf_model.specs.Serial.{picked, pointer_of}
+use Rattle.cf_model.proofs.BlockFrames.{demands_until_done}
 use Rattle.cf_model.proofs.Leading.{can_not_sleep, lead_tells}
-use Rattle.cf_model.proofs.PlainStates.{plain_after}
 use Rattle.cf_world.specs.declared.next.Next.{Next}
 use Rattle.cf_world.specs.declared.next.Next.TheVariants as nexts
 use Rattle.cf_world.specs.Worlds.{next_if, next_of}
 use Rattle.cf_serial.specs.Running.{EndsBy}
-
--- ---- a thread that can go on demands something
-
-or_some : (o p : Option Demand) (d : Demand) → p ≡ Some d → or_else o p ≡ None → ⊥
-or_some None p d e n = absurd (no_none (sym e ∙ n))
-  where
-    no_none : ◌≡◌ {A = Option Demand} (Some d) None → ⊥
-    no_none q = cc
-or_some (Some c) p d e n = no_none n
-  where
-    no_none : ◌≡◌ {A = Option Demand} (Some c) None → ⊥
-    no_none q = cc
-
-or_last : (o : Option Demand) (d : Demand) → or_else o (Some d) ≡ None → ⊥
-or_last o d n = or_some o (Some d) d refl n
-
-frames_demand : (s : Script) (facts : Facts) (t : ℕ) (f : Frame) (fs : List Frame)
-    → frame_demand s facts t (f ∷ fs) ≡ None → ⊥
-frames_demand s facts t f fs n = or_last _ _ n
-
-or_frames : (o p : Option Demand) → (p ≡ None → ⊥) → or_else o p ≡ None → ⊥
-or_frames None p h n = h n
-or_frames (Some d) p h n = absurd cc
-
-demand_some : (s : Script) (facts : Facts) (t : ℕ) (stand : Stand) (f : Frame) (fs : List Frame) → stand.frames ≡ f ∷ fs
-    → stand.is_done ≡ false → demand s facts t stand ≡ None → ⊥
-demand_some s facts t stand f fs e going n =
-    let here : cond stand.is_done None (or_else (work_demand facts stand.work) (frame_demand s facts t stand.frames)) ≡ None = n in
-    or_frames (work_demand facts stand.work) (frame_demand s facts t stand.frames)
-    (λ q. frames_demand s facts t f fs (ap (frame_demand s facts t) (sym e) ∙ q))
-    (ap (λ (b : Bool). cond b None (or_else (work_demand facts stand.work) (frame_demand s facts t stand.frames))) (sym going) ∙ here)
 
 -- ---- tests of a thread
 
@@ -140,16 +106,11 @@ module _ (s : Script) (limit : ℕ) (journal : List Entry) (t : ℕ) where
   none_action None e = refl
   none_action (Some d) e = absurd cc
 
-  module _ (stage : IsOfStage s) (lt : t < s.thread_count) where
-    has_demand : done ≡ false → demanded s st t ≡ None → ⊥
-    has_demand going n =
-        let plain = (plain_after s journal stage).stands t lt in
-        demand_some s (facts_of st) t (stand_at t st.stands) plain.top [] plain.frames going n
-
+  module _ (lt : t < s.thread_count) where
     at_next : (o : Option Action) → next_action s st t ≡ o → can_go st t ≡ true → done ≡ false
         → NextTells s limit journal t (next_if s limit journal t o)
     at_next None e can going =
-        absurd (has_demand going (none_action (demanded s st t)
+        absurd (demands_until_done s journal t lt going (none_action (demanded s st t)
         (ap (λ (b : Bool). cond b (action_if s (facts_of st) t (frames_at t st) (demanded s st t)) None) (sym can) ∙ e)))
     at_next (Some a) e can going =
         below a (nat_le limit (length journal)) (makes s st t) (nat_le 65536 (length st.parts.objects)) e can refl refl refl
@@ -181,14 +142,14 @@ module _ (s : Script) (limit : ℕ) (journal : List Entry) (t : ℕ) where
       ends_at_limit reached = ((unstalled, not_whole, omega (arith, within, reached)), tt)
 
 -- a run ends full if the thread that is picked makes an object too many
-pub ends_full : (s : Script) (limit : ℕ) (journal : List Entry) (t : ℕ) → IsOfStage s → t < s.thread_count
+pub ends_full : (s : Script) (limit : ℕ) (journal : List Entry) (t : ℕ) → t < s.thread_count
     → length journal ≤ limit → (has_stalled journal ≡ true → all_sleep s (After s journal) ≡ true)
     → length (After s journal).parts.objects ≤ 65536
     → picked s (After s journal) (pointer_of s journal) ≡ Some t → IsTooMany s limit journal t
     → EndsBy (Some s) limit journal endings.Full
-ends_full s limit journal t stage lt within asleep most pick h = (
+ends_full s limit journal t lt within asleep most pick h = (
   (
-    unstalled s limit journal t stage lt within asleep h.can,
+    unstalled s limit journal t lt within asleep h.can,
     (λ whole. (lead_tells s journal).going t lt h.can whole),
     h.below,
     record { thread = t; going = h.can; making = h.making; made = omega (arith, h.made, most) },

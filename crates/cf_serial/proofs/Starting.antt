@@ -3,7 +3,6 @@ use Rattle.std.proofs.Common.{◌≡◌, ℕ, ◌≤◌, false, [], length, Some
 use Rattle.cf_ids.specs.declared.limits.TheConstants.{THREADS}
 use Rattle.cf_syntax.specs.declared.script.Script.{Script}
 use Rattle.cf_syntax.specs.Owned.{Owned}
-use Rattle.cf_syntax.specs.Stage.{IsOfStage}
 use Rattle.cf_world.specs.Worlds.{WorldView}
 use Rattle.cf_serial.specs.declared.run.Run.{Run}
 use Rattle.cf_serial.specs.Numbers.{NumbersView}
@@ -15,12 +14,11 @@ begun_world s limit = record { script = Some s; limit = limit; journal = []; gai
 abbrev run_of : WorldView → ℕ → NumbersView → Run
 run_of w threads n = record { world = w; threads = threads; pointer = 0; numbers = n; stalled = false }
 
-started : (s : Script) (limit threads : ℕ) (n : NumbersView) → IsOfStage s → Owned s → limit ≤ 4000000
+started : (s : Script) (limit threads : ℕ) (n : NumbersView) → Owned s → limit ≤ 4000000
     → threads ≡ s.thread_count → threads ≤ THREADS → n.items ≡ [] → IsRun (run_of (begun_world s limit) threads n)
-started s limit threads n stage owned most threads_are few none = record {
+started s limit threads n owned most threads_are few none = record {
   script = s;
   begun = refl;
-  stage = stage;
   owned = owned;
   most = most;
   within = omega arith;
@@ -35,7 +33,6 @@ started s limit threads n stage owned most threads_are few none = record {
 }
 
 pub begun_run : (s : Script) (limit threads : ℕ) (n : NumbersView) (w : WorldView) → w ≡ begun_world s limit
-    → IsOfStage s
     → Owned s → limit ≤ 4000000 → threads ≡ s.thread_count → threads ≤ THREADS → n.items ≡ [] → IsRun (run_of w threads n)
-begun_run s limit threads n w is stage owned most threads_are few none =
-    subst (λ (v : WorldView). IsRun (run_of v threads n)) (sym is) (started s limit threads n stage owned most threads_are few none)
+begun_run s limit threads n w is owned most threads_are few none =
+    subst (λ (v : WorldView). IsRun (run_of v threads n)) (sym is) (started s limit threads n owned most threads_are few none)

@@ -46,7 +46,6 @@ room_keeps : (r : Run) (t : ℕ) → IsRun r → IsRun (with_room t r)
 room_keeps r t run = record {
   script = run.script;
   begun = run.begun;
-  stage = run.stage;
   owned = run.owned;
   most = run.most;
   within = run.within;
@@ -117,7 +116,7 @@ module _ (r : Run) (run : IsRun r) where
     next_is = ap (λ (o : Option Script). next_by o r.world t) run.begun
 
     tells : (n : Next) → n ≡ next_in r.world t → NextTells s r.world.limit es t n
-    tells n e = subst (NextTells s r.world.limit es t) (sym (e ∙ next_is)) (next_tells s r.world.limit es t run.stage within)
+    tells n e = subst (NextTells s r.world.limit es t) (sym (e ∙ next_is)) (next_tells s r.world.limit es t within)
 
     acts : (n : Next) → n ≡ next_in r.world t → acting r.world t ≡ act_in n
     acts n e = ap act_in (sym e)
@@ -150,10 +149,10 @@ module _ (r : Run) (run : IsRun r) where
     turn_fits nexts.Done e = waits nexts.Done e refl (tells nexts.Done e)
     turn_fits nexts.Limit e =
         let h = tells nexts.Limit e in
-        ends nexts.Limit endings.Limit e refl h.0 (λ pick. ends_at_limit s r.world.limit es t run.stage within run.within run.asleep h.0 h.1)
+        ends nexts.Limit endings.Limit e refl h.0 (λ pick. ends_at_limit s r.world.limit es t within run.within run.asleep h.0 h.1)
     turn_fits nexts.Full e =
         let h = tells nexts.Full e in
-        ends nexts.Full endings.Full e refl h.can (λ pick. ends_full s r.world.limit es t run.stage within run.within run.asleep (few_of_legal s es run.serial.legal).objects (sym picks_is ∙ pick) h)
+        ends nexts.Full endings.Full e refl h.can (λ pick. ends_full s r.world.limit es t within run.within run.asleep (few_of_legal s es run.serial.legal).objects (sym picks_is ∙ pick) h)
 
     none_if : (n : Next) → turn_by t n ≡ None → act_in n ≡ None
     none_if (nexts.Act a) e = absurd cc
@@ -208,7 +207,6 @@ pub numbers_keep : (r : Run) (n : NumbersView) → n.items ≡ r.numbers.items �
 numbers_keep r n same run = record {
   script = run.script;
   begun = run.begun;
-  stage = run.stage;
   owned = run.owned;
   most = run.most;
   within = run.within;

@@ -3,7 +3,6 @@ use Rattle.std.specs.Prelude.{◌≡◌, ℕ, ◌+◌, ◌*◌, ◌<◌, ◌≤�
 use Rattle.cf_ids.specs.declared.limits.TheConstants.{THREADS}
 use Rattle.cf_syntax.specs.declared.script.Script.{Script}
 use Rattle.cf_syntax.specs.Owned.{Owned}
-use Rattle.cf_syntax.specs.Stage.{IsOfStage}
 use Rattle.cf_graph.specs.Edges.{degree}
 use Rattle.cf_next.specs.Actions.{cut_of}
 use Rattle.cf_model.specs.declared.entry.Entry.{Entry}
@@ -28,7 +27,6 @@ use Rattle.cf_serial.specs.Serial.{AreDegrees, ClockFits, StopsSerially}
 pub record IsRun (r : Run) : Type 0 where
   pub script : Script
   pub begun : r.world.script ≡ Some script
-  pub stage : IsOfStage script
   pub owned : Owned script
   pub most : r.world.limit ≤ 4000000
   pub within : length r.world.journal ≤ r.world.limit

@@ -5,7 +5,7 @@ use Rattle.cf_serial.proofs.run.Run.begin.Goals as goal
 pub returns-clause-run : goal.returns-clause-run
 returns-clause-run c =
     let value = c.script.ensures.value in
-    begun_run c.args.script c.args.limit c.threads-threads.result c.new.result c.begin.new.self c.in_ok-begin.ensures.begun c.requires.stage
+    begun_run c.args.script c.args.limit c.threads-threads.result c.new.result c.begin.new.self c.in_ok-begin.ensures.begun
     c.script.ensures.owned c.requires.most (rw value at c.threads-threads.ensures.count) c.threads-threads.ensures.few c.new.ensures
 
 pub returns-clause-world : goal.returns-clause-world

@@ -1,13 +1,11 @@
 -- A ground at the start of a script.
-use Rattle.std.proofs.Common.{◌≡◌, ℕ, ◌<◌, ◌≤◌, Bool, true, false, ◌&&◌, ltb, List, [], length, Option, None, refl, sym, ap, subst, arith}
+use Rattle.std.proofs.Common.{◌≡◌, ℕ, ◌<◌, ◌≤◌, Bool, true, false, ◌&&◌, ltb, List, [], length, None, refl, sym, ap, subst, arith}
 use Rattle.std.proofs.lemmas.Bool.Decides.{nat_tests}
 use Rattle.cf_ids.specs.declared.limits.TheConstants.{MODES}
-use Rattle.cf_syntax.specs.declared.script.Script.{Script}
 use Rattle.cf_model.specs.declared.entry.Entry.{Entry}
 use Rattle.cf_model.specs.State.{start}
 use Rattle.cf_model.specs.Journals.{After, IsLegal}
 use Rattle.cf_loops.specs.Following.{AreLoops}
-use Rattle.cf_world.specs.declared.flags.Flags.{Flags}
 use Rattle.cf_world.specs.declared.ground.Ground.TheInside.{Inside}
 use Rattle.cf_world.specs.Grounds.{AreFirst, Mirrors, HasPlaces, Follows, MayRun, IsGround, parcel_at}
 

@@ -1,25 +1,24 @@
 -- A world after an entry of a thread is again one whose script has begun, and callers see the entry.
-use Rattle.std.proofs.Common.{◌≡◌, ℕ, ◌+◌, ◌<◌, ◌≤◌, ◌∙◌, Bool, true, false, cond, List, [], ◌∷◌, ◌++◌, length, Option, Some, None, refl, sym, ap, subst, arith, length-append, vec_capacity}
+use Rattle.std.proofs.Common.{◌≡◌, ℕ, ◌+◌, ◌<◌, ◌≤◌, ◌∙◌, Bool, true, false, cond, List, [], ◌∷◌, length, Option, Some, None, refl, sym, ap, subst, arith, length-append, vec_capacity}
 use Rattle.std.proofs.lemmas.Bool.Decides.{nat_tests}
-use Rattle.std.specs.Prelude.{not, ◌&&◌, nat_le, IsTrue, IsSomeAnd}
+use Rattle.std.specs.Prelude.{not, ◌&&◌, nat_le, IsSomeAnd}
 use Rattle.std.specs.Option.{option_map}
 use Rattle.cf_syntax.specs.declared.script.Script.{Script}
 use Rattle.cf_graph.specs.Flows.{gained_by}
 use Rattle.cf_next.specs.declared.action.Action.{Action}
 use Rattle.cf_next.specs.Standing.{Standing}
 use Rattle.cf_model.specs.declared.entry.Entry.{Entry}
-use Rattle.cf_model.specs.State.{State, flags_at, stand_at}
-use Rattle.cf_model.specs.Flowing.{flow_in, flow_if}
-use Rattle.cf_model.specs.Steps.{demanded}
+use Rattle.cf_model.specs.State.{flags_at, stand_at}
+use Rattle.cf_model.specs.Flowing.{flow_in}
 use Rattle.cf_model.specs.Journals.{After, Next, makes, sleeps}
-use Rattle.cf_world.specs.Worlds.{WorldView, act_in, acting, applied, entered, entered_by, entry_of, next_below, next_if, next_of}
+use Rattle.cf_world.specs.Worlds.{WorldView, act_in, acting, applied, entered, entered_by, entry_of, next_if, next_of}
 use Rattle.cf_world.specs.Grounds.{GroundView, state_of}
-use Rattle.cf_world.specs.Entering.{HasEntered, gained_in}
+use Rattle.cf_world.specs.Entering.{gained_in}
 use Rattle.cf_world.specs.declared.next.Next.{Next as NextCode}
 use Rattle.cf_world.specs.declared.next.Next.TheVariants as nexts
 use Rattle.cf_world.specs.declared.found.Reserved.{Reserved}
 use Rattle.cf_world.specs.declared.begun.Begun.TheInside.{Inside}
-use Rattle.cf_world.specs.Begun.{HasGone, IsBegun, IsFound, IsReserved, ReservedIf, reserved_of, thread_of, view_of}
+use Rattle.cf_world.specs.Begun.{HasGone, IsBegun, IsFound, IsReserved, ReservedIf, reserved_of, thread_of, view_of, ListsFit}
 use Rattle.cf_world.proofs.Moving.{next_steps}
 
 -- ---- the action that may be done
@@ -114,6 +113,7 @@ module _ (w : Inside) (inv : IsBegun w) (r : Reserved) (found : IsFound w.ground
       few = few;
       list_room = list_room;
       reserved = subst (λ (b : Bool). ReservedIf w'.ground w'.frames.items (cond b (Some w'.reserved) None)) (sym none) tt;
+      lists = subst (λ (b : Bool). ListsFit w'.ground w'.frames.items (vec_capacity w'.gained) (vec_capacity w'.list) (cond b (Some w'.reserved) None)) (sym none) tt;
     }
 
     now_is : view_of w' ≡ record { script = Some w'.ground.script; limit = w.limit; journal = w'.ground.journal; gained = w'.gained.items; room = None }

@@ -1,7 +1,7 @@
 -- What an entry tells its ground: its answer, what it gains, and what the parts are after it; and the same of entries
 -- that retain, that are skipped, and that end a block.
-use Rattle.std.proofs.Common.{◌≡◌, ℕ, ◌+◌, ◌<◌, ◌≤◌, ◌∙◌, Bool, true, false, cond, List, [], ◌∷◌, ◌++◌, length, map, Option, Some, None, eqb, refl, sym, ap, subst, arith}
-use Rattle.std.specs.Prelude.{vec_len, vec_capacity, ◌==◌}
+use Rattle.std.proofs.Common.{◌≡◌, ℕ, ◌∙◌, Bool, true, false, cond, List, [], ◌∷◌, ◌++◌, map, Option, Some, None, refl, sym, ap}
+use Rattle.std.specs.Prelude.{vec_capacity, ◌==◌}
 use Rattle.cf_ids.specs.declared.answer.Answer.{Answer}
 use Rattle.cf_ids.specs.declared.answer.Answer.TheVariants as answers
 use Rattle.rl_modes.specs.Loops.{Loop}
@@ -13,25 +13,24 @@ use Rattle.cf_syntax.specs.Mentions.{ownership_of, first_of}
 use Rattle.cf_syntax.specs.BlockLines.{says}
 use Rattle.cf_graph.specs.Holders.{Holder, variable, parcel}
 use Rattle.cf_graph.specs.Edges.{Reference, held_by}
-use Rattle.cf_graph.specs.Flows.{Move, Flow, grows, shrinks, flowed, gained_by}
+use Rattle.cf_graph.specs.Flows.{Move, grows, flowed, gained_by}
 use Rattle.cf_contents.specs.Contents.{present}
 use Rattle.cf_contents.specs.Stores.{Held}
 use Rattle.cf_next.specs.declared.action.Action.{Action}
 use Rattle.cf_next.specs.Demands.{Demand, does, ends}
 use Rattle.cf_next.specs.Next.{used_objects}
-use Rattle.cf_model.specs.declared.entry.Entry.{Entry}
 use Rattle.cf_model.specs.State as states
 use Rattle.cf_model.specs.State.{State, Parts, first_held}
 use Rattle.cf_model.specs.Steps.{Step, idle, flowing, retain_step, release_step, end_step, start_all, step_of, step_answer, frames_at, bindings_of, depth_of, demanded, done_by, answer_if, statement_step}
 use Rattle.cf_model.specs.Flowing.{flow_if}
 use Rattle.cf_model.specs.Journals.{After}
 use Rattle.cf_model.proofs.FirstHeld.{PassesBy, first_flowed}
-use Rattle.cf_world.specs.declared.flags.Flags.{Flags}
+use Rattle.cf_scene.specs.declared.flags.Flags.{Flags}
 use Rattle.cf_world.specs.declared.ground.Ground.TheInside.{Inside}
 use Rattle.cf_world.specs.Worlds.{entry_of}
-use Rattle.cf_world.specs.Grounds.{GroundView, Mirrors, parcel_at, HasPlaces, Follows, flags_of, IsGround, state_of, view_of}
+use Rattle.cf_world.specs.Grounds.{Mirrors, parcel_at, HasPlaces, Follows, flags_of, IsGround, view_of}
 use Rattle.cf_loops.specs.Following.{DemandLeavesLoops}
-use Rattle.cf_world.specs.Entering.{MayAct, HasEntered, IsRetain, IsSkip, IsEnd, answer_for, gained_in, demand_in}
+use Rattle.cf_world.specs.Entering.{MayAct, HasEntered, answer_for}
 use Rattle.cf_world.proofs.Growing.{ground_after, has_entered, follows_step}
 use Rattle.cf_world.proofs.Passing.{KeepsLoops, retains_leave, releases_leave}
 

@@ -1,7 +1,7 @@
 -- What entries tell that take a reference to an object away: the reference is there, the object is live, and it is
 -- finalised if none is left.
-use Rattle.std.proofs.Common.{◌≡◌, ℕ, zero, suc, ◌+◌, ◌<◌, ◌≤◌, ◌∙◌, ◌⊎◌, Bool, true, false, cond, ◌&&◌, List, [], ◌∷◌, ◌++◌, length, map, Option, Some, None, eqb, ltb, refl, sym, ap, subst, arith, inl, inr}
-use Rattle.std.specs.Prelude.{◌==◌, slice_get, IsTrue}
+use Rattle.std.proofs.Common.{◌≡◌, ℕ, zero, suc, ◌+◌, ◌<◌, ◌∙◌, Bool, true, false, cond, ◌&&◌, List, [], ◌∷◌, ◌++◌, length, Option, Some, None, eqb, ltb, refl, sym, ap, subst, arith}
+use Rattle.std.specs.Prelude.{◌==◌, slice_get}
 use Rattle.std.proofs.lemmas.Bool.{eq-eqb, ltb-true}
 use Rattle.std.proofs.lemmas.Bool.Decides.{nat_tests}
 use Rattle.cf_ids.specs.declared.answer.Answer.{Answer}
@@ -17,36 +17,36 @@ use Rattle.cf_syntax.specs.Mentions.{ownership_of, first_of}
 use Rattle.cf_syntax.specs.BlockLines.{says}
 use Rattle.cf_syntax.specs.Owned.{FitsByBlock}
 use Rattle.cf_graph.specs.Owners.{is_thread}
-use Rattle.cf_graph.specs.Holders.{Holder, variable, callout, owed, parcel, slot, in_mode, in_common, owner_of, same_holder}
-use Rattle.cf_graph.specs.Edges.{Reference, held_by, has, weigh, one, counted, degree, from_thread, leading_to}
+use Rattle.cf_graph.specs.Holders.{Holder, variable, callout, owed, parcel, slot, in_mode, in_common, owner_of}
+use Rattle.cf_graph.specs.Edges.{Reference, held_by, has, weigh, counted, degree, from_thread}
 use Rattle.cf_graph.specs.Flows.{Flow, shrinks, flowed, IsThere}
 use Rattle.cf_graph.proofs.Flows.{degree-flow}
-use Rattle.cf_contents.specs.Contents.{Object, times, slots_at}
+use Rattle.cf_contents.specs.Contents.{times}
 use Rattle.cf_contents.specs.Stores.{Held, with_body, body_finalised, body_dropped, is_live_in, left_in}
 use Rattle.cf_next.specs.Demands.{Demand, does, owes, drops}
-use Rattle.cf_next.specs.Next.{used_objects, top_frame}
-use Rattle.cf_model.specs.State.{State, Parts, is_live, left_of, stand_at, first_held}
+use Rattle.cf_next.specs.Next.{used_objects}
+use Rattle.cf_model.specs.State.{State, Parts, stand_at}
 use Rattle.cf_model.specs.Known.{facts_of}
 use Rattle.cf_model.specs.Own.{first_from, own_reference}
-use Rattle.cf_model.specs.Steps.{Step, flowing, cut_flow, cut_step, release_step, drop_step, step_of, step_finals, edges_after, type_in, frames_at, bindings_of, depth_of, demanded, done_by}
-use Rattle.cf_model.specs.Journals.{MayTake, MayUse, MayUseAll, takes, uses_if}
+use Rattle.cf_model.specs.Steps.{Step, flowing, cut_flow, cut_step, release_step, step_of, type_in, frames_at, bindings_of, depth_of, demanded}
+use Rattle.cf_model.specs.Journals.{MayTake, MayUseAll, takes, uses_if}
 use Rattle.cf_model.proofs.Acting.{site_used}
 use Rattle.cf_model.proofs.Balance.{live_there, live_test}
 use Rattle.cf_model.proofs.Dropping.{slot_parts, left_here, slot_there, drop_fits, demand_slot}
 use Rattle.cf_model.proofs.FirstHeld.{NoParcel, parcel_other, first_without}
-use Rattle.cf_model.proofs.Fitting.{StepFits, cut_fits}
+use Rattle.cf_model.proofs.Fitting.{cut_fits}
 use Rattle.cf_model.proofs.Legal.{live_of_test}
 use Rattle.cf_model.proofs.OwnLaws.{IsOf, OwnIs, own_is}
 use Rattle.cf_model.proofs.Using.{IsSound, demand_may}
-use Rattle.cf_world.specs.declared.flags.Flags.{Flags}
+use Rattle.cf_scene.specs.declared.flags.Flags.{Flags}
 use Rattle.cf_world.specs.Worlds.{ended_at}
-use Rattle.cf_world.specs.Grounds.{Mirrors, parcel_at, Follows}
+use Rattle.cf_world.specs.Grounds.{Mirrors, Follows}
 use Rattle.cf_world.specs.Entering.{answer_of_cut, finalised_if}
 use Rattle.cf_loops.specs.Following.{DemandLeavesLoops}
 use Rattle.cf_world.proofs.Passing.{KeepsLoops, releases_leave}
 use Rattle.cf_world.proofs.Counting.{Enters, enters_by, statement_is}
 use Rattle.cf_world.proofs.Growing.{follows_step}
-use Rattle.cf_world.proofs.Mirroring.{mirrored, mirrors_by, left-mirrors, live-body, mirrored_finalised, mirrored_dropped}
+use Rattle.cf_scene.proofs.Mirroring.{mirrored, mirrors_by, left-mirrors, live-body, mirrored_finalised, mirrored_dropped}
 
 -- ---- what is left
 

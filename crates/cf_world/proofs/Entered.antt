@@ -1,7 +1,8 @@
 -- What each entry of a thread tells its ground, by what is asked of it.
-use Rattle.std.proofs.Common.{◌≡◌, ℕ, ◌<◌, ◌≤◌, ◌∙◌, ◌⊎◌, List, [], ◌∷◌, length, map, Option, Some, None, cond, eqb, get_or, refl, sym, ap, subst, inl, inr}
+use Rattle.std.proofs.Common.{◌≡◌, ℕ, ◌<◌, ◌∙◌, List, [], ◌∷◌, length, map, Option, Some, None, get_or, refl, sym, ap, subst, inl, inr}
 use Rattle.std.specs.Prelude.{slice_get, OnSome}
 use Rattle.std.specs.Option.{option_map}
+use Rattle.cf_ids.specs.declared.answer.Answer.{Answer}
 use Rattle.cf_ids.specs.declared.answer.Answer.TheVariants as answers
 use Rattle.cf_ids.specs.declared.answer.Ended.{Ended}
 use Rattle.cf_syntax.specs.declared.script.Script.{Script}
@@ -11,19 +12,25 @@ use Rattle.cf_syntax.specs.BlockLines.{thread_block, uses_in}
 use Rattle.cf_syntax.proofs.BlockLaws.{owned_fits}
 use Rattle.cf_contents.specs.Contents.{present}
 use Rattle.cf_contents.specs.Stores.{Held, with_body, body_dropped}
-use Rattle.cf_next.specs.declared.action.Action.{Action}
-use Rattle.cf_model.specs.State.{State, stand_at}
-use Rattle.cf_model.specs.Stage.{IsPlainStand}
-use Rattle.cf_model.specs.Steps.{type_in}
+use Rattle.cf_next.specs.Stands.{Callee, item_of}
+use Rattle.cf_next.specs.Demands.{spends}
+use Rattle.rl_modes.specs.Loops.{Loop}
+use Rattle.cf_scene.specs.Dealing.{IsDone, spending}
+use Rattle.cf_scene.specs.Sleeping.{HasSlept}
+use Rattle.cf_scene.specs.declared.dealt.Dealt.{Dealt}
+use Rattle.cf_world.proofs.Called.{call_enters, call_valid, sleep_enters}
+use Rattle.cf_world.proofs.Dealing.{deal_enters, spend_gains, spend_leaves}
+use Rattle.cf_world.proofs.Passed.{pass_enters}
+use Rattle.cf_model.specs.State.{State}
+use Rattle.cf_model.specs.Steps.{fire_if, frames_at, type_in}
 use Rattle.cf_model.specs.Journals.{After}
-use Rattle.cf_model.proofs.Parcels.{parcels_one}
-use Rattle.cf_model.proofs.PlainStates.{plain_after}
+use Rattle.cf_model.proofs.Parcels.{OwnBlocks, parcels_after, parcels_one}
 use Rattle.cf_model.proofs.Sound.{sound}
 use Rattle.cf_model.proofs.Using.{IsSound}
-use Rattle.cf_world.specs.declared.flags.Flags.{Flags}
+use Rattle.cf_scene.specs.declared.flags.Flags.{Flags}
 use Rattle.cf_world.specs.declared.ground.Ground.TheInside.{Inside}
-use Rattle.cf_world.specs.Grounds.{GroundView, IsGround, ends_in, flags_of, parcel_at, state_of, view_of}
-use Rattle.cf_world.specs.Entering.{MayAct, IsRetain, IsSkip, IsCut, IsDrop, IsClaim, IsPack, IsEnd, answer_for, answer_of_cut, finalised_if, flags_at_end, packed_rows}
+use Rattle.cf_world.specs.Grounds.{IsGround, Mirrors, ends_in, flags_of, parcel_at, view_of}
+use Rattle.cf_world.specs.Entering.{IsRetain, IsSkip, IsCut, IsDrop, IsClaim, IsPack, IsEnd, IsPass, IsCall, IsSleep, IsSpend, IsValidCallee, called_answer, answer_for, answer_of_cut, finalised_if, flags_at_end, packed_rows}
 use Rattle.cf_world.proofs.Counting.{Enters, retain_enters, skip_enters, end_enters}
 use Rattle.cf_world.proofs.Cutting.{Cuts, Drops, owed_cuts, release_cuts, drop_drops}
 use Rattle.cf_world.proofs.Passing.{KeepsLoops, keeps_loops}
@@ -86,11 +93,11 @@ module _ (g : Inside) (t : ℕ) (inv : IsGround g) where
       subst (λ (bs : List Held). Enters s t st (answer_of_cut ended (type_in (slice_get st.parts.objects o))) [] bs g.parcels g.flags.items g.time g.loops) (sym (is ∙ ap (finalised_if ended o) dropped))
       (subst (λ (d : Ended). Enters s t st (answer_of_cut d (type_in (slice_get st.parts.objects o))) [] (finalised_if d o (with_body body_dropped b g.store.bodies)) g.parcels g.flags.items g.time g.loops) (sym e) (drop_tells b o r).enters)
 
-  plain : t < s.thread_count → IsPlainStand t (stand_at t st.stands)
-  plain lt = (plain_after s g.journal.items inv.script.stage).stands t lt
+  blocks : OwnBlocks t (frames_at t st)
+  blocks = (parcels_after s g.journal.items).blocks t
 
   pub claim_place : (k : ℕ) → t < s.thread_count → IsClaim (view_of g) t k → k < length (uses_in (thread_block s t))
-  claim_place k lt r = claim_within s t st (plain lt) k r.var r.demands
+  claim_place k lt r = claim_within s t st blocks k r.var r.demands
 
   pub claim_here : (k : ℕ) → t < s.thread_count → IsClaim (view_of g) t k
       → (t < length g.parcels) × (k < length (get_or g.parcels t []))
@@ -111,7 +118,7 @@ module _ (g : Inside) (t : ℕ) (inv : IsGround g) where
       subst (λ (q : List (List (Option ℕ))). Enters s t st (answer_for (parcel_at g.parcels t k)) [] g.store.bodies q g.flags.items g.time g.loops) (sym is) (claim_tells k lt r)
 
   pub pack_place : (u k : ℕ) (object : Option ℕ) → t < s.thread_count → IsPack (view_of g) t u k object → IsWithin s u k
-  pack_place u k object lt r = pack_within s t st (plain lt) u k r.var r.demands
+  pack_place u k object lt r = pack_within s t st blocks u k r.var r.demands
 
   pub pack_here : (u k : ℕ) (object : Option ℕ) → t < s.thread_count → IsPack (view_of g) t u k object
       → (u < length g.parcels) × (k < length (get_or g.parcels u []))
@@ -136,3 +143,35 @@ module _ (g : Inside) (t : ℕ) (inv : IsGround g) where
       → map flags_of flags ≡ flags_at_end t (map flags_of g.flags.items)
       → Enters s t st answers.Ok [] g.store.bodies g.parcels flags g.time g.loops
   end_tells flags e is = end_enters s t st g.store.bodies g.parcels g.flags.items g.time g.loops inv.follows keeps flags e is
+
+  -- what changes nothing but where its thread stands
+  pub pass_tells : (x : Answer) (list : List ℕ) → IsPass (view_of g) t x list
+      → Enters s t st x [] g.store.bodies g.parcels g.flags.items g.time g.loops
+  pass_tells x list r =
+      subst (λ (y : Answer). Enters s t st y [] g.store.bodies g.parcels g.flags.items g.time g.loops) (sym r.answer_is)
+      (pass_enters s t st g.store.bodies g.parcels g.flags.items g.time g.loops inv.follows keeps r.demand r.demands r.passes)
+
+  -- the call of a handler
+  pub call_tells : (k : Callee) (r : IsCall (view_of g) t k) (bodies : List Held)
+      → Mirrors (fire_if st.parts (item_of k)) bodies
+      → Enters s t st (called_answer (view_of g) t k) (present (r.callout.info ∷ item_of k ∷ [])) bodies g.parcels g.flags.items g.time g.loops
+  call_tells k r bodies mirrors = call_enters s t st g.store.bodies g.parcels g.flags.items g.time g.loops inv.follows keeps k r.callout bodies r.demands mirrors
+
+  -- what is called is valid
+  pub called_valid : (k : Callee) → IsCall (view_of g) t k → IsValidCallee st.parts k
+  called_valid k r = call_valid s st t k r.callout r.demands
+
+  -- the sleep of a run
+  pub sleep_tells : (deadline : Option ℕ) (r : IsSleep (view_of g) t deadline) (x : Answer) (flags : List Flags)
+      → HasSlept st t r.run x flags → Enters s t st x [] g.store.bodies g.parcels flags g.time g.loops
+  sleep_tells deadline r x flags slept = sleep_enters s t st g.store.bodies g.parcels g.flags.items g.time g.loops inv.follows keeps r.run x flags r.demands r.top slept
+
+  -- an item that is invalidated after its handler
+  pub spend_tells : (i : ℕ) → IsSpend (view_of g) t i → (x : Dealt) (bodies : List Held) (loops : List Loop)
+      → IsDone s st t (spending s st i) x bodies loops
+      → Enters s t st x.answer [] bodies g.parcels g.flags.items g.time loops
+  spend_tells i r x bodies loops done =
+      subst (λ (y : Answer). Enters s t st y [] bodies g.parcels g.flags.items g.time loops) (sym done.answer)
+      (subst (λ (os : List ℕ). Enters s t st (spending s st i).answer os bodies g.parcels g.flags.items g.time loops) (spend_gains s st i)
+      (deal_enters s t st g.store.bodies g.parcels g.flags.items g.time g.loops inv.follows (spends i) (spending s st i) [] bodies g.flags.items loops r refl
+      (spend_leaves s st i bodies g.flags.items loops t inv.follows.flags_are done.mirrors done.loops_are)))

@@ -1,5 +1,5 @@
 -- Of each form of entry: how its thread moves on by it.
-use Rattle.std.proofs.Common.{◌≡◌, ℕ, zero, suc, ◌+◌, ◌<◌, ◌≤◌, ◌∙◌, Bool, true, false, cond, List, [], ◌∷◌, ◌++◌, length, map, Option, Some, None, option_to_list, refl, sym, ap, subst, eqb, eq-eqb, arith}
+use Rattle.std.proofs.Common.{◌≡◌, ℕ, zero, suc, ◌+◌, ◌<◌, ◌∙◌, Bool, true, false, cond, List, [], ◌∷◌, ◌++◌, Option, Some, None, refl, sym, ap, subst, eqb, eq-eqb, arith}
 use Rattle.std.proofs.lemmas.Bool.Decides.{nat_tests}
 use Rattle.std.specs.Prelude.{slice_get, ◌&&◌}
 use Rattle.cf_ids.specs.declared.answer.Answer.{Answer}
@@ -12,16 +12,15 @@ use Rattle.cf_syntax.specs.declared.statement.Statement.TheVariants as forms
 use Rattle.cf_syntax.specs.declared.mention.Ownership.{Ownership}
 use Rattle.cf_syntax.specs.declared.mention.Ownership.TheVariants.{Keeps, Binds, Retains, Releases}
 use Rattle.cf_syntax.specs.Mentions.{ownership_of, first_of}
-use Rattle.cf_syntax.specs.BlockLines.{BlockLine, claims, says, packs}
+use Rattle.cf_syntax.specs.BlockLines.{claims, says, packs}
 use Rattle.cf_syntax.specs.Stage.{is_of_stage}
 use Rattle.cf_syntax.specs.Owned.{FitsByBlock}
 use Rattle.cf_graph.specs.Owners.{is_thread}
 use Rattle.cf_graph.specs.Holders.{Holder, owner_of, parcel, variable, owed, slot}
-use Rattle.cf_graph.specs.Edges.{Reference, held_by, weigh, one, has, degree, counted, from_thread}
+use Rattle.cf_graph.specs.Edges.{Reference, held_by, weigh, has, degree, counted, from_thread}
 use Rattle.cf_graph.specs.Flows.{Flow, shrinks, flowed, IsThere, cut_of as flow_cut}
 use Rattle.cf_contents.specs.Deeds.{Change}
 use Rattle.cf_next.specs.declared.action.Action.{Action}
-use Rattle.cf_next.specs.declared.action.Action.TheVariants as actions
 use Rattle.cf_next.specs.Actions.{Site, action_of, cut_of}
 use Rattle.cf_next.specs.Standing.{is_retain, finals_in}
 use Rattle.cf_next.specs.Steps.{says_retain}

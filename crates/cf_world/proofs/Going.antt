@@ -1,5 +1,5 @@
 -- A world goes on by what was found of a thread's next entry.
-use Rattle.std.proofs.Common.{◌≡◌, ℕ, ◌+◌, ◌<◌, ◌≤◌, ◌∙◌, ◌⊎◌, Bool, true, false, cond, List, [], ◌∷◌, ◌++◌, length, map, Option, Some, None, option_to_list, refl, sym, ap, subst, arith, inl, inr}
+use Rattle.std.proofs.Common.{◌≡◌, ℕ, ◌+◌, ◌<◌, ◌≤◌, ◌∙◌, ◌⊎◌, Bool, true, false, cond, List, [], ◌∷◌, ◌++◌, length, Option, Some, None, refl, sym, ap, subst, arith, inl, inr}
 use Rattle.std.specs.Prelude.{IfSome, IsSomeAnd, slice_get, is_some, not, ◌&&◌, ◌==◌}
 use Rattle.std.specs.List.{All}
 use Rattle.std.proofs.lemmas.Option.{slice_get_within}
@@ -16,7 +16,6 @@ use Rattle.cf_syntax.specs.Mentions.{ownership_of, first_of}
 use Rattle.cf_syntax.specs.BlockLines.{claims, says, packs}
 use Rattle.cf_syntax.specs.Stage.{is_of_stage}
 use Rattle.cf_syntax.proofs.BlockLaws.{owned_fits}
-use Rattle.cf_next.specs.declared.action.Action.{Action}
 use Rattle.cf_next.specs.declared.object.Used.{Used}
 use Rattle.cf_next.specs.declared.step.Step.{Step as Found}
 use Rattle.cf_next.specs.declared.step.Step.TheVariants as steps
@@ -24,7 +23,7 @@ use Rattle.cf_next.specs.Actions.{cut_of}
 use Rattle.cf_next.specs.Facts.{Facts}
 use Rattle.cf_next.specs.Stands.{Frame, Stand}
 use Rattle.cf_next.specs.Standing.{Standing, HasRoom, HasRoomFor, is_retain, finals_in}
-use Rattle.cf_next.specs.Demands.{Demand, does, ends, owes, drops, demand}
+use Rattle.cf_next.specs.Demands.{does, ends, owes, drops}
 use Rattle.cf_next.specs.Advance.{advanced, is_post}
 use Rattle.cf_next.specs.Next.{action_in, object_at, top_frame, used_objects}
 use Rattle.cf_next.specs.Steps.{IsStep, IsLine, SaysRoom, SaysList, demand_of, says_retain}
@@ -35,19 +34,18 @@ use Rattle.cf_model.specs.State.{State, first_held, stand_at}
 use Rattle.cf_graph.specs.Holders.{parcel}
 use Rattle.cf_model.specs.Known.{facts_of}
 use Rattle.cf_model.specs.Steps.{step_of, step_answer, frames_at, bindings_of, depth_of, demanded, type_in, answer_if}
-use Rattle.cf_model.specs.Journals.{After}
 use Rattle.cf_model.proofs.PlainDeals.{deals_plainly}
 use Rattle.cf_model.proofs.PlainStates.{line_of_stage}
 use Rattle.cf_model.proofs.Sound.{sound}
 use Rattle.cf_world.specs.Worlds.{entry_of, retained_by}
 use Rattle.cf_world.specs.Grounds.{GroundView, deed_of, state_of, known, statement_at, ends_in}
-use Rattle.cf_world.specs.Entering.{HasEntered, IsLastAnswer, listed_if, IsDeed, IsBinding, IsRetain, IsSkip, IsRelease, IsClaim, IsPack, IsDrop, answer_for, answer_of_cut, listed_in, used_in}
+use Rattle.cf_world.specs.Entering.{HasEntered, IsLastAnswer, listed_if, IsDeed, IsBinding, IsRetain, IsSkip, IsRelease, answer_for, answer_of_cut, listed_in, used_in}
 use Rattle.cf_world.specs.Kept.{IsKept, step_kept}
 use Rattle.cf_world.specs.declared.found.Found.{Found as Kept}
 use Rattle.cf_world.specs.declared.found.Found.TheVariants as kept
 use Rattle.cf_world.specs.declared.found.Reserved.{Reserved}
 use Rattle.cf_world.specs.Begun.{standing_at, StandSo, AreFrames, HasMoved, MovesBy, HasGone, IsClaims, IsOwes, IsFound, IsReserved, IsReadyFor, ReadyIf, NeedsDeed, IsReady, finals_of_cut, most_listed}
-use Rattle.cf_world.proofs.Moving.{IsMove, action_of_demand, gone_by, room_two, less_room, stand_here, within_frames}
+use Rattle.cf_world.proofs.Moving.{IsMove, action_of_demand, gone_by, room_two, less_room, stand_here}
 use Rattle.cf_world.proofs.Forms.{NoCut, claim_moves, pack_moves, end_moves, finals_for, finals_of_answer, cut_moves, cut_live, owed_cuts, drop_cuts, release_cuts, said_moves, lists_none, said_cuts_none, said_releases, said_retains, retain_same, advanced_by_time}
 
 -- ---- what was found
@@ -68,7 +66,7 @@ pub has_room : (g : GroundView) (frames : List Standing) (r : Reserved) (x : Fou
     → HasRoom 0 (standing_at frames r.thread)
 has_room g frames r x reserved step plain =
     let is = action_of_demand g.script (state_of g) r.thread r.action (demand_of x) reserved.found.acts.next step.demand in
-    less_room 0 (standing_at frames r.thread) (omega arith) (room_two r.action (standing_at frames r.thread) (ap is_retain (sym is) ∙ plain) reserved.room)
+    less_room 0 2 (standing_at frames r.thread) (omega arith) (room_two r.action (standing_at frames r.thread) (ap is_retain (sym is) ∙ plain) reserved.room)
 
 -- what was kept is the step that is found again
 pub found_here : (o : Option Found) (P : Found → Type 0) (x : Found)
@@ -93,8 +91,8 @@ as_owed _ o h = absurd h
 
 moved_as : (g : GroundView) (r : Reserved) (frames : List Standing) (answer : Answer) (f : Kept) (x : Found)
     → r.found ≡ f → step_kept f ≡ Some x
-    → IfSome (step_kept r.found) (MovesBy g r.thread answer frames) → MovesBy g r.thread answer frames x
-moved_as g r frames answer f x e is h = subst (λ (o : Option Found). IfSome o (MovesBy g r.thread answer frames)) (ap step_kept e ∙ is) h
+    → IfSome (step_kept r.found) (MovesBy g r.thread answer [] frames) → MovesBy g r.thread answer [] frames x
+moved_as g r frames answer f x e is h = subst (λ (o : Option Found). IfSome o (MovesBy g r.thread answer [] frames)) (ap step_kept e ∙ is) h
 
 pub step_as : (g : GroundView) (r : Reserved) (f : Kept) (x : Found) → r.found ≡ f → step_kept f ≡ Some x
     → IsFoundStep g r x
@@ -103,7 +101,7 @@ step_as g r f x e is h = subst (λ (o : Option Found). IsSomeAnd o (IsStep g.scr
 
 -- ---- entries that are no statement
 
-module _ (g g' : GroundView) (frames : List Standing) (r : Reserved) (found : IsFound g r) (entered : HasEntered r.thread r.action g g') (x : Answer) (moved : IfSome (step_kept r.found) (MovesBy g r.thread x frames)) where
+module _ (g g' : GroundView) (frames : List Standing) (r : Reserved) (found : IsFound g r) (entered : HasEntered r.thread r.action g g') (x : Answer) (moved : IfSome (step_kept r.found) (MovesBy g r.thread x [] frames)) where
   abbrev st : State
   st = state_of g
 
@@ -219,7 +217,7 @@ module _ (g : GroundView) (r : Reserved) (found : IsFound g r) (b n : ℕ) (used
       by : (c : Bool) → says_retain x ≡ c
           → cond (c && ((more == 0) && not (is_some fin))) (Unit {0}) (HasRoom more (standing_at frames u))
       by true e = let h = retains e in subst (λ (d : Bool). cond d (Unit {0}) (HasRoom more (standing_at frames u))) (sym (with_retain more fin h.0 h.1)) tt
-      by false e = less_room more (standing_at frames u) few (room_two r.action (standing_at frames u) (retain_same g.script u now x r.action found.acts.next said.demands ∙ e) room)
+      by false e = less_room more 2 (standing_at frames u) few (room_two r.action (standing_at frames u) (retain_same g.script u now x r.action found.acts.next said.demands ∙ e) room)
 
   pub says_list : (list : List ℕ) → All IsObjectNumber list → SaysList x list
   says_list list h = by (is_post (says x))

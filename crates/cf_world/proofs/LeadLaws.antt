@@ -1,11 +1,9 @@
 -- What the lead does next, and that a ground is one again after an entry of the lead.
-use Rattle.std.proofs.Common.{◌≡◌, ℕ, zero, suc, ◌+◌, ◌<◌, ◌≤◌, ◌∙◌, Bool, true, false, cond, ◌&&◌, ◌||◌, not, List, [], ◌∷◌, ◌++◌, length, map, Option, Some, None, ltb, refl, sym, ap, subst, arith, length-append}
-use Rattle.std.specs.Prelude.{slice_get, vec_len, vec_capacity, nat_le}
-use Rattle.std.specs.List.{list_all, list_any, range_with_len}
-use Rattle.std.proofs.lemmas.Bool.{and_parts}
+use Rattle.std.proofs.Common.{◌≡◌, ℕ, suc, ◌+◌, ◌<◌, ◌∙◌, Bool, true, false, cond, ◌&&◌, ◌||◌, List, [], ◌∷◌, ◌++◌, length, map, Option, Some, None, refl, sym, ap, subst, arith, length-append}
+use Rattle.std.specs.Prelude.{vec_capacity}
+use Rattle.std.specs.List.{list_all, range_with_len}
 use Rattle.std.proofs.lemmas.Bool.Decides.{nat_tests}
 use Rattle.rl_base.specs.Dates.{has_come}
-use Rattle.cf_ids.specs.declared.answer.Answer.TheVariants as answers
 use Rattle.cf_syntax.specs.declared.script.Script.{Script}
 use Rattle.cf_syntax.specs.Owned.{Owned}
 use Rattle.cf_next.specs.declared.action.Action.{Action}
@@ -13,23 +11,17 @@ use Rattle.cf_next.specs.declared.action.Action.TheVariants as actions
 use Rattle.cf_next.specs.Stands.{Stand}
 use Rattle.cf_next.specs.Standing.{Standing}
 use Rattle.cf_model.specs.declared.entry.Entry.{Entry}
-use Rattle.cf_model.specs.State as states
-use Rattle.cf_model.specs.State.{State, Sleeping, awake, until, at_or, blank, stand_at, flags_at, threads_of}
-use Rattle.cf_model.specs.Journals.{is_going, sleeps, all_sleep, all_done, due_date, is_none, is_stall, has_stalled, tick_flags, tick_or_stall, ticked, over, busy, lead_next, lead_next_in, AllowsTick, AllowsStall, IsLegalEntry, IsLegal, After, lead, after_action}
+use Rattle.cf_model.specs.State.{State, at_or, blank, stand_at}
+use Rattle.cf_model.specs.Journals.{all_sleep, all_done, due_date, is_none, has_stalled, tick_flags, tick_or_stall, ticked, over, busy, lead_next, IsLegalEntry, IsLegal, After, lead, after_action}
 use Rattle.cf_model.proofs.Growth.{grows_by}
-use Rattle.cf_model.proofs.PlainStates.{plain_after}
-use Rattle.cf_world.specs.declared.flags.Flags.{Flags}
-use Rattle.cf_world.specs.declared.flags.Sleep.{Sleep}
-use Rattle.cf_world.specs.declared.flags.Sleep.TheVariants as sleeping
+use Rattle.cf_scene.specs.declared.flags.Flags.{Flags}
 use Rattle.cf_world.specs.declared.ground.Ground.TheInside.{Inside}
-use Rattle.cf_world.specs.declared.next.LeadNext.{LeadNext}
 use Rattle.cf_world.specs.declared.next.LeadNext.TheVariants as leads
 use Rattle.cf_world.specs.Worlds.{lead_of, IsTick}
 use Rattle.cf_loops.proofs.Telling.{kept}
-use Rattle.cf_world.specs.Grounds.{GroundView, Follows, Mirrors, HoldsParcels, MayRun, IsGround, flags_of, sleeping_of, state_of, view_of}
+use Rattle.cf_world.specs.Grounds.{Follows, MayRun, IsGround, flags_of, view_of}
 use Rattle.cf_world.specs.Begun.{AreFrames}
-use Rattle.cf_world.specs.Leads.{lead_on, lead_entry, HasPlaceFor, HasLed}
-use Rattle.cf_world.proofs.Growing.{never_sleeps, never_stalled}
+use Rattle.cf_world.specs.Leads.{lead_entry, HasPlaceFor, HasLed}
 
 -- ---- what the lead does next
 
@@ -47,6 +39,19 @@ stall_case true asleep due h = absurd cc
 stall_case false false due h = absurd cc
 stall_case false true None h = refl
 stall_case false true (Some d) h = absurd cc
+
+-- the lead does something next only as long as there is no stall
+tick_unstalled : (done stalled asleep : Bool) (due : Option ℕ) (time : ℕ)
+    → IsTick (lead_of (cond (done || stalled) over (cond asleep (tick_or_stall due) busy))) time → stalled ≡ false
+tick_unstalled true stalled asleep due time h = absurd h
+tick_unstalled false true asleep due time h = absurd h
+tick_unstalled false false asleep due time h = refl
+
+stall_unstalled : (done stalled asleep : Bool) (due : Option ℕ)
+    → lead_of (cond (done || stalled) over (cond asleep (tick_or_stall due) busy)) ≡ leads.Stall → stalled ≡ false
+stall_unstalled true stalled asleep due h = absurd cc
+stall_unstalled false true asleep due h = absurd cc
+stall_unstalled false false asleep due h = refl
 
 busy_case : (ended asleep : Bool) (due : Option ℕ) → ended ≡ false → asleep ≡ false
     → lead_of (cond ended over (cond asleep (tick_or_stall due) busy)) ≡ leads.Busy
@@ -94,23 +99,6 @@ all_done_is s st fs h =
 
 -- ---- what is found of the threads
 
--- no thread of a script of today's forms sleeps
-pub none_sleeps : (s : Script) (es : List Entry) → MayRun s → all_sleep s (After s es) ≡ false
-none_sleeps s es run = is_false (all_sleep s (After s es)) (never_sleeps s (After s es) (plain_after s es run.stage))
-
-pub is_awake : (s : Script) (es : List Entry) (t : ℕ) (f : Flags) (date : Option ℕ) → MayRun s
-    → flags_of f ≡ flags_at t (After s es).parts.flags → f.sleep ≡ sleeping.Until date → ⊥
-is_awake s es t f date run e asleep =
-    no_until date (sym (ap sleeping_of asleep) ∙ ap (λ (g : states.Flags). g.sleep) e ∙ (plain_after s es run.stage).parts.is_awake t)
-  where
-    no_until : (d : Option ℕ) → until d ≡ awake → ⊥
-    no_until d q = absurd cc
-
-pub lead_busy : (s : Script) (es : List Entry) → MayRun s → (all_done s (After s es) || has_stalled es) ≡ false
-    → leads.Busy ≡ lead_of (lead_next s es)
-lead_busy s es run going =
-    sym (busy_case (all_done s (After s es) || has_stalled es) (all_sleep s (After s es)) (due_date s (After s es)) going (none_sleeps s es run))
-
 pub lead_over : (s : Script) (es : List Entry) → (all_done s (After s es) || has_stalled es) ≡ true
     → leads.Over ≡ lead_of (lead_next s es)
 lead_over s es done = sym (over_case (all_done s (After s es) || has_stalled es) (all_sleep s (After s es)) (due_date s (After s es)) done)
@@ -143,23 +131,24 @@ module _ (g : Inside) (inv : IsGround g) where
   abbrev st : State
   st = After g.script g.journal.items
 
-  legal_led : (a : Action) → IsLegalEntry s st (lead_entry a) → IsLegal s (es ++ lead_entry a ∷ [])
-  legal_led a legal = (grows_by s es (lead_entry a)).legal inv.legal (never_stalled s es inv.script.stage inv.legal) legal
+  legal_led : (a : Action) → has_stalled es ≡ false → IsLegalEntry s st (lead_entry a)
+      → IsLegal s (es ++ lead_entry a ∷ [])
+  legal_led a none legal = (grows_by s es (lead_entry a)).legal inv.legal none legal
 
   after_led : (a : Action) → After s (es ++ lead_entry a ∷ []) ≡ after_action s lead st a
   after_led a = (grows_by s es (lead_entry a)).after
 
-  ground_led : (a : Action) (g' : Inside) → IsLegalEntry s st (lead_entry a) → length es < 4000000 → g'.script ≡ s
+  ground_led : (a : Action) (g' : Inside) → has_stalled es ≡ false → IsLegalEntry s st (lead_entry a) → length es < 4000000 → g'.script ≡ s
       → g'.journal.items ≡ es ++ lead_entry a ∷ []
       → Follows s (after_action s lead st a) g'.store.bodies g'.parcels g'.flags.items g'.time g'.loops → IsGround g'
-  ground_led a g' entry short same grown follows =
+  ground_led a g' none entry short same grown follows =
       let long : List Entry = es ++ lead_entry a ∷ [] in
       let here : Follows s (After s g'.journal.items) g'.store.bodies g'.parcels g'.flags.items g'.time g'.loops =
       subst (λ (fs : List Entry). Follows s (After s fs) g'.store.bodies g'.parcels g'.flags.items g'.time g'.loops) (sym grown)
       (subst (λ (x : State). Follows s x g'.store.bodies g'.parcels g'.flags.items g'.time g'.loops) (sym (after_led a)) follows) in
       record {
         script = subst MayRun (sym same) inv.script;
-        legal = subst (λ (x : Script). IsLegal x g'.journal.items) (sym same) (subst (IsLegal s) (sym grown) (legal_led a entry));
+        legal = subst (λ (x : Script). IsLegal x g'.journal.items) (sym same) (subst (IsLegal s) (sym grown) (legal_led a none entry));
         short = omega (arith, ap length grown, length-append es (lead_entry a ∷ []), short);
         follows = subst (λ (x : Script). Follows x (After x g'.journal.items) g'.store.bodies g'.parcels g'.flags.items g'.time g'.loops) (sym same) here;
       }
@@ -191,7 +180,7 @@ module _ (g : Inside) (inv : IsGround g) where
       → g'.store.bodies ≡ g.store.bodies → g'.parcels ≡ g.parcels → map flags_of g'.flags.items ≡ map (tick_flags time) (map flags_of g.flags.items) → g'.time ≡ time
       → g'.loops ≡ g.loops → IsGround g'
   tick_ground time g' due short same grown bodies parcels flags at loops =
-      ground_led (actions.Tick time) g' (tick_legal time due) short same grown
+      ground_led (actions.Tick time) g' (tick_unstalled (all_done s st) (has_stalled es) (all_sleep s st) (due_date s st) time due) (tick_legal time due) short same grown
       (rw (bodies, parcels, at, loops) (tick_follows time g'.flags.items flags))
 
   pub stall_ground : (g' : Inside) → lead_of (lead_next s es) ≡ leads.Stall → length es < 4000000 → g'.script ≡ s
@@ -199,47 +188,26 @@ module _ (g : Inside) (inv : IsGround g) where
       → g'.store.bodies ≡ g.store.bodies → g'.parcels ≡ g.parcels → g'.flags.items ≡ g.flags.items → g'.time ≡ g.time
       → g'.loops ≡ g.loops → IsGround g'
   stall_ground g' due short same grown bodies parcels flags at loops =
-      ground_led actions.Stall g' (stall_legal due) short same grown (rw (bodies, parcels, flags, at, loops) inv.follows)
+      ground_led actions.Stall g' (stall_unstalled (all_done s st) (has_stalled es) (all_sleep s st) (due_date s st) due) (stall_legal due) short same grown (rw (bodies, parcels, flags, at, loops) inv.follows)
 
-  led_view : (a : Action) (g' : Inside) → IsLegalEntry s st (lead_entry a)
+  led_view : (a : Action) (g' : Inside) → has_stalled es ≡ false → IsLegalEntry s st (lead_entry a)
       → (after_action s lead st a).stands ≡ st.stands → g'.script ≡ s → g'.journal.items ≡ es ++ lead_entry a ∷ []
       → vec_capacity g'.journal ≡ vec_capacity g.journal → HasPlaceFor (view_of g) → HasLed a (view_of g) (view_of g')
-  led_view a g' entry stands same grown capacity place = record {
+  led_view a g' none entry stands same grown capacity place = record {
     script = same;
     journal = grown;
     room = omega (arith, ap length grown, length-append es (lead_entry a ∷ []), place.room, capacity);
     stands = ap (λ (x : Script). (After x g'.journal.items).stands) same ∙ ap (λ (fs : List Entry). (After s fs).stands) grown ∙ ap (λ (x : State). x.stands) (after_led a) ∙ stands;
-    legal = subst (λ (x : Script). IsLegal x g'.journal.items) (sym same) (subst (IsLegal s) (sym grown) (legal_led a entry));
+    legal = subst (λ (x : Script). IsLegal x g'.journal.items) (sym same) (subst (IsLegal s) (sym grown) (legal_led a none entry));
     owned = subst (λ (x : Script). Owned x) (sym same) inv.script.owned;
   }
 
   pub tick_view : (time : ℕ) (g' : Inside) → IsTick (lead_of (lead_next s es)) time → g'.script ≡ s
       → g'.journal.items ≡ es ++ lead_entry (actions.Tick time) ∷ []
       → vec_capacity g'.journal ≡ vec_capacity g.journal → HasPlaceFor (view_of g) → HasLed (actions.Tick time) (view_of g) (view_of g')
-  tick_view time g' due same grown capacity place = led_view (actions.Tick time) g' (tick_legal time due) refl same grown capacity place
+  tick_view time g' due same grown capacity place = led_view (actions.Tick time) g' (tick_unstalled (all_done s st) (has_stalled es) (all_sleep s st) (due_date s st) time due) (tick_legal time due) refl same grown capacity place
 
   pub stall_view : (g' : Inside) → lead_of (lead_next s es) ≡ leads.Stall → g'.script ≡ s
       → g'.journal.items ≡ es ++ lead_entry actions.Stall ∷ []
       → vec_capacity g'.journal ≡ vec_capacity g.journal → HasPlaceFor (view_of g) → HasLed actions.Stall (view_of g) (view_of g')
-  stall_view g' due same grown capacity place = led_view actions.Stall g' (stall_legal due) refl same grown capacity place
-
--- ---- the last entry
-
-pub stall_found : (es : List Entry) (n : ℕ) (e : Entry) → slice_get es n ≡ Some e → has_stalled es ≡ false
-    → is_stall e.action ≡ false
-stall_found [] n e at none = absurd cc
-stall_found (f ∷ es) zero e at none =
-    let same : f ≡ e = cc in
-    ap (λ (x : Entry). is_stall x.action) (sym same) ∙ first_of (is_stall f.action) (has_stalled es) none
-  where
-    first_of : (a b : Bool) → (a || b) ≡ false → a ≡ false
-    first_of true b q = absurd cc
-    first_of false b q = refl
-stall_found (f ∷ es) (suc n) e at none = stall_found es n e at (second_of (is_stall f.action) (has_stalled es) none)
-  where
-    second_of : (a b : Bool) → (a || b) ≡ false → b ≡ false
-    second_of true b q = absurd cc
-    second_of false b q = q
-
-pub none_stalled : (g : Inside) → IsGround g → has_stalled g.journal.items ≡ false
-none_stalled g inv = never_stalled g.script g.journal.items inv.script.stage inv.legal
+  stall_view g' due same grown capacity place = led_view actions.Stall g' (stall_unstalled (all_done s st) (has_stalled es) (all_sleep s st) (due_date s st) due) (stall_legal due) refl same grown capacity place

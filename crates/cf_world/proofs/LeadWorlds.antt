@@ -1,15 +1,14 @@
 -- A world whose script has begun is one again after an entry of the lead, and callers see the entry.
-use Rattle.std.proofs.Common.{false, ◌≡◌, ℕ, ◌+◌, ◌<◌, ◌≤◌, ◌∙◌, List, [], ◌∷◌, ◌++◌, length, map, Option, Some, None, refl, sym, ap, subst, arith, length-append}
+use Rattle.std.proofs.Common.{false, ◌≡◌, ◌+◌, ◌<◌, ◌∙◌, List, [], ◌∷◌, length, refl, sym, ap, subst, arith, length-append}
 use Rattle.std.specs.Global.{Vec}
 use Rattle.cf_syntax.specs.declared.script.Script.{Script}
 use Rattle.cf_next.specs.declared.action.Action.{Action}
 use Rattle.cf_next.specs.Stands.{Stand}
 use Rattle.cf_next.specs.Standing.{Standing}
-use Rattle.cf_model.specs.declared.entry.Entry.{Entry}
 use Rattle.cf_world.specs.declared.begun.Begun.TheInside.{Inside}
-use Rattle.cf_world.specs.Worlds.{WorldView, led, IsLegalWorld}
-use Rattle.cf_world.specs.Grounds.{GroundView, state_of}
-use Rattle.cf_world.specs.Begun.{StandSo, AreFrames, IsBegun, view_of}
+use Rattle.cf_world.specs.Worlds.{led, IsLegalWorld}
+use Rattle.cf_world.specs.Grounds.{state_of}
+use Rattle.cf_world.specs.Begun.{StandSo, IsBegun, view_of}
 use Rattle.cf_world.specs.Leads.{HasPlaceFor, HasLed, lead_entry}
 
 pub has_place : (w : Inside) → IsBegun w → length w.ground.journal < w.limit → HasPlaceFor w.ground
@@ -32,6 +31,7 @@ module _ (w w' : Inside) (a : Action) (inv : IsBegun w) (h : HasLed a w.ground w
     few = rw gained inv.few;
     list_room = rw list inv.list_room;
     reserved = rw none tt;
+    lists = rw none tt;
   }
 
   pub led_is : view_of w' ≡ led a (view_of w)

@@ -1,6 +1,9 @@
 -- The files of lemmas of cf_world.
+pub mod Called
 pub mod Closing
+pub mod Collecting
 pub mod Counting
+pub mod Dealing
 pub mod Cutting
 pub mod Entered
 pub mod Forms
@@ -9,16 +12,20 @@ pub mod Growing
 pub mod LeadLaws
 pub mod LeadWorlds
 pub mod Looks
-pub mod Mirroring
 pub mod Moving
 pub mod Packing
+pub mod Passed
 pub mod Passing
 pub mod Placing
 pub mod Rooming
+pub mod Rounds
+pub mod Sourced
+pub mod Stalling
 pub mod Starting
 pub mod Stating
 pub mod Telling
 pub mod Waking
+pub mod Awaiting
 pub mod Begins
 pub mod EdgeLists
 pub mod Weighing

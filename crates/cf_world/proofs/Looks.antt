@@ -1,18 +1,17 @@
 -- What a thread does next, as it is looked up.
-use Rattle.std.proofs.Common.{◌≡◌, ℕ, zero, suc, ◌+◌, ◌-◌, ◌<◌, ◌≤◌, ◌∙◌, Bool, true, false, cond, List, [], ◌∷◌, length, Option, Some, None, get_or, Result, Ok, Err, refl, sym, ap, subst, arith}
+use Rattle.std.proofs.Common.{◌≡◌, ℕ, ◌+◌, ◌-◌, ◌<◌, ◌≤◌, ◌∙◌, Bool, true, false, cond, List, [], ◌∷◌, length, Option, Some, None, Ok, refl, sym, ap, subst, arith}
 use Rattle.std.proofs.lemmas.Bool.Decides.{nat_tests}
 use Rattle.std.specs.Prelude.{not, ◌&&◌, nat_le, IsTrue, slice_get}
 use Rattle.std.specs.Option.{option_map}
 use Rattle.cf_syntax.specs.declared.script.Script.{Script}
 use Rattle.cf_syntax.specs.declared.statement.Statement.{Statement}
-use Rattle.cf_syntax.specs.BlockLines.{says, thread_lines}
-use Rattle.cf_syntax.specs.Mentions.{makes_object}
+use Rattle.cf_syntax.specs.BlockLines.{says}
 use Rattle.cf_next.specs.declared.action.Action.{Action}
 use Rattle.cf_next.specs.declared.step.Step.{Step}
 use Rattle.cf_next.specs.declared.step.Step.TheVariants as steps
 use Rattle.cf_next.specs.Facts.{Facts}
-use Rattle.cf_next.specs.Stands.{of_block, of_handler, of_run, Kind, Frame, Stand}
-use Rattle.cf_next.specs.Demands.{Demand, does, demand, work_demand, call_demand, kind_demand, or_else, frame_demand, frame_lines}
+use Rattle.cf_next.specs.Stands.{Frame, Stand}
+use Rattle.cf_next.specs.Demands.{Demand, demand, work_demand, call_demand, kind_demand, or_else, frame_demand}
 use Rattle.cf_next.specs.Next.{action_in, action_if, block_of, lines_before, top_frame}
 use Rattle.cf_next.specs.Standing.{Standing}
 use Rattle.cf_next.specs.Steps.{IsStep, IsLine, demand_of}
@@ -21,71 +20,17 @@ use Rattle.cf_model.specs.declared.entry.Entry.{Entry}
 use Rattle.cf_model.specs.State.{State, flags_at, stand_at}
 use Rattle.cf_model.specs.Known.{facts_of}
 use Rattle.cf_model.specs.Coming.{next_retains}
-use Rattle.cf_model.specs.Steps.{demanded, frames_at}
-use Rattle.cf_model.specs.Stage.{IsPlainStand, IsPlainState, IsPlainDemand, is_claim, is_statement, is_pack, is_over, is_owed, is_slot}
-use Rattle.cf_model.specs.Journals.{After, Next, can_go, is_asleep, makes, makes_line, sleeps}
-use Rattle.cf_model.proofs.PlainStates.{plain_after, plain_demand}
-use Rattle.cf_world.specs.Worlds.{WorldView, act_in, next_below, next_in, next_of}
+use Rattle.cf_model.specs.Steps.{demanded}
+use Rattle.cf_model.specs.Journals.{After, Next, can_go, makes, makes_line, sleeps}
+use Rattle.cf_world.specs.Worlds.{next_below, next_of}
 use Rattle.cf_world.specs.Grounds.{GroundView, MayRun, known, state_of, statement_at}
 use Rattle.cf_world.specs.Entering.{MayAct}
-use Rattle.cf_world.specs.Kept.{IsKept, IsPlainStep, IsPlaced}
+use Rattle.cf_world.specs.Kept.{IsKept, IsPlaced}
 use Rattle.cf_world.specs.declared.next.Next.TheVariants as nexts
 use Rattle.cf_world.specs.declared.found.Reserved.{Reserved}
-use Rattle.cf_world.specs.Begun.{AreFrames, IsFound, IsLooked, standing_at}
+use Rattle.cf_world.specs.Begun.{AreFrames, IsLooked, standing_at}
 use Rattle.cf_world.proofs.Moving.{stand_here}
-use Rattle.cf_next.proofs.StatementLaws.{block_statement}
-
--- ---- a step is plain
-
-abbrev IsPlain : Demand → Type 0
-IsPlain d = (x : Step) → d ≡ demand_of x → IsPlainStep x
-
-plain_of : (d : Demand) (x : Step) → IsPlainDemand d → d ≡ demand_of x → IsPlainStep x
-plain_of d steps.Begins h e = no_begin d h e
-  where
-    no_begin : (d : Demand) → IsPlainDemand d → d ≡ demand_of steps.Begins → ⊥
-    no_begin _ (is_claim k v) e = absurd cc
-    no_begin _ (is_statement x of) e = absurd cc
-    no_begin _ (is_pack u k v) e = absurd cc
-    no_begin _ is_over e = absurd cc
-    no_begin _ (is_owed o) e = absurd cc
-    no_begin _ (is_slot b k o) e = absurd cc
-plain_of d (steps.Claims k v) h e = tt
-plain_of d (steps.Says y used n) h e = tt
-plain_of d (steps.Packs u k v) h e = tt
-plain_of d steps.Ends h e = tt
-plain_of d (steps.Owes o left) h e = tt
-plain_of d (steps.Drops b k o left) h e = tt
-plain_of _ steps.Returns (is_claim k v) e = absurd cc
-plain_of _ steps.Returns (is_statement x of) e = absurd cc
-plain_of _ steps.Returns (is_pack u k v) e = absurd cc
-plain_of _ steps.Returns is_over e = absurd cc
-plain_of _ steps.Returns (is_owed o) e = absurd cc
-plain_of _ steps.Returns (is_slot b k o) e = absurd cc
-plain_of _ (steps.Spends i left) (is_claim k v) e = absurd cc
-plain_of _ (steps.Spends i left) (is_statement x of) e = absurd cc
-plain_of _ (steps.Spends i left) (is_pack u k v) e = absurd cc
-plain_of _ (steps.Spends i left) is_over e = absurd cc
-plain_of _ (steps.Spends i left) (is_owed o) e = absurd cc
-plain_of _ (steps.Spends i left) (is_slot b k o) e = absurd cc
-plain_of _ (steps.Calls k h2 info left) (is_claim l v) e = absurd cc
-plain_of _ (steps.Calls k h2 info left) (is_statement x of) e = absurd cc
-plain_of _ (steps.Calls k h2 info left) (is_pack u l v) e = absurd cc
-plain_of _ (steps.Calls k h2 info left) is_over e = absurd cc
-plain_of _ (steps.Calls k h2 info left) (is_owed o) e = absurd cc
-plain_of _ (steps.Calls k h2 info left) (is_slot b l o) e = absurd cc
-plain_of _ (steps.Enters p) (is_claim k v) e = absurd cc
-plain_of _ (steps.Enters p) (is_statement x of) e = absurd cc
-plain_of _ (steps.Enters p) (is_pack u k v) e = absurd cc
-plain_of _ (steps.Enters p) is_over e = absurd cc
-plain_of _ (steps.Enters p) (is_owed o) e = absurd cc
-plain_of _ (steps.Enters p) (is_slot b k o) e = absurd cc
-plain_of _ steps.Closes (is_claim k v) e = absurd cc
-plain_of _ steps.Closes (is_statement x of) e = absurd cc
-plain_of _ steps.Closes (is_pack u k v) e = absurd cc
-plain_of _ steps.Closes is_over e = absurd cc
-plain_of _ steps.Closes (is_owed o) e = absurd cc
-plain_of _ steps.Closes (is_slot b k o) e = absurd cc
+use Rattle.cf_next.proofs.StatementLaws.{frame_statement}
 
 -- ---- a thread that demands nothing is done
 
@@ -253,10 +198,6 @@ module _ (g : GroundView) (t : ℕ) (frames : List Standing) (so : AreFrames g.s
   abbrev now : State
   now = state_of g
 
-  -- a thread of today's forms is in its block alone
-  pub plain_now : IsPlainState g.script now
-  plain_now = plain_after g.script g.journal runs.stage
-
   thread_is : f.thread ≡ t
   thread_is = ap (λ (h : Standing). h.thread) is ∙ so.thread t within
 
@@ -287,42 +228,39 @@ module _ (g : GroundView) (t : ℕ) (frames : List Standing) (so : AreFrames g.s
       → a ≡ action_in g.script (facts_of now) t (stand_at t now.stands).frames d
   action_here script a d same e = here (λ s u stand. a ≡ action_in s (known g) u stand.frames d) script same e
 
-  pub done_here : demanded g.script now t ≡ None → (stand_at t now.stands).is_done ≡ true
-  done_here e = let plain = plain_now.stands t within in none_is_done g.script (facts_of now) t (stand_at t now.stands) plain.top [] plain.frames e
+  -- there is a frame, and so a thread that demands nothing is done
+  pub done_here : (depth : ℕ) → length f.stand.frames ≡ depth + 1 → demanded g.script now t ≡ None
+      → (stand_at t now.stands).is_done ≡ true
+  done_here depth some e = by (stand_at t now.stands).frames refl
+    where
+      by : (fs : List Frame) → (stand_at t now.stands).frames ≡ fs → (stand_at t now.stands).is_done ≡ true
+      by [] none = absurd (omega (arith, some, ap (λ (x : Stand). length x.frames) stand_is, ap length none))
+      by (top ∷ rest) there = none_is_done g.script (facts_of now) t (stand_at t now.stands) top rest there e
 
   -- a thread that is not done does something next
-  pub goes_here : (limit : ℕ) → (flags_at t now.parts.flags).is_started ≡ true → sleeps now t ≡ false
+  pub goes_here : (limit depth : ℕ) → length f.stand.frames ≡ depth + 1 → (flags_at t now.parts.flags).is_started ≡ true → sleeps now t ≡ false
       → (stand_at t now.stands).is_done ≡ false
       → limit ≤ length g.journal → nexts.Limit ≡ next_of g.script limit g.journal t
-  goes_here limit started awake going at = by (demanded g.script now t) refl
+  goes_here limit depth some started awake going at = by (demanded g.script now t) refl
     where
       by : (o : Option Demand) → demanded g.script now t ≡ o → nexts.Limit ≡ next_of g.script limit g.journal t
-      by None e = let both = sym (done_here e) ∙ going in absurd cc
+      by None e = let both = sym (done_here depth some e) ∙ going in absurd cc
       by (Some d) e = looked_limit g limit t started awake d e at
 
   pub is_done_here : (b : Bool) → b ≡ f.stand.is_done → b ≡ (stand_at t now.stands).is_done
   is_done_here b e = e ∙ ap (λ (stand : Stand). stand.is_done) stand_is
 
-  pub plain_step : (x : Step) → IsStep g.script (facts_of now) t (stand_at t now.stands) x → IsPlainStep x
-  plain_step x h = plain_of (demand_of x) x (plain_demand g.script now t (demand_of x) runs.stage plain_now h.demand) refl
-
-  line_there : (fs : List Frame) (top : Frame) (x : Statement) (n b : ℕ) → fs ≡ top ∷ [] → top.kind ≡ of_block
-      → IsLine g.script (says x) fs
+  line_there : (fs : List Frame) (x : Statement) (n b : ℕ) → IsLine g.script (says x) fs
       → n ≡ (top_frame fs).number - lines_before g.script (top_frame fs).kind (top_frame fs).block
       → b ≡ block_of g.script (top_frame fs).kind (top_frame fs).block → statement_at g.script b n ≡ Some x
-  line_there fs top x n b e kind line number block =
-      let line_top : slice_get (frame_lines g.script top.kind top.block) top.number ≡ Some (says x) = subst (IsLine g.script (says x)) e line in
-      let line_block : slice_get (thread_lines g.script top.block) top.number ≡ Some (says x) = subst (λ (k : Kind). slice_get (frame_lines g.script k top.block) top.number ≡ Some (says x)) kind line_top in
-      let n_is : n ≡ top.number - lines_before g.script of_block top.block =
-      number ∙ ap (λ gs. (top_frame gs).number - lines_before g.script (top_frame gs).kind (top_frame gs).block) e ∙ ap (λ (k : Kind). top.number - lines_before g.script k top.block) kind in
-      let b_is : b ≡ top.block = block ∙ ap (λ gs. block_of g.script (top_frame gs).kind (top_frame gs).block) e ∙ ap (λ (k : Kind). block_of g.script k top.block) kind in
-      rw (n_is, b_is) (block_statement g.script top.block top.number x line_block)
+  line_there [] x n b line number block = absurd line
+  line_there (top ∷ rest) x n b line number block =
+      rw (number, block) (frame_statement g.script top.kind top.block top.number x line)
 
   pub placed_here : (x : Step) (b : ℕ) → IsStep g.script (facts_of now) t (stand_at t now.stands) x
       → b ≡ block_of g.script (top_frame (stand_at t now.stands).frames).kind (top_frame (stand_at t now.stands).frames).block → IsPlaced g.script b x
   placed_here (steps.Says y used n) b h block =
-      let plain = plain_now.stands t within in
-      line_there (stand_at t now.stands).frames plain.top y.now n b plain.frames plain.kind h.line.0 h.line.1.numbered block
+      line_there (stand_at t now.stands).frames y.now n b h.line.0 h.line.1.numbered block
   placed_here _ b h block = tt
 
 pub few_first : (m n : Bool) → m ≡ false → (m && n) ≡ false

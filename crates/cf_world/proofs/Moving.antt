@@ -1,23 +1,21 @@
 -- What an entry of a thread leaves of where the threads stand.
-use Rattle.std.proofs.Common.{◌≡◌, ℕ, zero, suc, ◌+◌, ◌<◌, ◌≤◌, ◌∙◌, ◌⊎◌, Bool, true, false, cond, List, [], ◌∷◌, ◌++◌, length, map, Option, Some, None, get_or, set, refl, sym, ap, subst, eqb, arith, inl, inr}
+use Rattle.std.proofs.Common.{◌≡◌, ℕ, zero, suc, ◌<◌, ◌≤◌, ◌∙◌, ◌⊎◌, Bool, true, false, cond, List, [], ◌∷◌, ◌++◌, length, map, Option, Some, None, get_or, set, refl, sym, ap, subst, arith, inl, inr}
 use Rattle.std.proofs.lemmas.List.{length-set, get_or_default, get_or-set_same, get_or-set_other}
 use Rattle.std.proofs.lemmas.Bool.{cases_eq}
 use Rattle.std.specs.Prelude.{◌&&◌, ◌==◌}
 use Rattle.std.specs.List.{All}
 use Rattle.cf_ids.specs.Ranges.{IsObjectNumber}
 use Rattle.cf_ids.specs.declared.answer.Answer.{Answer}
-use Rattle.cf_ids.specs.declared.answer.Answer.TheVariants as answers
 use Rattle.cf_syntax.specs.declared.script.Script.{Script}
 use Rattle.cf_syntax.proofs.BlockLaws.{owned_fits}
 use Rattle.cf_next.specs.declared.action.Action.{Action}
-use Rattle.cf_next.specs.declared.action.Action.TheVariants as actions
 use Rattle.cf_next.specs.Stands.{Stand}
 use Rattle.cf_next.specs.Standing.{Standing, HasRoom, HasRoomFor, is_retain}
 use Rattle.cf_next.specs.declared.step.Step.{Step as Found}
-use Rattle.cf_next.specs.Steps.{IsStep as Demands, StepRoom, StepLists, SaysRoom, SaysList, demand_of, is_retain_step, step_posts, says_retain}
+use Rattle.cf_next.specs.Steps.{IsStep as Demands, StepRoom, StepLists, is_retain_step, step_posts}
 use Rattle.cf_next.specs.Facts.{Facts}
 use Rattle.cf_next.specs.Demands.{Demand}
-use Rattle.cf_next.specs.Advance.{advanced, is_post}
+use Rattle.cf_next.specs.Advance.{advanced}
 use Rattle.cf_next.specs.Next.{action_in}
 use Rattle.cf_model.specs.declared.entry.Entry.{Entry}
 use Rattle.cf_model.specs.State.{State, at_or, with_at, blank, stand_at, with_stand}
@@ -102,11 +100,11 @@ if_room : (b : Bool) (P : Type 0) → P → cond b (Unit {0}) P
 if_room true P h = tt
 if_room false P h = h
 
-pub room_of_step : (x : Found) (f : Standing) → HasRoom 0 f → StepRoom x 0 f
-room_of_step x f h = if_room (is_retain_step x && (0 == 0)) (HasRoom 0 f) h
+pub room_of_step : (x : Found) (n : ℕ) (f : Standing) → HasRoom n f → StepRoom x n f
+room_of_step x n f h = if_room (is_retain_step x && (n == 0)) (HasRoom n f) h
 
-pub no_list : (x : Found) → StepLists x []
-no_list x = if_room (step_posts x) (All IsObjectNumber []) (λ k d h. absurd (omega arith))
+pub list_of_step : (x : Found) (list : List ℕ) → All IsObjectNumber list → StepLists x list
+list_of_step x list h = if_room (step_posts x) (All IsObjectNumber list) h
 
 pub room_two : (a : Action) (f : Standing) → is_retain a ≡ false → HasRoomFor a (most_listed a) f → HasRoom 2 f
 room_two a f plain h = by (is_retain a) plain h
@@ -116,12 +114,16 @@ room_two a f plain h = by (is_retain a) plain h
     by true e h = absurd cc
     by false e h = h
 
-pub less_room : (n : ℕ) (f : Standing) → n ≤ 2 → HasRoom 2 f → HasRoom n f
-less_room n f few h = record { frames = h.frames; bindings = h.bindings; callees = omega (arith, h.callees); work = omega (arith, h.work) }
+-- the same of so many
+pub room_for : (a : Action) (more : ℕ) (f : Standing) → is_retain a ≡ false → HasRoomFor a more f → HasRoom more f
+room_for a more f plain h = subst (λ (b : Bool). cond (b && (more == 0)) (Unit {0}) (HasRoom more f)) plain h
+
+pub less_room : (n more : ℕ) (f : Standing) → n ≤ more → HasRoom more f → HasRoom n f
+less_room n more f few h = record { frames = h.frames; bindings = h.bindings; callees = omega (arith, h.callees); work = omega (arith, h.work) }
 
 -- ---- the entry of a thread
 
-no_lead : (s : Script) (st : State) (t : ℕ) (a : Action) (x : Answer) → t < 64 → ActionView a
+pub no_lead : (s : Script) (st : State) (t : ℕ) (a : Action) (x : Answer) → t < 64 → ActionView a
     → IsLegalAs s st (record { thread = t; action = a; answer = x }) a → IsStep a
 no_lead s st t _ x within (is_tick n) h = absurd (omega (arith, within, h.0))
 no_lead s st t _ x within is_stall h = absurd (omega (arith, within, h.0))

@@ -1,36 +1,35 @@
 -- What entries tell that claim a place of a parcel, and that pack an object for one.
-use Rattle.std.proofs.Common.{◌≡◌, ◌≢◌, ℕ, zero, suc, ◌+◌, ◌<◌, ◌≤◌, ◌∙◌, Bool, true, false, cond, List, [], ◌∷◌, ◌++◌, length, map, Option, Some, None, eqb, get_or, set, get_or-set_same, get_or-set_other, length-set, refl, sym, ap, subst, arith, inl, inr}
+use Rattle.std.proofs.Common.{◌≡◌, ℕ, zero, suc, ◌<◌, ◌∙◌, List, [], ◌∷◌, ◌++◌, length, Option, Some, None, get_or, set, get_or-set_same, get_or-set_other, length-set, refl, sym, ap, subst, inl, inr}
 use Rattle.std.specs.Prelude.{slice_get, option_to_list}
-use Rattle.std.proofs.lemmas.Bool.{eq-eqb}
 use Rattle.std.proofs.lemmas.Bool.Decides.{eqb_tells}
-use Rattle.cf_ids.specs.declared.answer.Answer.{Answer}
 use Rattle.cf_ids.specs.declared.answer.Answer.TheVariants as answers
 use Rattle.rl_modes.specs.Loops.{Loop}
 use Rattle.cf_syntax.specs.declared.script.Script.{Script}
-use Rattle.cf_syntax.specs.BlockLines.{BlockLine, claims, packs, thread_block, uses_in, thread_lines}
+use Rattle.cf_syntax.specs.BlockLines.{BlockLine, begins, claims, packs, thread_block, uses_in, thread_lines, handler_lines, block_of_handler, statements_in}
 use Rattle.cf_syntax.specs.Owned.{FitsByBlock}
 use Rattle.cf_syntax.specs.Packs.{IsWithin}
-use Rattle.cf_syntax.proofs.PackLaws.{NoPack, threads_pack_nothing, packs_within, claims_within}
-use Rattle.cf_graph.specs.Holders.{Holder, variable, owed, parcel, same_holder}
-use Rattle.cf_graph.specs.Edges.{Reference, held_by, weigh, from_thread}
-use Rattle.cf_graph.specs.Flows.{Flow, grows, flowed}
+use Rattle.cf_syntax.proofs.StageLaws.{said_lines}
+use Rattle.cf_syntax.proofs.PackLaws.{threads_pack_nothing, packs_within, claims_within}
+use Rattle.cf_graph.specs.Holders.{Holder, variable, parcel}
+use Rattle.cf_graph.specs.Edges.{Reference, held_by}
+use Rattle.cf_graph.specs.Flows.{grows, flowed}
 use Rattle.cf_contents.specs.Stores.{Held}
-use Rattle.cf_next.specs.Stands.{Work, Kind, of_block, of_handler, of_run, Frame, Stand}
+use Rattle.cf_next.specs.Stands.{Work, Kind, of_block, of_handler, of_run, Frame}
 use Rattle.cf_next.specs.Demands.{Demand, does, frame_lines}
 use Rattle.cf_next.specs.Next.{object_at, top_frame}
 use Rattle.cf_model.specs.State.{State, stand_at, first_held}
 use Rattle.cf_model.specs.Known.{facts_of}
-use Rattle.cf_model.specs.Own.{own_reference, own_references, without_if, moves_to}
+use Rattle.cf_model.specs.Own.{own_reference, moves_to}
 use Rattle.cf_model.specs.Parcels.{HasOneAtMost}
-use Rattle.cf_model.specs.Stage.{IsPlainStand, IsPlainState}
-use Rattle.cf_model.specs.Steps.{Step, idle, flowing, claim_step, pack_step, packed_holder, step_of, frames_at, bindings_of, depth_of, demanded}
+use Rattle.cf_model.specs.Steps.{idle, flowing, claim_step, pack_step, packed_holder, step_of, frames_at, bindings_of, depth_of, demanded}
 use Rattle.cf_model.specs.Journals.{MayTake, MayUseAll, takes, uses_if}
-use Rattle.cf_model.proofs.FirstHeld.{PassesBy, NoParcel, parcel_other, parcel_apart, first_other, first_moved, first_moved_here}
+use Rattle.cf_model.proofs.FirstHeld.{parcel_other, parcel_apart, first_moved, first_moved_here}
 use Rattle.cf_model.proofs.LegalSteps.{packed_is_own}
 use Rattle.cf_model.proofs.OwnLaws.{IsOf, OwnIs, own_is}
+use Rattle.cf_model.proofs.Parcels.{OwnBlocks}
 use Rattle.cf_model.proofs.Using.{IsSound, demand_may}
 use Rattle.cf_model.proofs.Views.{FrameView, StandView, WorkView, is_call, is_close, is_end, is_line, is_phase, is_return, first_drops, first_owes, first_spends, of_frame, of_work, stand_view}
-use Rattle.cf_world.specs.declared.flags.Flags.{Flags}
+use Rattle.cf_scene.specs.declared.flags.Flags.{Flags}
 use Rattle.cf_world.specs.Grounds.{parcel_at, HasPlaces, Follows}
 use Rattle.cf_world.specs.Entering.{answer_for, packed_rows}
 use Rattle.cf_world.proofs.Passing.{KeepsLoops}
@@ -72,7 +71,7 @@ module _ (rows : List (List (Option ℕ))) (t k : ℕ) (object : Option ℕ) (th
 
 -- ---- the lines of parcels
 
-module _ (s : Script) (t : ℕ) (st : State) (plain : IsPlainStand t (stand_at t st.stands)) where
+module _ (s : Script) (t : ℕ) (st : State) (blocks : OwnBlocks t (frames_at t st)) where
   abbrev IsLineAt : BlockLine → Type 0
   IsLineAt x = (n : ℕ) × (slice_get (thread_lines s t) n ≡ Some x)
 
@@ -83,15 +82,39 @@ module _ (s : Script) (t : ℕ) (st : State) (plain : IsPlainStand t (stand_at t
   line_same : (x y : BlockLine) → ◌≡◌ {A = Option BlockLine} (Some y) (Some x) → y ≡ x
   line_same x y e = cc
 
-  by_frame : (x : BlockLine) (f : Frame) (d : Demand) → f.kind ≡ of_block → f.block ≡ t → line_of d ≡ Some x
+  -- a line that a handler has too is of none of these kinds
+  abbrev IsOfThread : BlockLine → Type 0
+  IsOfThread (claims k v) = Unit {0}
+  IsOfThread (packs u k v) = Unit {0}
+  IsOfThread _ = ⊥
+
+  no_handler : (h n : ℕ) (x : BlockLine) → IsOfThread x → slice_get (handler_lines s h) n ≡ Some x → ⊥
+  no_handler h zero x of e = first x of e
+    where
+      first : (x : BlockLine) → IsOfThread x → ◌≡◌ {A = Option BlockLine} (Some (begins 0)) (Some x) → ⊥
+      first (claims k v) of e = cc
+      first (packs u k v) of e = cc
+      first _ of e = of
+  no_handler h (suc n) x of e = said_lines (λ y. IsOfThread y → ⊥) (statements_in (block_of_handler s h)) (λ m y is. λ h. h) n x e of
+
+  own_block : (f : Frame) (fs : List Frame) → OwnBlocks t (f ∷ fs) → f.kind ≡ of_block → f.block ≡ t
+  own_block f fs own e = (rw e at own).0
+
+  by_kind : (x : BlockLine) (k : Kind) (b n : ℕ) → IsOfThread x → (k ≡ of_block → b ≡ t)
+      → slice_get (frame_lines s k b) n ≡ Some x → IsLineAt x
+  by_kind x of_block b n of own at = (n, subst (λ (c : ℕ). slice_get (thread_lines s c) n ≡ Some x) (own refl) at)
+  by_kind x (of_handler k) b n of own at = absurd (no_handler b n x of at)
+  by_kind x (of_run r) b n of own at = absurd cc
+
+  by_frame : (x : BlockLine) (f : Frame) (d : Demand) → IsOfThread x → (f.kind ≡ of_block → f.block ≡ t) → line_of d ≡ Some x
       → FrameView s (facts_of st) t f d → IsLineAt x
-  by_frame x f _ kind block e (is_line y at) =
-      (f.number, ap (λ (b : ℕ). slice_get (thread_lines s b) f.number) (sym block) ∙ subst (λ (k : Kind). slice_get (frame_lines s k f.block) f.number ≡ Some y) kind at ∙ e)
-  by_frame x f _ kind block e (is_call k called found) = absurd cc
-  by_frame x f _ kind block e (is_end k) = absurd cc
-  by_frame x f _ kind block e (is_return k q end) = absurd cc
-  by_frame x f _ kind block e (is_phase r p q) = absurd cc
-  by_frame x f _ kind block e (is_close r q) = absurd cc
+  by_frame x f _ of own e (is_line y at) =
+      by_kind x f.kind f.block f.number of own (at ∙ e)
+  by_frame x f _ of own e (is_call k called found) = absurd cc
+  by_frame x f _ of own e (is_end k) = absurd cc
+  by_frame x f _ of own e (is_return k q end) = absurd cc
+  by_frame x f _ of own e (is_phase r p q) = absurd cc
+  by_frame x f _ of own e (is_close r q) = absurd cc
 
   by_work : (x : BlockLine) (work : List Work) (d : Demand) → line_of d ≡ Some x → WorkView (facts_of st) work d
       → IsLineAt x
@@ -99,19 +122,14 @@ module _ (s : Script) (t : ℕ) (st : State) (plain : IsPlainStand t (stand_at t
   by_work x work _ e (first_spends i first) = absurd cc
   by_work x work _ e (first_drops b k p left first) = absurd cc
 
-  first_same : (f g : Frame) (fs gs : List Frame) → ◌≡◌ {A = List Frame} (f ∷ fs) (g ∷ gs) → f ≡ g
-  first_same f g fs gs e = cc
-
-  by_stand : (x : BlockLine) (d : Demand) → line_of d ≡ Some x → StandView s (facts_of st) t (stand_at t st.stands) d
-      → IsLineAt x
-  by_stand x d e (of_work w view) = by_work x (stand_at t st.stands).work d e view
-  by_stand x d e (of_frame f fs w q view) =
-      let top : plain.top ≡ f = first_same plain.top f [] fs (sym plain.frames ∙ q) in
-      by_frame x f d (ap (λ (g : Frame). g.kind) (sym top) ∙ plain.kind) (ap (λ (g : Frame). g.block) (sym top) ∙ plain.block) e view
+  by_stand : (x : BlockLine) (d : Demand) → IsOfThread x → line_of d ≡ Some x
+      → StandView s (facts_of st) t (stand_at t st.stands) d → IsLineAt x
+  by_stand x d of e (of_work w view) = by_work x (stand_at t st.stands).work d e view
+  by_stand x d of e (of_frame f fs w q view) = by_frame x f d of (own_block f fs (subst (OwnBlocks t) q blocks)) e view
 
   -- a line that a thread demands is one of its block
-  pub line_at : (x : BlockLine) → demanded s st t ≡ Some (does x) → IsLineAt x
-  line_at x e = by_stand x (does x) refl (stand_view s (facts_of st) t (stand_at t st.stands) (does x) e)
+  pub line_at : (x : BlockLine) → IsOfThread x → demanded s st t ≡ Some (does x) → IsLineAt x
+  line_at x of e = by_stand x (does x) of refl (stand_view s (facts_of st) t (stand_at t st.stands) (does x) e)
 
   setup_packs : (u k : ℕ) (v : Option ℕ) (w n : ℕ) → slice_get (thread_lines s w) n ≡ Some (packs u k v)
       → IsWithin s u k
@@ -119,10 +137,10 @@ module _ (s : Script) (t : ℕ) (st : State) (plain : IsPlainStand t (stand_at t
   setup_packs u k v (suc w) n at = absurd (threads_pack_nothing s w n (packs u k v) at)
 
   pub pack_within : (u k : ℕ) (v : Option ℕ) → demanded s st t ≡ Some (does (packs u k v)) → IsWithin s u k
-  pack_within u k v e = let at = line_at (packs u k v) e in setup_packs u k v t at.0 at.1
+  pack_within u k v e = let at = line_at (packs u k v) tt e in setup_packs u k v t at.0 at.1
 
   pub claim_within : (k v : ℕ) → demanded s st t ≡ Some (does (claims k v)) → k < length (uses_in (thread_block s t))
-  claim_within k v e = let at = line_at (claims k v) e in claims_within s t at.0 k v at.1
+  claim_within k v e = let at = line_at (claims k v) tt e in claims_within s t at.0 k v at.1
 
 -- ---- what a claim and a pack leave
 

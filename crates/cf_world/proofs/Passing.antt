@@ -1,7 +1,7 @@
 -- What a demand leaves as it is: the kinds of items, the common modes and the registrations; and so the loops stay
 -- those of the state, but for the demands that move references of their places.
-use Rattle.std.proofs.Common.{◌≡◌, ℕ, ◌∙◌, Bool, true, false, cond, List, [], ◌∷◌, ◌++◌, Option, Some, None, refl, sym, ap, subst}
-use Rattle.std.specs.Prelude.{slice_get, ◌==◌}
+use Rattle.std.proofs.Common.{◌≡◌, ℕ, ◌∙◌, Bool, true, false, cond, List, Option, Some, None, refl, sym, ap, subst}
+use Rattle.std.specs.Prelude.{◌==◌}
 use Rattle.rl_modes.specs.Loops.{Loop}
 use Rattle.rl_turn.specs.declared.phases.Phase.{Phase}
 use Rattle.rl_turn.specs.declared.phases.Phase.TheVariants as phases
@@ -22,16 +22,16 @@ use Rattle.cf_contents.specs.Items.{Item, source_item, timer_item, observer_item
 use Rattle.cf_contents.specs.Keys.{numbered}
 use Rattle.cf_contents.specs.Deeds.{Change, in_item, with_change}
 use Rattle.cf_contents.proofs.FormLaws.{form_fits, ChangesNoItem}
-use Rattle.cf_next.specs.Facts.{Callout, Facts}
-use Rattle.cf_next.specs.Stands.{Binding, Work, Callee, Frame, Kind, of_block, of_handler, of_run, Turn, Stand, item_of, has_run}
-use Rattle.cf_next.specs.Demands.{Demand, does, ends, returns, owes, spends, drops, calls, enters, closes, frame_lines}
+use Rattle.cf_next.specs.Facts.{Facts}
+use Rattle.cf_next.specs.Stands.{Binding, Work, Frame, Kind, of_block, of_handler, of_run, Turn, item_of, has_run}
+use Rattle.cf_next.specs.Demands.{Demand, does, ends, returns, owes, spends, drops, calls, enters, closes}
 use Rattle.cf_next.specs.Advance.{top_kind}
 use Rattle.cf_next.specs.Next.{object_at, used_objects, action_in}
 use Rattle.cf_model.specs.State.{State, Parts, Flags, Sleeping, awake, first_held, stand_at, flags_at}
 use Rattle.cf_model.specs.Known.{facts_of}
 use Rattle.cf_model.specs.Things.{Thing, thing_at}
 use Rattle.cf_model.specs.Deals.{Deal, with_used, with_thing, thing_deal, with_item, signal_source, signal_deal, stop_deal, okay, answering, wake_parts, change_deal, change_unless_skipped, deal_of}
-use Rattle.cf_model.specs.Steps.{fired, idle, sleeping, start_all, fire, fire_if, retain_step, cut_step, release_step, claim_step, pack_step, packed_holder, statement_step, line_step, end_step, sleep_step, unwoken_step, turn_step, phase_step, close_step, step_of, step_answer, frames_at, bindings_of, depth_of, demanded, done_by}
+use Rattle.cf_model.specs.Steps.{fired, idle, sleeping, start_all, fire, fire_if, retain_step, release_step, claim_step, pack_step, packed_holder, statement_step, line_step, sleep_step, unwoken_step, phase_step, close_step, step_of, step_answer, frames_at, bindings_of, depth_of, demanded, done_by}
 use Rattle.cf_model.specs.Stage.{deed_in}
 use Rattle.cf_model.specs.Journals.{owners_of}
 use Rattle.cf_model.proofs.Acting.{demand_fits}

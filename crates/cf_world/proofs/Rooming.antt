@@ -1,8 +1,8 @@
 -- Room that is made for what was found keeps what was found.
-use Rattle.std.proofs.Common.{◌≡◌, ℕ, zero, suc, ◌+◌, ◌<◌, ◌≤◌, ◌∙◌, ◌⊎◌, Bool, true, false, cond, List, [], ◌∷◌, length, map, Option, Some, None, get_or, set, refl, sym, ap, subst, arith, inl, inr}
+use Rattle.std.proofs.Common.{◌≡◌, ℕ, zero, suc, ◌<◌, ◌≤◌, ◌∙◌, ◌⊎◌, Bool, true, false, cond, List, [], ◌∷◌, length, map, Result, Ok, Err, Option, Some, None, get_or, set, sym, ap, subst, arith, inl, inr}
 use Rattle.std.proofs.lemmas.List.{length-set, get_or-set_same, get_or-set_other}
 use Rattle.std.proofs.lemmas.Bool.{cases_eq}
-use Rattle.std.specs.Prelude.{◌&&◌, ◌==◌, IfSome, IsTrue}
+use Rattle.std.specs.Prelude.{◌&&◌, ◌==◌, IfSome, IsTrue, OnOk}
 use Rattle.cf_syntax.specs.declared.script.Script.{Script}
 use Rattle.cf_syntax.specs.declared.statement.Statement.{Statement}
 use Rattle.cf_syntax.specs.declared.mention.Ownership.{Ownership}
@@ -18,11 +18,11 @@ use Rattle.cf_model.specs.State.{State, stand_at}
 use Rattle.cf_model.specs.Known.{facts_of}
 use Rattle.cf_model.specs.Journals.{After, Next, makes}
 use Rattle.cf_world.specs.Grounds.{GroundView, MayRun, deed_of, state_of, statement_at}
-use Rattle.cf_world.specs.Entering.{MayAct}
 use Rattle.cf_world.specs.Kept.{IsKept}
 use Rattle.cf_world.specs.declared.found.Found.{Found}
 use Rattle.cf_world.specs.declared.found.Found.TheVariants as kept
 use Rattle.cf_world.specs.declared.found.Reserved.{Reserved}
+use Rattle.cf_world.proofs.Moving.{less_room}
 use Rattle.cf_world.specs.Begun.{AreFrames, IsFound, IsNeeded, IsReady, IsReadyFor, IsReserved, NeedsDeed, ReadyIf, StandSo, has_deed, most_listed, nobody, standing_at}
 
 -- what was found does not ask for the bodies' room
@@ -154,3 +154,20 @@ pub frames_stay : (g g' : GroundView) (frames : List Standing) → g'.script ≡
     → AreFrames g.script (state_of g) frames → AreFrames g'.script (state_of g') frames
 frames_stay g g' frames script journal h =
     subst (λ (s : Script). AreFrames s (After s g'.journal) frames) (sym script) (subst (λ (es : List Entry). AreFrames g.script (After g.script es) frames) (sym journal) h)
+
+-- ---- room that is made
+
+-- what is so if something is made
+pub on_ok : {T E : Type 0} (x : Result T E) {P Q : Type 0} → (P → Q) → OnOk x P → OnOk x Q
+on_ok (Ok v) f h = f h
+on_ok (Err e) f h = tt
+
+-- room for as many as an entry lists at most is room for the few of an action
+pub room_listed : (a : Action) (more : ℕ) (f : Standing) → most_listed a ≤ more → HasRoomFor a more f
+    → HasRoomFor a (most_listed a) f
+room_listed a more f le h = by (is_retain a) le h
+  where
+    by : (b : Bool) → cond {A = ℕ} b 0 2 ≤ more → cond (b && (more == 0)) (Unit {0}) (HasRoom more f)
+        → cond (b && (cond {A = ℕ} b 0 2 == 0)) (Unit {0}) (HasRoom (cond {A = ℕ} b 0 2) f)
+    by true le h = tt
+    by false le h = less_room 2 more f le h

@@ -5,7 +5,7 @@ use Rattle.std.proofs.lemmas.List.{map-append, get_or_push}
 use Rattle.std.proofs.lemmas.List.FromFn.{map-range_with_len_more}
 use Rattle.std.proofs.lemmas.Bool.{cases_eq}
 use Rattle.cf_syntax.specs.declared.script.Script.{Script}
-use Rattle.cf_next.specs.Stands.{Stand, opening_stand}
+use Rattle.cf_next.specs.Stands.{opening_stand}
 use Rattle.cf_next.specs.Standing.{Standing}
 use Rattle.cf_model.specs.State.{start}
 use Rattle.cf_world.specs.Begun.{StandSo, nobody, standing_at}

@@ -1,12 +1,12 @@
 -- What the entry of a statement that binds a variable or acts on bodies leaves: the bodies mirror the state after it, and
 -- the parcels, the flags and the time are as they were.
-use Rattle.std.proofs.Common.{◌≡◌, ℕ, zero, suc, ◌+◌, ◌<◌, ◌≤◌, ◌∙◌, Bool, true, false, cond, List, [], ◌∷◌, ◌++◌, length, map, Option, Some, None, refl, sym, ap, subst, arith, length-append}
+use Rattle.std.proofs.Common.{◌≡◌, ℕ, zero, suc, ◌<◌, ◌∙◌, Bool, true, false, cond, List, [], ◌∷◌, ◌++◌, length, map, Option, Some, None, refl, sym, ap, subst, arith}
 use Rattle.std.specs.Prelude.{slice_get, IfSome, IsSome}
 use Rattle.cf_ids.specs.declared.answer.Answer.{Answer}
 use Rattle.cf_syntax.specs.declared.script.Script.{Script}
 use Rattle.cf_syntax.specs.declared.statement.Statement.{Statement}
 use Rattle.cf_syntax.specs.declared.mention.Ownership.{Ownership}
-use Rattle.cf_syntax.specs.declared.mention.Ownership.TheVariants.{Keeps, Binds}
+use Rattle.cf_syntax.specs.declared.mention.Ownership.TheVariants.{Binds}
 use Rattle.cf_syntax.specs.Mentions.{ownership_of, first_of, used_at, makes_object}
 use Rattle.cf_syntax.specs.BlockLines.{says}
 use Rattle.cf_syntax.specs.Stage.{is_of_stage}
@@ -15,20 +15,19 @@ use Rattle.cf_graph.specs.Edges.{Reference, held_by, held_if}
 use Rattle.cf_graph.specs.Flows.{grows, flowed, gained_by}
 use Rattle.cf_contents.specs.Contents.{Object, present, times}
 use Rattle.cf_contents.specs.Keys.{numbered}
-use Rattle.cf_contents.specs.Deeds.{Origin, nowhere, fresh, there, Change, unchanged, Deed, deed_at, object_of, taken_in, given_out}
+use Rattle.cf_contents.specs.Deeds.{Origin, nowhere, fresh, there, Change, unchanged, Deed, object_of, taken_in, given_out}
 use Rattle.cf_contents.specs.Stores.{Held, Ready, objects_of, bodies_changed, live}
 use Rattle.cf_contents.proofs.SlotLaws.{MakesEmpty}
 use Rattle.cf_contents.proofs.FormLaws.{form_fits, Fits, MakesOnly, ChangesFor}
 use Rattle.cf_next.specs.declared.action.Action.{Action}
 use Rattle.cf_next.specs.Demands.{Demand, does}
-use Rattle.cf_next.specs.Next.{used_objects}
 use Rattle.cf_model.specs.declared.entry.Entry.{Entry}
-use Rattle.cf_model.specs.State.{State, Parts, first_held}
-use Rattle.cf_model.specs.Deals.{Deal, change_deal, change_unless_skipped, deal_of, posts_of}
-use Rattle.cf_model.specs.Steps.{Step, Made, item_made, Bound, bound_if, bound_of, found, made_from, new_slots, object_answer, bind_step, deal_step, statement_step, step_of, step_answer, step_finals, frames_at, bindings_of, depth_of, demanded, done_by, answer_if}
+use Rattle.cf_model.specs.State.{State, first_held}
+use Rattle.cf_model.specs.Deals.{Deal, change_deal, deal_of, posts_of}
+use Rattle.cf_model.specs.Steps.{Step, Made, bound_if, found, new_slots, object_answer, bind_step, deal_step, statement_step, step_of, step_answer, step_finals, frames_at, depth_of, demanded, done_by, answer_if}
 use Rattle.cf_model.specs.Flowing.{flow_if}
-use Rattle.cf_model.specs.Journals.{After, makes, makes_line}
-use Rattle.cf_model.specs.Stage.{IsPlainState, IsPlainDemand, is_claim, is_statement, is_pack, is_over, is_owed, is_slot, deed_in, DealsPlainly}
+use Rattle.cf_model.specs.Journals.{After, makes_line}
+use Rattle.cf_model.specs.Stage.{IsPlainDemand, is_claim, is_statement, is_pack, is_over, is_owed, is_slot, deed_in, DealsPlainly}
 use Rattle.cf_model.proofs.FirstHeld.{first_flowed}
 use Rattle.cf_model.proofs.Finality.{kept as kept_steady}
 use Rattle.cf_model.proofs.Limiting.{few_of_legal}
@@ -40,13 +39,13 @@ use Rattle.cf_store.specs.Applies.{origin_of}
 use Rattle.cf_world.specs.declared.ground.Ground.TheInside.{Inside}
 use Rattle.cf_world.specs.Bindings.{found_in, bodies_from, MayMake}
 use Rattle.cf_world.specs.Worlds.{entry_of}
-use Rattle.cf_world.specs.Grounds.{Mirrors, Follows, IsGround, view_of, state_of, deed_of}
-use Rattle.cf_world.specs.Entering.{MayAct, IsDeed, IsBinding, demand_in, gained_in, listed_if, listed_in, used_in}
+use Rattle.cf_world.specs.Grounds.{Mirrors, Follows, IsGround, view_of, deed_of}
+use Rattle.cf_world.specs.Entering.{MayAct, IsDeed, IsBinding, gained_in, listed_if, listed_in, used_in}
 use Rattle.cf_world.proofs.Growing.{follows_step, passes_held}
 use Rattle.cf_syntax.proofs.BlockLaws.{owned_fits}
 use Rattle.cf_model.proofs.Sound.{sound}
 use Rattle.cf_world.proofs.Passing.{KeepsLoops, keeps_loops, said_of_stage, staged_leave, binds_leave}
-use Rattle.cf_world.proofs.Mirroring.{AreMirrored, mirrored, mirrors_by, mirrored_changed, mirrored_made, bodies_unchanged, count-mirrors}
+use Rattle.cf_scene.proofs.Mirroring.{AreMirrored, mirrored, mirrors_by, mirrored_changed, mirrored_made, bodies_unchanged, count-mirrors}
 
 if_some : {A : Type 0} (o : Option A) (x : A) (P : A → Type 0) → o ≡ Some x → IfSome o P → P x
 if_some o x P e h = subst (λ q. IfSome q P) e h

@@ -1,34 +1,29 @@
 -- What a ground tells is what the state after its journal says.
-use Rattle.std.proofs.Common.{◌≡◌, ℕ, zero, suc, ◌+◌, ◌-◌, ◌<◌, ◌≤◌, ◌∙◌, Bool, true, false, ◌&&◌, ◌||◌, not, cond, List, [], ◌∷◌, ◌++◌, length, map, drop, get_or, Result, Ok, Err, Option, Some, None, refl, sym, ap, subst, eqb, ltb, leb, ◌==◌, arith, inl, inr}
+use Rattle.std.proofs.Common.{◌≡◌, ℕ, zero, suc, ◌+◌, ◌-◌, ◌<◌, ◌∙◌, List, [], ◌∷◌, ◌++◌, length, map, get_or, Result, Ok, Err, Option, Some, None, refl, sym, ap, subst, ◌==◌, arith}
 use Rattle.std.specs.Prelude.{slice_get, slice_index_or, IfSome, OnOk}
 use Rattle.std.specs.Option.{option_map}
-use Rattle.std.specs.List.{list_any, range_with_len}
+use Rattle.std.specs.List.{range_with_len}
 use Rattle.std.proofs.lemmas.List.{length-map, map-append}
 use Rattle.std.proofs.lemmas.List.FromFn.{map-range_with_len_more}
-use Rattle.std.proofs.lemmas.Bool.Decides.{nat_tests, eqb_tells}
-use Rattle.cf_syntax.specs.declared.script.Script.{Script}
 use Rattle.cf_syntax.specs.declared.statement.Statement.{Statement}
-use Rattle.cf_graph.specs.Holders.{parcel}
-use Rattle.cf_contents.specs.Contents.{Content, item_content, Object, times, slots_at}
+use Rattle.cf_contents.specs.Contents.{Content, item_content, Object}
 use Rattle.cf_contents.specs.Deeds.{deed_at, first_of}
 use Rattle.cf_body.specs.Items.{ItemView, item_in, seen_of}
 use Rattle.cf_body.specs.declared.item.LoopItem.{LoopItem}
 use Rattle.cf_store.specs.Sources.{item_at}
-use Rattle.cf_contents.specs.Stores.{objects_of, Held, MayGrow, Ready, is_live_in, given_up_in, left_in, ready_deed}
-use Rattle.cf_next.specs.Facts.{Callout}
+use Rattle.cf_contents.specs.Stores.{objects_of, Held, MayGrow, Ready, ready_deed}
 use Rattle.cf_model.specs.declared.entry.Entry.{Entry}
-use Rattle.cf_model.specs.State.{State, Parts, left_of, first_held, start, flags_at, flags_of as fresh_flags}
+use Rattle.cf_model.specs.State.{State, Parts, flags_at, flags_of as fresh_flags}
 use Rattle.cf_model.specs.Things.{Thing, thing_in, thing_of, thing_at}
-use Rattle.cf_model.specs.Known.{receiver_in, slot_left, facts_of}
-use Rattle.cf_model.specs.Journals.{After, IsLegal}
+use Rattle.cf_model.specs.Known.{receiver_in}
+use Rattle.cf_model.specs.Journals.{After}
 use Rattle.cf_model.specs.Stage.{IsPlainState}
 use Rattle.cf_model.proofs.Adding.{are_few}
 use Rattle.cf_model.proofs.PlainStates.{plain_after}
-use Rattle.cf_world.specs.declared.flags.Flags.{Flags}
+use Rattle.cf_scene.specs.declared.flags.Flags.{Flags}
 use Rattle.cf_world.specs.declared.ground.Ground.TheInside.{Inside}
-use Rattle.cf_world.specs.Grounds.{GroundView, Mirrors, parcel_at, HasPlaces, HoldsParcels, AreFirst, Follows, MayRun, IsGround, deed_of, flags_of, known, state_of}
+use Rattle.cf_world.specs.Grounds.{IsGround, deed_of, flags_of}
 use Rattle.cf_world.specs.Entering.{IsLastAnswer}
-use Rattle.cf_world.proofs.Mirroring.{left-mirrors, mirrored}
 
 -- ---- items
 

@@ -2,6 +2,7 @@
 use Rattle.std.specs.Prelude.{◌≡◌, ℕ, ◌+◌, ◌<◌, ◌≤◌, Bool, true, false, List, [], ◌∷◌, length, map, Option, Some, None, Result, Ok, Err, slice_index_or, vec_capacity, cond}
 use Rattle.std.specs.Option.{option_map}
 use Rattle.cf_ids.specs.declared.answer.Answer.{Answer}
+use Rattle.cf_ids.specs.declared.answer.Answer.TheVariants as answers
 use Rattle.cf_ids.specs.declared.answer.Ended.{Ended}
 use Rattle.cf_ids.specs.declared.answer.Ended.TheVariants.{More, Last}
 use Rattle.cf_syntax.specs.declared.script.Script.{Script}
@@ -9,8 +10,12 @@ use Rattle.cf_syntax.specs.declared.statement.Statement.{Statement}
 use Rattle.cf_syntax.specs.declared.mention.Ownership.{Ownership}
 use Rattle.cf_syntax.specs.declared.mention.Ownership.TheVariants.{Keeps, Binds, Retains, Releases}
 use Rattle.cf_syntax.specs.Mentions.{ownership_of}
-use Rattle.cf_next.specs.Stands.{Stand}
-use Rattle.cf_next.specs.Standing.{Standing, HasRoomFor, finals_in, is_retain}
+use Rattle.rl_turn.specs.declared.phases.Phase.{Phase}
+use Rattle.rl_turn.specs.declared.phases.Phase.TheVariants as phases
+use Rattle.cf_next.specs.Stands.{Stand, Turn}
+use Rattle.cf_next.specs.Standing.{Standing, HasRoomFor, finals_in, innermost_run, is_retain}
+use Rattle.cf_next.specs.declared.parts.Callee.{Callee as CodeCallee}
+use Rattle.cf_next.specs.declared.object.MaybeObject.{MaybeObject}
 use Rattle.cf_next.specs.Advance.{advanced}
 use Rattle.cf_next.specs.Steps.{demand_of, step_cut}
 use Rattle.cf_next.specs.declared.step.Step.{Step}
@@ -18,8 +23,10 @@ use Rattle.cf_next.specs.declared.action.Action.{Action}
 use Rattle.cf_next.specs.Views.{objects_of}
 use Rattle.cf_model.specs.State.{State, blank, stand_at, with_stand}
 use Rattle.cf_model.specs.Known.{facts_of}
-use Rattle.cf_model.specs.Journals.{Next, makes}
-use Rattle.cf_world.specs.Worlds.{WorldView, act_in, next_of}
+use Rattle.cf_model.specs.Steps.{result_answer}
+use Rattle.cf_model.specs.Things.{collected_of, items_in}
+use Rattle.cf_scene.specs.Dealing.{spending}
+use Rattle.cf_world.specs.Worlds.{WorldView, next_of}
 use Rattle.cf_world.specs.Grounds.{GroundView, MayRun, state_of, deed_of, statement_at}
 use Rattle.cf_world.specs.Entering.{HasEntered, MayAct}
 use Rattle.cf_world.specs.Kept.{IsKept}
@@ -129,12 +136,12 @@ AreFrames s st frames = StandSo s st.stands frames
 abbrev pub HasMoved : Script → List Stand → ℕ → Stand → List Standing → Type 0
 HasMoved s stands t stand frames = StandSo s (with_stand t stand stands) frames
 
--- a thread has moved by a step that is no statement, with its answer
-abbrev pub MovesBy : GroundView → ℕ → Answer → List Standing → Step → Type 0
-MovesBy g t answer frames x =
+-- a thread has moved by a step that is no statement, with its answer and what it collected
+abbrev pub MovesBy : GroundView → ℕ → Answer → List ℕ → List Standing → Step → Type 0
+MovesBy g t answer list frames x =
     let st = state_of g in
     HasMoved g.script st.stands t
-    (advanced (facts_of st) t (demand_of x) answer (finals_in (step_cut x) answer) [] (stand_at t st.stands)) frames
+    (advanced (facts_of st) t (demand_of x) answer (finals_in (step_cut x) answer) list (stand_at t st.stands)) frames
 
 -- a world has gone on by an entry of a thread
 pub record HasGone (r : Reserved) (g g' : GroundView) (standings : List Standing) : Type 0 where
@@ -166,6 +173,84 @@ abbrev pub IsDrops : Found → Type 0
 IsDrops (kept.Drops b k o left) = Unit {0}
 IsDrops _ = ⊥
 
+-- what was found is no line that a block writes, no end of a thread's block, and takes no reference away
+abbrev pub IsRoundFound : Found → Type 0
+IsRoundFound (kept.Claims k v) = ⊥
+IsRoundFound (kept.Says b n used) = ⊥
+IsRoundFound (kept.Packs u k v) = ⊥
+IsRoundFound kept.Ends = ⊥
+IsRoundFound (kept.Owes o left) = ⊥
+IsRoundFound (kept.Drops b k o left) = ⊥
+IsRoundFound _ = Unit {0}
+
+-- what was found is the first line of a handler, its end, or the end of a run
+abbrev pub IsStillFound : Found → Type 0
+IsStillFound kept.Begins = Unit {0}
+IsStillFound kept.Returns = Unit {0}
+IsStillFound kept.Closes = Unit {0}
+IsStillFound _ = ⊥
+
+-- its answer: the end of a run tells its result
+abbrev pub still_answer : Found → Option ℕ → Answer
+still_answer kept.Closes n = result_answer n
+still_answer _ n = answers.Ok
+
+-- what was found is the call of this one with this info
+abbrev pub IsCallOf : Found → CodeCallee → MaybeObject → Type 0
+IsCallOf (kept.Calls k h o left) callee info = (k ≡ callee) × (o ≡ info)
+IsCallOf _ callee info = ⊥
+
+-- what was found is this item to be invalidated
+abbrev pub IsSpends : Found → ℕ → Type 0
+IsSpends (kept.Spends i left) item = i ≡ item
+IsSpends _ item = ⊥
+
+-- ---- what an entry lists where that may be many
+
+-- so many are as many as the items of the mode of a run, if there is one
+abbrev pub FitsItems : State → ℕ → ℕ → Option Turn → Type 0
+FitsItems st t more None = Unit {0}
+FitsItems st t more (Some r) = length (items_in st t r.mode) ≤ more
+
+-- the sources of that mode that are to be called
+abbrev pub sources_of_run : State → ℕ → Option Turn → List ℕ
+sources_of_run st t None = []
+sources_of_run st t (Some r) = collected_of st.parts phases.Sources (items_in st t r.mode)
+
+-- the same of what a phase of a run collects, as long as that of sources alone collects anything
+abbrev pub FitsPhase : State → ℕ → ℕ → Phase → Option Turn → Type 0
+FitsPhase st t more phases.Sources run = FitsItems st t more run
+FitsPhase st t more _ run = Unit {0}
+
+-- an entry may list more than two: that of a phase which collects, and an item that leaves its places
+abbrev pub is_many : Found → Bool
+is_many (kept.Enters phases.Sources) = true
+is_many (kept.Spends i left) = true
+is_many _ = false
+
+-- so many are as many as it lists at most
+abbrev pub AreMost : GroundView → ℕ → ℕ → Found → Type 0
+AreMost g t more (kept.Enters p) =
+    FitsPhase (state_of g) t more p (innermost_run (stand_at t (state_of g).stands).frames)
+AreMost g t more (kept.Spends i left) = length (spending g.script (state_of g) i).leaves ≤ more
+AreMost g t more _ = Unit {0}
+
+-- there is room for what it lists, in its thread's frames and in lists
+pub record HasLists (g : GroundView) (frames : List Standing) (gained_room list_room : ℕ) (r : Reserved) : Type 0 where
+  pub more : ℕ
+  pub room : HasRoomFor r.action more (standing_at frames r.thread)
+  pub gained_fits : more ≤ gained_room
+  pub list_fits : more ≤ list_room
+  pub most : AreMost g r.thread more r.found
+
+abbrev pub ListsIf : GroundView → List Standing → (gained_room list_room : ℕ) → Reserved → Type 0
+ListsIf g frames m n r = cond (is_many r.found) (HasLists g frames m n r) (Unit {0})
+
+-- the same of what was reserved, if something was
+abbrev pub ListsFit : GroundView → List Standing → (gained_room list_room : ℕ) → Option Reserved → Type 0
+ListsFit g frames m n None = Unit {0}
+ListsFit g frames m n (Some r) = ListsIf g frames m n r
+
 -- what was finalised, by what a cut leaves
 abbrev pub finals_of_cut : Ended → ℕ → List ℕ
 finals_of_cut More o = []
@@ -181,6 +266,7 @@ pub record IsBegun (w : Inside) : Type 0 where
   pub few : length w.gained.items ≤ 2
   pub list_room : 2 ≤ vec_capacity w.list
   pub reserved : ReservedIf w.ground w.frames.items (reserved_of w)
+  pub lists : ListsFit w.ground w.frames.items (vec_capacity w.gained) (vec_capacity w.list) (reserved_of w)
 
 -- why a thread does nothing, as callers see it
 abbrev pub halted : Halt → NextCode

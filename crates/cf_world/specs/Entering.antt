@@ -1,5 +1,5 @@
 -- What the entries of a thread ask of the ground of a world, and what they leave. This project's own.
-use Rattle.std.specs.Prelude.{◌≡◌, ℕ, ◌+◌, ◌<◌, ◌≤◌, ◌⊎◌, IsTrue, List, [], ◌∷◌, ◌++◌, length, map, Option, Some, None, slice_index_or, slice_set, ◌==◌, if◌then◌else◌}
+use Rattle.std.specs.Prelude.{◌≡◌, ℕ, ◌+◌, ◌<◌, ◌⊎◌, true, IsTrue, List, [], ◌∷◌, ◌++◌, length, Option, Some, None, slice_index_or, slice_set, ◌==◌, if◌then◌else◌}
 use Rattle.cf_ids.specs.declared.limits.TheConstants.{OBJECTS}
 use Rattle.cf_ids.specs.declared.answer.Answer.{Answer}
 use Rattle.cf_ids.specs.declared.answer.Answer.TheVariants as answers
@@ -7,21 +7,25 @@ use Rattle.cf_ids.specs.declared.answer.Ended.{Ended}
 use Rattle.cf_ids.specs.declared.answer.Ended.TheVariants.{More, Last}
 use Rattle.cf_syntax.specs.declared.script.Script.{Script}
 use Rattle.cf_syntax.specs.declared.statement.Statement.{Statement}
-use Rattle.cf_syntax.specs.declared.statement.Statement.TheVariants as forms
 use Rattle.cf_syntax.specs.declared.mention.Ownership.TheVariants.{Keeps, Binds, Retains, Releases}
 use Rattle.cf_syntax.specs.Mentions.{ownership_of, first_of}
-use Rattle.cf_syntax.specs.BlockLines.{BlockLine, claims, says, packs}
+use Rattle.rl_turn.specs.declared.phases.Phase.TheVariants as phases
+use Rattle.cf_syntax.specs.BlockLines.{begins, claims, says, packs}
 use Rattle.cf_graph.specs.Flows.{gained_by}
 use Rattle.cf_contents.specs.Stores.{Held, with_body, body_finalised}
 use Rattle.cf_next.specs.declared.action.Action.{Action}
-use Rattle.cf_next.specs.Demands.{Demand, does, ends, owes, drops}
+use Rattle.cf_next.specs.Facts.{Callout}
+use Rattle.cf_next.specs.Stands.{Callee, Turn, item_of, of_run}
+use Rattle.cf_next.specs.Advance.{top_kind}
+use Rattle.cf_next.specs.Demands.{Demand, does, ends, returns, owes, spends, drops, calls, enters, closes}
 use Rattle.cf_next.specs.Next.{used_objects, object_at}
 use Rattle.cf_model.specs.declared.entry.Entry.{Entry}
 use Rattle.cf_model.specs.State as states
 use Rattle.cf_model.specs.State.{State}
-use Rattle.cf_model.specs.Steps.{demanded, start_all, step_of, frames_at, bindings_of}
+use Rattle.cf_model.specs.Steps.{demanded, start_all, activity, call_answer, step_of, frames_at, bindings_of}
+use Rattle.cf_model.specs.Things.{is_valid_thing, thing_at}
 use Rattle.cf_model.specs.Flowing.{flow_if}
-use Rattle.cf_model.specs.Journals.{Next, can_go, makes}
+use Rattle.cf_model.specs.Journals.{Next, makes}
 use Rattle.cf_world.specs.Worlds.{entry_of}
 use Rattle.cf_world.specs.Grounds.{GroundView, state_of, deed_of}
 
@@ -124,6 +128,48 @@ pub record IsPack (g : GroundView) (t to place : ℕ) (object : Option ℕ) : Ty
 
 abbrev pub IsEnd : GroundView → ℕ → Type 0
 IsEnd g t = demand_in g t ≡ Some ends
+
+-- a demand that neither changes a part of the state nor takes a reference away: the first line of a handler, its end,
+-- a phase of a run but its sleep, and the end of a run
+abbrev pub IsPassing : Demand → Type 0
+IsPassing (does (begins v)) = Unit {0}
+IsPassing returns = Unit {0}
+IsPassing (enters phases.Sleep) = ⊥
+IsPassing (enters p) = Unit {0}
+IsPassing closes = Unit {0}
+IsPassing _ = ⊥
+
+-- such an entry, with its answer and with what it collects
+pub record IsPass (g : GroundView) (t : ℕ) (answer : Answer) (list : List ℕ) : Type 0 where
+  pub demand : Demand
+  pub demands : demand_in g t ≡ Some demand
+  pub passes : IsPassing demand
+  pub answer_is : answer ≡ (step_of g.script t (state_of g) (frames_at t (state_of g)) demand).answer
+  pub list_is : list ≡ (step_of g.script t (state_of g) (frames_at t (state_of g)) demand).list
+
+-- the call of a handler
+pub record IsCall (g : GroundView) (t : ℕ) (k : Callee) : Type 0 where
+  pub callout : Callout
+  pub demands : demand_in g t ≡ Some (calls k callout)
+
+-- an item that is called is valid; a receiver is no item
+abbrev pub IsValidCallee : states.Parts → Callee → Type 0
+IsValidCallee p k = (i : ℕ) → item_of k ≡ Some i → is_valid_thing (thing_at p i) ≡ true
+
+-- the answer of a call in a thread's innermost frame
+abbrev pub called_answer : GroundView → ℕ → Callee → Answer
+called_answer g t k = call_answer k.role (activity (top_kind (frames_at t (state_of g))))
+
+-- the sleep of a run with this deadline
+pub record IsSleep (g : GroundView) (t : ℕ) (deadline : Option ℕ) : Type 0 where
+  pub run : Turn
+  pub demands : demand_in g t ≡ Some (enters phases.Sleep)
+  pub top : top_kind (frames_at t (state_of g)) ≡ of_run run
+  pub deadline_is : run.deadline ≡ deadline
+
+-- an item that is invalidated after its handler
+abbrev pub IsSpend : GroundView → ℕ → ℕ → Type 0
+IsSpend g t i = demand_in g t ≡ Some (spends i)
 
 -- ---- answers
 

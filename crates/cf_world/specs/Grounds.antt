@@ -1,30 +1,25 @@
 -- The ground of a world: what it keeps beside where its threads stand. This project's own.
-use Rattle.std.specs.Prelude.{◌≡◌, ℕ, ◌+◌, ◌-◌, ◌<◌, ◌≤◌, Bool, IsTrue, nat_lt, ◌&&◌, List, [], ◌∷◌, ◌++◌, length, map, Option, Some, None, slice_get, slice_index_or, vec_len, vec_capacity, ◌==◌}
-use Rattle.cf_ids.specs.declared.answer.Answer.{Answer}
+use Rattle.std.specs.Prelude.{◌≡◌, ℕ, ◌-◌, ◌<◌, ◌≤◌, List, [], length, map, Option, None, slice_get, slice_index_or, vec_len, vec_capacity}
 use Rattle.cf_ids.specs.declared.answer.Ended.{Ended}
 use Rattle.cf_syntax.specs.declared.script.Script.{Script}
 use Rattle.cf_syntax.specs.declared.statement.Statement.{Statement}
-use Rattle.cf_syntax.specs.BlockLines.{BlockLine, says, uses_in, thread_block, statements_in}
+use Rattle.cf_syntax.specs.BlockLines.{uses_in, thread_block, statements_in}
 use Rattle.cf_syntax.specs.Owned.{Owned}
 use Rattle.cf_syntax.specs.Stage.{IsOfStage}
 use Rattle.cf_graph.specs.Holders.{parcel}
 use Rattle.cf_graph.specs.Edges.{degree}
-use Rattle.cf_graph.specs.Flows.{gained_by}
-use Rattle.cf_contents.specs.Contents.{Object, times}
 use Rattle.cf_contents.specs.Deeds.{deed_at, first_of}
-use Rattle.cf_contents.specs.Stores.{Held, Ready, objects_of, is_live_in, given_up_in}
+use Rattle.cf_contents.specs.Stores.{Held, Ready}
 use Rattle.cf_next.specs.Facts.{Facts}
 use Rattle.cf_syntax.specs.Numbered.{IsNumbered}
 use Rattle.rl_modes.specs.Loops.{Loop}
 use Rattle.cf_loops.specs.Following.{AreLoops}
 use Rattle.cf_model.specs.declared.entry.Entry.{Entry}
-use Rattle.cf_model.specs.State as states
-use Rattle.cf_model.specs.State.{State, Parts, Sleeping, awake, until, first_held, start}
+use Rattle.cf_model.specs.State.{State, first_held, start}
 use Rattle.cf_model.specs.Known.{facts_of}
-use Rattle.cf_model.specs.Journals.{After, IsLegal, can_go, makes_line}
-use Rattle.cf_world.specs.declared.flags.Sleep.{Sleep}
-use Rattle.cf_world.specs.declared.flags.Sleep.TheVariants as sleeps
-use Rattle.cf_world.specs.declared.flags.Flags.{Flags}
+use Rattle.cf_model.specs.Journals.{After, IsLegal}
+use Rattle.cf_scene.specs.declared.flags.Flags.{Flags}
+pub use Rattle.cf_scene.specs.Scenes.{Mirrors, sleeping_of, flags_of}
 use Rattle.cf_world.specs.declared.ground.Ground.TheInside.{Inside}
 use Rattle.cf_world.specs.Worlds.{ended_at}
 
@@ -43,12 +38,6 @@ state_of g = After g.script g.journal
 
 -- ---- how its parts follow the state
 
--- the bodies have the objects, know which are finalised, and how many slots each has given up
-pub record Mirrors (p : Parts) (bodies : List Held) : Type 0 where
-  pub objects_are : objects_of bodies ≡ p.objects
-  pub live : (o : ℕ) → is_live_in bodies o ≡ (nat_lt o (length p.objects) && (times o p.finalised == 0))
-  pub given_up : (o : ℕ) → given_up_in bodies o ≡ times o p.dropped
-
 -- the place of a parcel, by the rows of all parcels
 abbrev pub parcel_at : List (List (Option ℕ)) → (t k : ℕ) → Option ℕ
 parcel_at rows t k = slice_index_or (slice_index_or rows t []) k None
@@ -62,14 +51,6 @@ pub record HasPlaces (s : Script) (rows : List (List (Option ℕ))) : Type 0 whe
 pub record HoldsParcels (s : Script) (st : State) (rows : List (List (Option ℕ))) : Type 0 where
   pub has : HasPlaces s rows
   pub at : (t k : ℕ) → parcel_at rows t k ≡ first_held (parcel t k) st.edges
-
--- the flags of a thread as the definitions have them
-abbrev pub sleeping_of : Sleep → Sleeping
-sleeping_of sleeps.Awake = awake
-sleeping_of (sleeps.Until date) = until date
-
-abbrev pub flags_of : Flags → states.Flags
-flags_of f = record { is_started = f.is_started; sleep = sleeping_of f.sleep; is_woken = f.is_woken }
 
 -- the flags of the threads of a script at its start
 abbrev pub AreFirst : Script → List Flags → Type 0

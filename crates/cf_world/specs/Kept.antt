@@ -27,22 +27,18 @@ pub record IsSaid (s : Script) (facts : Facts) (t : ℕ) (stand : Stand) (block 
 
 -- what is kept is what a thread demands
 abbrev pub IsKept : Script → Facts → ℕ → Stand → Found → Type 0
+IsKept s facts t stand kept.Begins = IsStep s facts t stand steps.Begins
 IsKept s facts t stand (kept.Claims k v) = IsStep s facts t stand (steps.Claims k v)
 IsKept s facts t stand (kept.Says b n used) = IsSaid s facts t stand b n used
 IsKept s facts t stand (kept.Packs u k v) = IsStep s facts t stand (steps.Packs u k v)
 IsKept s facts t stand kept.Ends = IsStep s facts t stand steps.Ends
+IsKept s facts t stand kept.Returns = IsStep s facts t stand steps.Returns
 IsKept s facts t stand (kept.Owes o left) = IsStep s facts t stand (steps.Owes o left)
+IsKept s facts t stand (kept.Spends i left) = IsStep s facts t stand (steps.Spends i left)
 IsKept s facts t stand (kept.Drops b k o left) = IsStep s facts t stand (steps.Drops b k o left)
-
--- a step that comes as long as there are no run loops and no notices
-abbrev pub IsPlainStep : Step → Type 0
-IsPlainStep (steps.Claims k v) = Unit {0}
-IsPlainStep (steps.Says x used n) = Unit {0}
-IsPlainStep (steps.Packs u k v) = Unit {0}
-IsPlainStep steps.Ends = Unit {0}
-IsPlainStep (steps.Owes o left) = Unit {0}
-IsPlainStep (steps.Drops b k o left) = Unit {0}
-IsPlainStep _ = ⊥
+IsKept s facts t stand (kept.Calls k h info left) = IsStep s facts t stand (steps.Calls k h info left)
+IsKept s facts t stand (kept.Enters p) = IsStep s facts t stand (steps.Enters p)
+IsKept s facts t stand kept.Closes = IsStep s facts t stand steps.Closes
 
 -- the statement of a step stands in this block
 abbrev pub IsPlaced : Script → ℕ → Step → Type 0
@@ -51,9 +47,15 @@ IsPlaced s b _ = Unit {0}
 
 -- what is kept as a step, where it is no statement
 abbrev pub step_kept : Found → Option Step
+step_kept kept.Begins = Some steps.Begins
 step_kept (kept.Claims k v) = Some (steps.Claims k v)
 step_kept (kept.Says b n used) = None
 step_kept (kept.Packs u k v) = Some (steps.Packs u k v)
 step_kept kept.Ends = Some steps.Ends
+step_kept kept.Returns = Some steps.Returns
 step_kept (kept.Owes o left) = Some (steps.Owes o left)
+step_kept (kept.Spends i left) = Some (steps.Spends i left)
 step_kept (kept.Drops b k o left) = Some (steps.Drops b k o left)
+step_kept (kept.Calls k h info left) = Some (steps.Calls k h info left)
+step_kept (kept.Enters p) = Some (steps.Enters p)
+step_kept kept.Closes = Some steps.Closes

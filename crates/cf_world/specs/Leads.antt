@@ -1,5 +1,5 @@
 -- What the entries of the lead ask of the ground of a world, and what they leave. This project's own.
-use Rattle.std.specs.Prelude.{◌≡◌, ℕ, ◌+◌, ◌<◌, Bool, ◌||◌, List, [], ◌∷◌, ◌++◌, length}
+use Rattle.std.specs.Prelude.{◌≡◌, ◌+◌, ◌<◌, Bool, ◌||◌, [], ◌∷◌, ◌++◌, length}
 use Rattle.cf_ids.specs.declared.answer.Answer.TheVariants as answers
 use Rattle.cf_syntax.specs.Owned.{Owned}
 use Rattle.cf_next.specs.declared.action.Action.{Action}

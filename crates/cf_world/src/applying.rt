@@ -17,7 +17,7 @@ ghost use Rattle.cf_next.specs.Steps.{IsStep, SaysList, SaysRoom};
 ghost use Rattle.cf_next.specs.Views.{objects_of};
 ghost use Rattle.cf_model.specs.Known.{facts_of};
 ghost use Rattle.cf_model.specs.State.{stand_at};
-ghost use Rattle.cf_world.specs.Begun.{AreFrames, HasGone, HasMoved, MovesBy, IsFound, IsReadyFor, IsClaims, IsDrops, IsOwes, IsPacks, IsReserved, IsSays, StandSo, finals_of_cut, standing_at};
+ghost use Rattle.cf_world.specs.Begun.{AreFrames, HasGone, HasMoved, MovesBy, IsFound, IsReadyFor, IsClaims, IsDrops, IsOwes, IsPacks, IsReserved, IsSays, ListsIf, StandSo, finals_of_cut, standing_at};
 ghost use Rattle.cf_world.specs.Entering.{HasEntered, IsLastAnswer, gained_in, listed_in};
 ghost use Rattle.cf_world.specs.Grounds.{ends_in, state_of};
 ghost use Rattle.cf_world.specs.Kept.{step_kept};
@@ -29,6 +29,7 @@ use crate::counts::answer_for;
 use crate::found::{Found, Reserved};
 use crate::ground::Ground;
 use crate::looking::look;
+use crate::running::go_round;
 use crate::statements::put_all;
 use cf_ids::{Answer, Ended, ObjId, ThreadId, VarId};
 use cf_next::{Facts, Frames, Step, Used};
@@ -109,6 +110,7 @@ fn enter(
     requires gained_room { 2 ≤ vec_capacity gained.old }
     requires no_list { list.old.items ≡ [] }
     requires list_room { 2 ≤ vec_capacity list.old }
+    requires lists { ListsIf ground.old frames.old.items (vec_capacity gained.old) (vec_capacity list.old) reserved.now }
     ensures gone { HasGone reserved.now ground.old ground.new frames.new.items }
     ensures gained { gained.new.items ≡ gained_in ground.old reserved.now.thread }
     ensures gained_room { vec_capacity gained.new ≡ vec_capacity gained.old }
@@ -121,6 +123,7 @@ fn enter(
         Found::Packs { .. } => pack(ground, frames, reserved),
         Found::Ends => end(ground, frames, reserved),
         Found::Owes { .. } | Found::Drops { .. } => {}
+        _ => go_round(ground, frames, gained, list, reserved),
     }
 }
 
@@ -228,7 +231,7 @@ fn claim(ground: &mut Ground, frames: &mut Vec<Frames>, reserved: &Reserved, pla
 {
     let t = reserved.thread;
     let answer = answer_for(ground.parcel(t, place));
-    go_on(frames, ground, t, &reserved.found, &answer);
+    go_on(frames, ground, t, &reserved.found, &answer, &[]);
     ground.enter_claim(t, reserved.action, place);
 }
 
@@ -251,7 +254,7 @@ fn pack(ground: &mut Ground, frames: &mut Vec<Frames>, reserved: &Reserved)
     let t = reserved.thread;
     let object = object_of(frames.as_slice(), t, variable);
     let answer = answer_for(object_of(frames.as_slice(), t, variable));
-    go_on(frames, ground, t, &reserved.found, &answer);
+    go_on(frames, ground, t, &reserved.found, &answer, &[]);
     ground.enter_pack(t, reserved.action, *thread, *place, object);
 }
 
@@ -264,7 +267,7 @@ fn end(ground: &mut Ground, frames: &mut Vec<Frames>, reserved: &Reserved)
     ensures gained { gained_in ground.old reserved.now.thread ≡ [] }
 {
     let t = reserved.thread;
-    go_on(frames, ground, t, &reserved.found, &Answer::Ok);
+    go_on(frames, ground, t, &reserved.found, &Answer::Ok, &[]);
     ground.enter_end(t, reserved.action);
 }
 
@@ -304,7 +307,7 @@ fn cut(
         Found::Says { .. } => let_go(ground, frames, reserved, object, ended),
         Found::Owes { .. } => pay(ground, frames, reserved, object, ended),
         Found::Drops { .. } => give_up(ground, frames, reserved, ended),
-        Found::Claims { .. } | Found::Packs { .. } | Found::Ends => {}
+        _ => {}
     }
 }
 
@@ -365,7 +368,7 @@ fn pay(
 {
     let t = reserved.thread;
     let answer = ground.answer_of_cut(object, ended);
-    go_on(frames, ground, t, &reserved.found, &answer);
+    go_on(frames, ground, t, &reserved.found, &answer, &[]);
     ground.enter_cut(t, reserved.action, object, ended);
 }
 
@@ -382,7 +385,7 @@ fn give_up(ground: &mut Ground, frames: &mut Vec<Frames>, reserved: &Reserved, e
     };
     let t = reserved.thread;
     let answer = ground.answer_of_cut(object, ended);
-    go_on(frames, ground, t, &reserved.found, &answer);
+    go_on(frames, ground, t, &reserved.found, &answer, &[]);
     ground.enter_drop(t, reserved.action, body, object, ended);
 }
 
@@ -405,6 +408,7 @@ fn step_of<'g>(ground: &'g Ground, found: &Found) -> Option<Step<'g>>
     ensures { IfSome (step_kept found.now) (λ x. result ≡ Some x) }
 {
     match found {
+        Found::Begins => Some(Step::Begins),
         Found::Claims { place, variable } => Some(Step::Claims {
             place: *place,
             variable: *variable,
@@ -431,8 +435,13 @@ fn step_of<'g>(ground: &'g Ground, found: &Found) -> Option<Step<'g>>
             variable: *variable,
         }),
         Found::Ends => Some(Step::Ends),
+        Found::Returns => Some(Step::Returns),
         Found::Owes { object, left } => Some(Step::Owes {
             object: *object,
+            left: *left,
+        }),
+        Found::Spends { item, left } => Some(Step::Spends {
+            item: *item,
             left: *left,
         }),
         Found::Drops {
@@ -446,21 +455,43 @@ fn step_of<'g>(ground: &'g Ground, found: &Found) -> Option<Step<'g>>
             object: *object,
             left: *left,
         }),
+        Found::Calls {
+            callee,
+            handler,
+            info,
+            left,
+        } => Some(Step::Calls {
+            callee: *callee,
+            handler: *handler,
+            info: *info,
+            left: *left,
+        }),
+        Found::Enters(phase) => Some(Step::Enters(*phase)),
+        Found::Closes => Some(Step::Closes),
     }
 }
 
-/// A thread moves on by an entry that is no statement; the ground is as before the entry.
+/// A thread moves on by an entry that is no statement; `list` has the numbers of what it collects. The ground is as
+/// before the entry.
 #[inline(always)]
-fn go_on(frames: &mut Vec<Frames>, ground: &Ground, t: ThreadId, found: &Found, answer: &Answer)
+pub(crate) fn go_on(
+    frames: &mut Vec<Frames>,
+    ground: &Ground,
+    t: ThreadId,
+    found: &Found,
+    answer: &Answer,
+    list: &[u32],
+)
     requires frames { AreFrames ground.now.script (state_of ground.now) frames.old.items }
     requires thread { t < ground.now.script.thread_count }
     requires step { IsSomeAnd (step_kept found.now) (IsStep ground.now.script (facts_of (state_of ground.now)) t
         (stand_at t (state_of ground.now).stands)) }
-    requires room { HasRoom 0 (standing_at frames.old.items t) }
-    ensures { IfSome (step_kept found.now) (MovesBy ground.now t answer.now frames.new.items) }
+    requires room { HasRoom (length list.now) (standing_at frames.old.items t) }
+    requires numbers { All IsObjectNumber list.now }
+    ensures { IfSome (step_kept found.now) (MovesBy ground.now t answer.now list.now frames.new.items) }
 {
     if let Some(step) = &step_of(ground, found) {
-        frames[t.0 as usize].advance_by(ground.script(), ground, step, answer, &[]);
+        frames[t.0 as usize].advance_by(ground.script(), ground, step, answer, list);
     }
 }
 

@@ -1,16 +1,16 @@
 //! A world whose script has begun.
-ghost use Rattle.std.specs.Prelude.{◌≡◌, ℕ, List, ◌-◌, ◌<◌, ◌≤◌, [], ◌∷◌, Bool, length, slice_get, count_by, Some, None, IfOk, OnOk, OnErr};
+ghost use Rattle.std.specs.Prelude.{◌≡◌, ℕ, List, ◌-◌, ◌<◌, ◌≤◌, [], ◌∷◌, Bool, length, slice_get, count_by, Some, None, IfOk, OnOk, OnErr, vec_capacity};
 ghost use Rattle.cf_ids.specs.declared.limits.TheConstants.{LARGEST_LIMIT};
 ghost use Rattle.cf_graph.specs.declared.edge.Edge.{Edge};
 ghost use Rattle.cf_graph.specs.Edges.{edges_of};
 ghost use Rattle.cf_next.specs.Actions.{cut_of};
 ghost use Rattle.cf_model.specs.State.{start};
 ghost use Rattle.cf_world.specs.Grounds.{MayRun, state_of, statement_at};
-ghost use Rattle.cf_next.specs.Standing.{HasRoomFor};
+ghost use Rattle.cf_next.specs.Standing.{HasRoomFor, innermost_run};
 ghost use Rattle.cf_next.specs.Stands.{Stand};
 ghost use Rattle.cf_next.specs.declared.action.Action.{Action as ActionValue};
 ghost use Rattle.cf_syntax.specs.declared.script.Script.{Script as ScriptValue};
-ghost use Rattle.cf_world.specs.Begun.{AreFrames, IsFound, IsNeeded, IsReadyFor, IsReserved, StandSo, most_listed, standing_at};
+ghost use Rattle.cf_world.specs.Begun.{AreFrames, AreMost, FitsItems, FitsPhase, IsFound, IsNeeded, IsReadyFor, IsReserved, ListsIf, StandSo, most_listed, standing_at};
 ghost use Rattle.cf_world.specs.declared.found.Found.{Found as FoundValue};
 ghost use Rattle.cf_world.specs.declared.found.Reserved.{Reserved};
 ghost use Rattle.cf_world.specs.Worlds.{IsLegalWorld, IsThread, acting, applied, edges_in, ended_in, entered, lead_in, led, made_in, next_in, prepared, retained_by, retains_in, IsTick};
@@ -28,6 +28,7 @@ use cf_model::{Action, Entry};
 use cf_next::{Frames, Step};
 use cf_owncheck::Checked;
 use cf_syntax::{Ownership, Script};
+use rl_turn::Phase;
 use std::alloc::{AllocError as NoMemory, Global};
 use std::marker::Model;
 
@@ -178,7 +179,14 @@ impl Begun {
             &mut self.looked,
         ) {
             Ok(()) => {
-                reserve_for(alloc, &mut self.ground, &mut self.frames, &self.looked)?;
+                reserve_for(
+                    alloc,
+                    &mut self.ground,
+                    &mut self.frames,
+                    &mut self.gained,
+                    &mut self.list,
+                    &self.looked,
+                )?;
                 self.reserved = self.looked;
                 self.has_room = true;
                 Ok(Next::Act(self.looked.action))
@@ -212,38 +220,73 @@ fn first_frames(alloc: Global, script: &Script) -> Result<Vec<Frames>, NoMemory>
     Ok(frames)
 }
 
-/// Makes room for what was found of a thread's next entry.
+/// Makes room for what was found of a thread's next entry: in the frames, in the lists, and for its deed.
 fn reserve_for(
     alloc: Global,
     ground: &mut Ground,
     frames: &mut Vec<Frames>,
+    gained: &mut Vec<ObjId>,
+    list: &mut Vec<u32>,
     reserved: &Reserved,
 ) -> Result<(), NoMemory>
     requires found { IsFound ground.old reserved.now }
     requires frames { AreFrames ground.old.script (state_of ground.old) frames.old.items }
+    requires gained_room { 2 ≤ vec_capacity gained.old }
+    requires list_room { 2 ≤ vec_capacity list.old }
     ensures script { ground.new.script ≡ ground.old.script }
     ensures journal { ground.new.journal ≡ ground.old.journal }
     ensures room { ground.new.journal_room ≡ ground.old.journal_room }
     ensures frames { AreFrames ground.new.script (state_of ground.new) frames.new.items }
+    ensures gained { gained.new.items ≡ gained.old.items }
+    ensures gained_room { vec_capacity gained.old ≤ vec_capacity gained.new }
+    ensures list_room { vec_capacity list.old ≤ vec_capacity list.new }
     ensures reserved { OnOk result (IsReserved ground.new frames.new.items reserved.now) }
+    ensures lists { OnOk result
+        (ListsIf ground.new frames.new.items (vec_capacity gained.new) (vec_capacity list.new) reserved.now) }
     ensures refused { OnErr result ((r : Reserved) → IsReserved ground.old frames.old.items r
         → IsReserved ground.new frames.new.items r) }
+    ensures kept { OnErr result ((r : Reserved)
+        → ListsIf ground.old frames.old.items (vec_capacity gained.old) (vec_capacity list.old) r
+        → ListsIf ground.new frames.new.items (vec_capacity gained.new) (vec_capacity list.new) r) }
 {
-    reserve_frames(frames, reserved.thread, &reserved.action)?;
+    let more = most_listed(ground, frames.as_slice(), reserved);
+    reserve_frames(frames, reserved.thread, &reserved.action, more)?;
+    reserve_lists(gained, list, more)?;
     reserve_ground(alloc, ground, &reserved.found)
 }
 
-/// Makes room in the frames of a thread for the entry of an action.
-fn reserve_frames(frames: &mut Vec<Frames>, t: ThreadId, action: &Action) -> Result<(), NoMemory>
+/// Makes room in the frames of a thread for the entry of an action that lists so many numbers at most.
+fn reserve_frames(
+    frames: &mut Vec<Frames>,
+    t: ThreadId,
+    action: &Action,
+    more: usize,
+) -> Result<(), NoMemory>
     requires { t < length frames.old.items }
     ensures stands { (s : ScriptValue) (stands : List Stand) → StandSo s stands frames.old.items
         → StandSo s stands frames.new.items }
-    ensures room { OnOk result (HasRoomFor action.now (most_listed action.now) (standing_at frames.new.items t)) }
+    ensures room { OnOk result (HasRoomFor action.now more (standing_at frames.new.items t)) }
     ensures kept { (a : ActionValue) (n u : ℕ) → HasRoomFor a n (standing_at frames.old.items u)
         → HasRoomFor a n (standing_at frames.new.items u) }
 {
-    let more = most_listed(action);
     frames[t.0 as usize].reserve_for(action, more)
+}
+
+/// Makes room for so many numbers in two lists, where that is not there anyway.
+fn reserve_lists(gained: &mut Vec<ObjId>, list: &mut Vec<u32>, more: usize) -> Result<(), NoMemory>
+    requires gained_room { 2 ≤ vec_capacity gained.old }
+    requires list_room { 2 ≤ vec_capacity list.old }
+    ensures gained { gained.new.items ≡ gained.old.items }
+    ensures gained_more { vec_capacity gained.old ≤ vec_capacity gained.new }
+    ensures list_more { vec_capacity list.old ≤ vec_capacity list.new }
+    ensures gained_room { OnOk result (more ≤ vec_capacity gained.new) }
+    ensures list_room { OnOk result (more ≤ vec_capacity list.new) }
+{
+    if more <= 2 {
+        return Ok(());
+    }
+    gained.reserve(more)?;
+    list.reserve(more)
 }
 
 /// Makes room for the deed of what was found, if it has one.
@@ -268,8 +311,43 @@ fn reserve_ground(alloc: Global, ground: &mut Ground, found: &Found) -> Result<(
     ground.reserve_for(alloc, *block, *number, used)
 }
 
-/// How many numbers the entry of an action lists at most.
-fn most_listed(action: &Action) -> usize
+/// How many numbers the entry of what was found lists at most.
+fn most_listed(ground: &Ground, frames: &[Frames], reserved: &Reserved) -> usize
+    requires thread { reserved.now.thread < length frames.now }
+    requires frames { AreFrames ground.now.script (state_of ground.now) frames.now }
+    ensures least { most_listed reserved.now.action ≤ result }
+    ensures most { AreMost ground.now reserved.now.thread result reserved.now.found }
+{
+    let t = reserved.thread;
+    match reserved.found {
+        Found::Enters(phase) => most_collected(ground, &frames[t.0 as usize], t, phase).max(2),
+        Found::Spends { item, .. } => ground.places_of(item).max(2),
+        _ => few_listed(&reserved.action),
+    }
+}
+
+/// How many numbers a phase of a thread's innermost run collects at most.
+fn most_collected(ground: &Ground, frames: &Frames, t: ThreadId, phase: Phase) -> usize
+    ensures { FitsPhase (state_of ground.now) t result phase (innermost_run frames.now.stand.frames) }
+{
+    match phase {
+        Phase::Sources => items_of_run(ground, frames, t),
+        _ => 0,
+    }
+}
+
+/// How many items the mode of a thread's innermost run has.
+fn items_of_run(ground: &Ground, frames: &Frames, t: ThreadId) -> usize
+    ensures { FitsItems (state_of ground.now) t result (innermost_run frames.now.stand.frames) }
+{
+    match frames.mode() {
+        Some(mode) => ground.loops.items(t, mode).len(),
+        None => 0,
+    }
+}
+
+/// How many numbers the entry of an action lists at most, where these are few.
+fn few_listed(action: &Action) -> usize
     ensures { result ≡ most_listed action.now }
 {
     match action {

@@ -7,11 +7,11 @@ ghost use Rattle.cf_model.specs.Steps.{start_all};
 ghost use Rattle.cf_world.specs.Grounds.{ends_in, flags_of};
 ghost use Rattle.cf_world.specs.Entering.{HasEntered, IsClaim, IsCut, IsDrop, IsEnd, IsPack, IsRetain, IsSkip, MayAct, answer_for, finalised_if, flags_at_end, gained_in, packed_rows};
 
-use crate::flags::Flags;
 use crate::ground::Ground;
 use crate::parcels::Parcels;
 use cf_ids::{Answer, Ended, ObjId, ThreadId};
 use cf_model::{Action, Entry};
+use cf_scene::Flags;
 use cf_store::Store;
 
 impl Ground {

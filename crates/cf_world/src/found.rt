@@ -1,12 +1,14 @@
 //! What a thread does next, kept from the room that is made for it to its entry.
-use cf_ids::{ObjId, ThreadId, VarId};
+use cf_ids::{HandlerId, ObjId, ThreadId, VarId};
 use cf_model::Action;
-use cf_next::{Step, Used};
+use cf_next::{Callee, MaybeObject, Step, Used};
+use rl_turn::Phase;
 
 /// What a thread does next, as it is kept: what a `Step` has, but that a statement is named by its block and its number
 /// there.
 #[derive(Clone, Copy)]
 pub(crate) enum Found {
+    Begins,
     Claims {
         place: usize,
         variable: VarId,
@@ -22,8 +24,13 @@ pub(crate) enum Found {
         variable: Option<VarId>,
     },
     Ends,
+    Returns,
     Owes {
         object: ObjId,
+        left: usize,
+    },
+    Spends {
+        item: ObjId,
         left: usize,
     },
     Drops {
@@ -32,6 +39,14 @@ pub(crate) enum Found {
         object: ObjId,
         left: usize,
     },
+    Calls {
+        callee: Callee,
+        handler: HandlerId,
+        info: MaybeObject,
+        left: usize,
+    },
+    Enters(Phase),
+    Closes,
 }
 
 /// What was found of a thread's next entry when room was made for it.

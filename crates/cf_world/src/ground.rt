@@ -12,7 +12,6 @@ ghost use Rattle.cf_world.specs.Grounds.{AreFirst, MayRun, deed_of, flags_of, st
 ghost use Rattle.cf_world.specs.Entering.{IsLastAnswer, answer_of_cut};
 ghost use Rattle.std.specs.Prelude.{slice_get};
 
-use crate::flags::Flags;
 use crate::parcels::Parcels;
 use cf_body::ItemState;
 use cf_ids::{Answer, Ended, HandlerId, ModeId, OBJECTS, ObjId, ThreadId};
@@ -20,6 +19,7 @@ use cf_loops::Loops;
 use cf_model::Entry;
 use cf_next::{Facts, Used};
 use cf_owncheck::Checked;
+use cf_scene::Flags;
 use cf_store::Store;
 use cf_syntax::{Script, Statement};
 use std::alloc::{AllocError as NoMemory, Global};

@@ -1,7 +1,6 @@
 //! What the lead does: time moves where all threads sleep.
 ghost use Rattle.std.specs.Prelude.{◌≡◌, ◌<◌, false, length, map};
 ghost use Rattle.std.specs.List.{list_all};
-ghost use Rattle.rl_base.specs.Dates.{earlier};
 ghost use Rattle.cf_next.specs.declared.action.Action.TheVariants as actions;
 ghost use Rattle.cf_next.specs.Standing.{Standing};
 ghost use Rattle.cf_model.specs.Journals.{has_stalled, tick_flags, tick_or_stall};
@@ -13,12 +12,12 @@ ghost use Rattle.cf_world.specs.Worlds.{IsLegalWorld, IsTick, lead_in, lead_of, 
 
 use crate::begun::Begun;
 use crate::counts::write;
-use crate::flags::{Flags, Sleep};
 use crate::ground::Ground;
 use crate::next::LeadNext;
 use cf_ids::{Answer, ThreadId};
 use cf_model::Action;
 use cf_next::Frames;
+use cf_scene::{Flags, Sleep, earlier};
 
 impl Begun {
     /// What the lead does next.
@@ -131,17 +130,6 @@ fn all_done(frames: &[Frames]) -> bool
     ensures { result ≡ list_all (λ (f : Standing). f.stand.is_done) frames.now }
 {
     frames.iter().all(|f| f.is_done())
-}
-
-/// The earlier one of two dates, each of which there may be or not.
-fn earlier(a: Option<u64>, b: Option<u64>) -> Option<u64>
-    ensures { result ≡ earlier a b }
-{
-    match (a, b) {
-        (Some(a), Some(b)) => Some(if a <= b { a } else { b }),
-        (None, b) => b,
-        (a, None) => a,
-    }
 }
 
 /// A tick at this date, or a stall if there is none.

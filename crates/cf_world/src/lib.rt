@@ -5,14 +5,15 @@ mod applying;
 mod begun;
 mod counts;
 mod edges;
-mod flags;
 mod found;
 mod ground;
 mod leading;
 mod looking;
 mod next;
 mod parcels;
+mod running;
 mod statements;
+mod turning;
 mod world;
 
 pub use next::{LeadNext, Next};

@@ -8,7 +8,7 @@ ghost use Rattle.cf_syntax.specs.declared.script.Script.{Script as ScriptValue};
 ghost use Rattle.cf_model.specs.Journals.{makes_line};
 ghost use Rattle.cf_world.specs.Grounds.{state_of};
 ghost use Rattle.cf_world.specs.Begun.{AreFrames, IsLooked};
-ghost use Rattle.cf_world.specs.Kept.{IsKept, IsPlainStep, IsPlaced};
+ghost use Rattle.cf_world.specs.Kept.{IsKept, IsPlaced};
 
 use crate::found::{Found, Reserved};
 use crate::ground::Ground;
@@ -38,6 +38,7 @@ pub(crate) fn look(
     }
     let script = ground.script();
     let frames = &frames[t.0 as usize];
+    let _ = frames.depth();
     if frames.is_done() {
         return Err(Halt::Done);
     }
@@ -71,11 +72,11 @@ fn makes_object(step: &Step) -> bool
 
 /// What a thread does next, as it is kept; `block` is the number of the block of its innermost frame.
 fn found_of(step: &Step, block: u16) -> Found
-    requires { IsPlainStep step.now }
     ensures { (s : ScriptValue) (facts : Known) (t : ℕ) (stand : Stand) → IsStep s facts t stand step.now
         → IsPlaced s block step.now → IsKept s facts t stand result }
 {
     match step {
+        Step::Begins => Found::Begins,
         Step::Claims { place, variable } => Found::Claims {
             place: *place,
             variable: *variable,
@@ -95,8 +96,13 @@ fn found_of(step: &Step, block: u16) -> Found
             variable: *variable,
         },
         Step::Ends => Found::Ends,
+        Step::Returns => Found::Returns,
         Step::Owes { object, left } => Found::Owes {
             object: *object,
+            left: *left,
+        },
+        Step::Spends { item, left } => Found::Spends {
+            item: *item,
             left: *left,
         },
         Step::Drops {
@@ -110,6 +116,18 @@ fn found_of(step: &Step, block: u16) -> Found
             object: *object,
             left: *left,
         },
-        _ => unreachable!(),
+        Step::Calls {
+            callee,
+            handler,
+            info,
+            left,
+        } => Found::Calls {
+            callee: *callee,
+            handler: *handler,
+            info: *info,
+            left: *left,
+        },
+        Step::Enters(phase) => Found::Enters(*phase),
+        Step::Closes => Found::Closes,
     }
 }

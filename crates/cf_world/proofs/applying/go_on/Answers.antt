@@ -1,5 +1,5 @@
 -- Answers to the goals of `applying::go_on`.
-use Rattle.std.proofs.Common.{◌≡◌, ◌∙◌, ℕ, [], set, Option, Some, None, sym, subst, ap}
+use Rattle.std.proofs.Common.{◌≡◌, ◌∙◌, ℕ, length, set, Option, Some, sym, subst, ap}
 use Rattle.std.specs.Prelude.{IfSome}
 use Rattle.cf_syntax.specs.declared.script.Script.{Script}
 use Rattle.cf_next.specs.declared.step.Step.{Step}
@@ -13,7 +13,7 @@ use Rattle.cf_world.specs.Grounds.{state_of, known}
 use Rattle.cf_world.specs.Begun.{MovesBy}
 use Rattle.cf_world.specs.Kept.{step_kept}
 use Rattle.cf_world.proofs.Going.{found_here, none_here}
-use Rattle.cf_world.proofs.Moving.{go_moves, lent_here, no_list, room_of_step, step_here, within_frames}
+use Rattle.cf_world.proofs.Moving.{go_moves, lent_here, list_of_step, room_of_step, step_here, within_frames}
 use Rattle.cf_world.proofs.applying.go_on.Goals as goal
 
 pub advance_by-requires-clause-step : goal.advance_by-requires-clause-step
@@ -35,10 +35,10 @@ advance_by-requires-clause-room c =
     let g = c.args.ground.now in
     let fs = c.args.frames.now.items in
     let lent = lent_here fs c.args.t c.t.inside.0 c.index_mut.result.now _ c.index_mut.ensures.value c.t.view_is (within_frames g.script (state_of g).stands fs c.args.t c.requires.frames c.requires.thread) in
-    subst (StepRoom c.in-Some.step 0) (sym lent) (room_of_step c.in-Some.step _ c.requires.room)
+    subst (StepRoom c.in-Some.step (length c.args.list.now)) (sym lent) (room_of_step c.in-Some.step (length c.args.list.now) _ c.requires.room)
 
 pub advance_by-requires-clause-list : goal.advance_by-requires-clause-list
-advance_by-requires-clause-list c = no_list c.in-Some.step
+advance_by-requires-clause-list c = list_of_step c.in-Some.step c.args.list.now c.requires.numbers
 
 pub returns-in-Some : goal.returns-in-Some
 returns-in-Some c =
@@ -51,11 +51,11 @@ returns-in-Some c =
     let found = found_here (step_kept c.args.found.now) P x (subst (λ (r : Option Step). IfSome (step_kept c.args.found.now) (λ y. r ≡ Some y)) c.in-Some.is c.step_of.ensures) c.requires.step in
     let lent = lent_here fs t c.t.inside.0 c.index_mut.result.now _ c.index_mut.ensures.value c.t.view_is (within_frames g.script st.stands fs t c.requires.frames c.requires.thread) in
     let finals = finals_in (step_cut x) c.args.answer.now in
-    subst (λ (o : Option Step). IfSome o (MovesBy g t c.args.answer.now (set fs c.t.inside.0 c.advance_by.new.self))) (sym found.0)
-    (subst (λ (k : ℕ). MovesBy g t c.args.answer.now (set fs k c.advance_by.new.self) x) (sym c.t.view_is)
-    (go_moves g.script st.stands fs t c.requires.frames c.requires.thread (known g) (demand_of x) c.args.answer.now finals [] c.advance_by.new.self
+    subst (λ (o : Option Step). IfSome o (MovesBy g t c.args.answer.now c.args.list.now (set fs c.t.inside.0 c.advance_by.new.self))) (sym found.0)
+    (subst (λ (k : ℕ). MovesBy g t c.args.answer.now c.args.list.now (set fs k c.advance_by.new.self) x) (sym c.t.view_is)
+    (go_moves g.script st.stands fs t c.requires.frames c.requires.thread (known g) (demand_of x) c.args.answer.now finals c.args.list.now c.advance_by.new.self
     (c.advance_by.ensures.thread ∙ ap (λ (f : Standing). f.thread) lent)
-    (c.advance_by.ensures.stand ∙ ap (λ (f : Standing). advanced (known g) f.thread (demand_of x) c.args.answer.now finals [] f.stand) lent)))
+    (c.advance_by.ensures.stand ∙ ap (λ (f : Standing). advanced (known g) f.thread (demand_of x) c.args.answer.now finals c.args.list.now f.stand) lent)))
 
 pub returns-in_default : goal.returns-in_default
 returns-in_default c =

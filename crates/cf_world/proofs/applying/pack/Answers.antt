@@ -1,5 +1,5 @@
 -- Answers to the goals of `applying::pack`.
-use Rattle.std.proofs.Common.{◌<◌, length, arith, ap, refl, sym}
+use Rattle.std.proofs.Common.{length, arith, ap, refl, sym}
 use Rattle.cf_next.specs.declared.step.Step.TheVariants as steps
 use Rattle.cf_world.specs.declared.found.Found.TheVariants as kept
 use Rattle.cf_world.specs.Grounds.{state_of}

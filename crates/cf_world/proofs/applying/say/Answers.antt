@@ -1,5 +1,5 @@
 -- Answers to the goals of `applying::say`.
-use Rattle.std.proofs.Common.{◌≡◌, ◌∙◌, ◌≤◌, List, length, None, arith, ap, sym, subst}
+use Rattle.std.proofs.Common.{◌∙◌, length, None, arith, ap, sym, subst}
 use Rattle.std.specs.List.{All}
 use Rattle.cf_ids.specs.Ranges.{IsObjectNumber}
 use Rattle.cf_world.specs.declared.found.Found.TheVariants as kept

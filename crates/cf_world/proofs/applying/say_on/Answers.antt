@@ -1,5 +1,5 @@
 -- Answers to the goals of `applying::say_on`.
-use Rattle.std.proofs.Common.{◌≡◌, ◌∙◌, ℕ, ◌+◌, ◌<◌, List, length, get_or, set, Option, Some, None, sym, subst, ap}
+use Rattle.std.proofs.Common.{◌≡◌, ◌∙◌, ℕ, ◌+◌, ◌<◌, length, get_or, set, Option, Some, None, sym, subst, ap}
 use Rattle.cf_ids.specs.declared.answer.Answer.{Answer}
 use Rattle.cf_syntax.specs.BlockLines.{says}
 use Rattle.cf_next.specs.Advance.{advanced}

@@ -1,8 +1,7 @@
 -- Answers to the goals of `begun::first_frames`.
 use Rattle.std.proofs.Common.{◌+◌, ap, sym, subst}
-use Rattle.cf_next.specs.Stands.{opening_stand}
 use Rattle.cf_next.specs.Standing.{Standing}
-use Rattle.cf_world.proofs.Starting.{StartTo, all_started, start_more}
+use Rattle.cf_world.proofs.Starting.{StartTo, start_more}
 use Rattle.cf_world.proofs.begun.first_frames.Goals as goal
 
 pub loop-t-preserved : goal.loop-t-preserved

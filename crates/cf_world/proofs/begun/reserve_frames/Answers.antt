@@ -3,7 +3,7 @@ use Rattle.std.proofs.Common.{ℕ, set, sym, subst, ap, ◌∙◌}
 use Rattle.std.specs.Prelude.{OnOk}
 use Rattle.std.proofs.lemmas.List.{get_or-set_same}
 use Rattle.cf_next.specs.Standing.{Standing, HasRoomFor, RoomStays}
-use Rattle.cf_world.specs.Begun.{StandSo, most_listed, nobody, standing_at}
+use Rattle.cf_world.specs.Begun.{StandSo, nobody, standing_at}
 use Rattle.cf_world.proofs.Moving.{lent_here}
 use Rattle.cf_world.proofs.Rooming.{stand_stays, stays_all}
 use Rattle.cf_world.proofs.begun.reserve_frames.Goals as goal
@@ -21,9 +21,8 @@ returns-clause-room c =
     let fs = c.args.frames.now.items in
     let f = c.reserve_for.new.self in
     let a = c.args.action.now in
-    subst (λ (k : ℕ). OnOk c.reserve_for.result (HasRoomFor a (most_listed a) (standing_at (set fs k f) c.args.t))) (sym c.t.view_is)
-    (subst (λ (g : Standing). OnOk c.reserve_for.result (HasRoomFor a (most_listed a) g)) (sym (get_or-set_same fs c.args.t f nobody c.requires))
-    (subst (λ (m : ℕ). OnOk c.reserve_for.result (HasRoomFor a m f)) c.most_listed-more.ensures c.reserve_for.ensures.room))
+    subst (λ (k : ℕ). OnOk c.reserve_for.result (HasRoomFor a c.args.more (standing_at (set fs k f) c.args.t))) (sym c.t.view_is)
+    (subst (λ (g : Standing). OnOk c.reserve_for.result (HasRoomFor a c.args.more g)) (sym (get_or-set_same fs c.args.t f nobody c.requires)) c.reserve_for.ensures.room)
 
 pub returns-clause-kept : goal.returns-clause-kept
 returns-clause-kept c = λ a n u h.

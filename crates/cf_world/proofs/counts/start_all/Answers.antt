@@ -1,5 +1,5 @@
 -- Answers to the goals of `counts::start_all`.
-use Rattle.std.proofs.Common.{◌∙◌, ap, sym, arith, rules}
+use Rattle.std.proofs.Common.{◌∙◌, ap, arith, rules}
 use Rattle.std.proofs.lemmas.List.{length-map}
 use Rattle.cf_world.specs.Grounds.{flags_of}
 use Rattle.cf_world.proofs.Waking.{changed_more, changed_all}

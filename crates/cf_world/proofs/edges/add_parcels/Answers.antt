@@ -1,5 +1,5 @@
 -- Answers to the goals of `edges::add_parcels`.
-use Rattle.std.proofs.Common.{◌≡◌, ℕ, length, sym, ap, ◌∙◌, append-nil, refl, arith}
+use Rattle.std.proofs.Common.{ℕ, sym, ap, ◌∙◌, append-nil, arith}
 use Rattle.cf_graph.specs.Edges.{edges_of}
 use Rattle.cf_next.specs.Held.{below}
 use Rattle.cf_next.proofs.HeldLaws.{below-none}

@@ -1,7 +1,8 @@
 -- The loop invariants of `leading::next_while_going`.
-use Rattle.std.proofs.Common.{◌≡◌, false}
+use Rattle.cf_world.specs.Grounds.{state_of}
+use Rattle.cf_world.proofs.Awaiting.{Passed}
 use Rattle.cf_world.proofs.leading.next_while_going.Given as goal
 
--- no thread of those before sleeps
+-- what was found of the threads before
 abbrev pub invariant-loop-t : goal.invariant-loop-t
-invariant-loop-t l = l.some_sleep ≡ false
+invariant-loop-t l = Passed (state_of l.ground) l.t l.some_sleep l.due

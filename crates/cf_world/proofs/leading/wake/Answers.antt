@@ -1,5 +1,5 @@
 -- Answers to the goals of `leading::wake`.
-use Rattle.std.proofs.Common.{◌∙◌, ap, sym, arith, rules}
+use Rattle.std.proofs.Common.{◌∙◌, ap, arith, rules}
 use Rattle.cf_model.specs.Journals.{tick_flags}
 use Rattle.std.proofs.lemmas.List.{length-map}
 use Rattle.cf_world.specs.Grounds.{flags_of}

@@ -4,7 +4,7 @@ use Rattle.std.specs.Prelude.{slice_get}
 use Rattle.cf_syntax.specs.declared.script.Script.{Script}
 use Rattle.cf_next.specs.Ahead.{ahead}
 use Rattle.cf_next.specs.Standing.{Standing}
-use Rattle.cf_model.specs.State.{flags_at, stand_at}
+use Rattle.cf_model.specs.State.{flags_at}
 use Rattle.cf_model.specs.Journals.{is_asleep, sleeps}
 use Rattle.cf_world.specs.Begun.{standing_at}
 use Rattle.cf_world.specs.Grounds.{known, state_of}

@@ -1,9 +1,9 @@
 -- Answers to the goals of `begun::Begun::apply`.
-use Rattle.std.proofs.Common.{◌≡◌, false, Some, None, refl, sym, arith, ap, ◌∙◌}
+use Rattle.std.proofs.Common.{◌≡◌, false, None, refl, arith}
 use Rattle.cf_next.specs.Actions.{cut_of}
 use Rattle.cf_world.specs.Begun.{view_of}
 use Rattle.cf_world.specs.declared.begun.Begun.TheInside.{Inside}
-use Rattle.cf_world.proofs.Closing.{acts_here, acts_so, applied_here, applied_view, begun_after, entered_here, entered_view, reserved_here, room_here, thread_here}
+use Rattle.cf_world.proofs.Closing.{acts_here, acts_so, applied_here, applied_view, begun_after, reserved_here, room_here, thread_here}
 use Rattle.cf_world.proofs.begun.Begun.apply.Goals as goal
 
 pub enter-requires-clause-reserved : goal.enter-requires-clause-reserved

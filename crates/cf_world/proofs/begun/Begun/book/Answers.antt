@@ -1,5 +1,5 @@
 -- Answers to the goals of `begun::Begun::book`.
-use Rattle.std.proofs.Common.{◌≡◌, false, Some, None, refl, arith}
+use Rattle.std.proofs.Common.{◌≡◌, false, Some, refl, arith}
 use Rattle.cf_world.specs.Worlds.{retained_by}
 use Rattle.cf_world.specs.Begun.{view_of}
 use Rattle.cf_world.specs.declared.begun.Begun.TheInside.{Inside}

@@ -1,5 +1,5 @@
 -- Answers to the goals of `begun::Begun::edges`.
-use Rattle.std.proofs.Common.{◌≡◌, ℕ, ◌≤◌, length, ap, ◌∙◌, arith}
+use Rattle.std.proofs.Common.{length, ap, ◌∙◌, arith}
 use Rattle.std.specs.Prelude.{count_by}
 use Rattle.cf_graph.specs.Edges.{edges_of}
 use Rattle.cf_world.specs.Worlds.{WorldView, edges_in}

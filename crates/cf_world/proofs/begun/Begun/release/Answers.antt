@@ -1,10 +1,10 @@
 -- Answers to the goals of `begun::Begun::release`.
-use Rattle.std.proofs.Common.{◌≡◌, false, Some, None, refl, sym, arith, ap, ◌∙◌}
+use Rattle.std.proofs.Common.{◌≡◌, false, Some, refl, sym, arith, ap, ◌∙◌}
 use Rattle.cf_next.specs.Actions.{cut_of}
 use Rattle.cf_world.specs.Worlds.{WorldView, ended_in}
 use Rattle.cf_world.specs.Begun.{view_of}
 use Rattle.cf_world.specs.declared.begun.Begun.TheInside.{Inside}
-use Rattle.cf_world.proofs.Closing.{acts_here, acts_so, applied_here, applied_view, begun_after, entered_here, entered_view, reserved_here, room_here, thread_here}
+use Rattle.cf_world.proofs.Closing.{acts_here, acts_so, begun_after, entered_here, entered_view, reserved_here, room_here, thread_here}
 use Rattle.cf_world.proofs.begun.Begun.release.Goals as goal
 
 pub cut-requires-clause-reserved : goal.cut-requires-clause-reserved

@@ -1,7 +1,7 @@
 -- Answers to the goals of `begun::Begun::tick`.
 use Rattle.std.proofs.Common.{refl}
 use Rattle.cf_next.specs.declared.action.Action.TheVariants as actions
-use Rattle.cf_world.proofs.LeadWorlds.{has_place, begun_led, led_is, led_legal}
+use Rattle.cf_world.proofs.LeadWorlds.{has_place, begun_led}
 use Rattle.cf_world.proofs.begun.Begun.tick.Goals as goal
 
 pub enter_tick-requires-clause-place : goal.enter_tick-requires-clause-place

@@ -1,5 +1,5 @@
 -- Answers to the goals of `ground::Ground::enter_binding`.
-use Rattle.std.proofs.Common.{◌≡◌, ◌∙◌, ◌∷◌, ◌++◌, [], refl, ap}
+use Rattle.std.proofs.Common.{◌∙◌, ◌∷◌, ◌++◌, [], refl, ap}
 use Rattle.cf_syntax.specs.BlockLines.{says}
 use Rattle.cf_next.specs.Demands.{does}
 use Rattle.cf_world.proofs.Growing.{ground_after, has_written}

@@ -1,5 +1,5 @@
 -- Answers to the goals of `ground::Ground::flags`.
-use Rattle.std.proofs.Common.{◌<◌, length, arith, rules}
+use Rattle.std.proofs.Common.{◌<◌, length, arith}
 use Rattle.cf_world.proofs.Telling.{flags_count, flags_told}
 use Rattle.cf_world.proofs.ground.Ground.flags.Goals as goal
 

@@ -1,5 +1,5 @@
 -- Answers to the goals of `parcels::Parcels::set`.
-use Rattle.std.proofs.Common.{◌≡◌, ◌<◌, length, map, refl, arith}
+use Rattle.std.proofs.Common.{◌<◌, length, refl, arith}
 use Rattle.std.proofs.lemmas.List.{length-map}
 use Rattle.cf_world.proofs.Placing.{set_row}
 use Rattle.cf_world.proofs.parcels.Parcels.set.Goals as goal

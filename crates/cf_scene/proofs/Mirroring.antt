@@ -11,7 +11,7 @@ use Rattle.cf_contents.specs.Stores.{Held, objects_of, live, with_body, body_cha
 use Rattle.cf_contents.proofs.BodyLaws.{get-map, get-own, get-other, length-objects, objects-changed, objects-kept, objects-append}
 use Rattle.cf_contents.proofs.ContentLaws.{length-objects_after}
 use Rattle.cf_model.specs.State.{Parts, left_of}
-use Rattle.cf_world.specs.Grounds.{Mirrors}
+use Rattle.cf_scene.specs.Scenes.{Mirrors}
 
 -- bodies mirror the objects that were made, those that are finalised, and the bodies of the slots that were given up
 pub record AreMirrored (objects : List Object) (finalised dropped : List ℕ) (bodies : List Held) : Type 0 where

@@ -1,0 +1,4 @@
+-- The files of definitions of cf_scene.
+pub mod Scenes
+pub mod Dealing
+pub mod Sleeping

@@ -1,0 +1,15 @@
+//! The scene of a run, beside where its threads stand: what statements and phases over run loops do to the bodies, the
+//! loops and the flags of the threads.
+#![tactic(auto)]
+
+mod dealt;
+mod flags;
+mod places;
+mod sources;
+mod threads;
+
+pub use dealt::Dealt;
+pub use flags::{Flags, Sleep};
+pub use places::{add, drop_from, invalidate, make_common, spend};
+pub use sources::{fire, signal};
+pub use threads::{earlier, run, sleep, stop, wake};

@@ -110,7 +110,8 @@ pub fn count_dropped(modes: &Modes, place: &Place, item: ObjId) -> usize
 /// Appends the common items that a mode does not hold.
 pub fn push_gained(modes: &Modes, mode: ModeId, numbers: &mut Vec<ObjId>)
     requires { vec_len numbers.old + length (items_at Common modes.now.held) ≤ vec_capacity numbers.old }
-    ensures { numbers.new.items ≡ numbers.old.items ++ map (λ i. i.id) (common_gained mode modes.now.held) }
+    ensures gained { numbers.new.items ≡ numbers.old.items ++ map (λ i. i.id) (common_gained mode modes.now.held) }
+    ensures room { vec_capacity numbers.new ≡ vec_capacity numbers.old }
 {
     for item in modes.common_items() {
         if !modes.holds(mode, item.id) {

@@ -159,8 +159,9 @@ impl Loops {
     /// entry of `common` adds references. It takes no memory.
     pub fn gained(&self, t: ThreadId, m: ModeId, numbers: &mut Vec<ObjId>)
         requires { vec_len numbers.old + length (items_at Common (loop_at t self.now).held) ≤ vec_capacity numbers.old }
-        ensures { InStates self.now (λ s st. t < s.thread_count → m < length s.modes
+        ensures gained { InStates self.now (λ s st. t < s.thread_count → m < length s.modes
             → numbers.new.items ≡ numbers.old.items ++ map (λ r. r.object) (common_deal st t m).enters) }
+        ensures room { vec_capacity numbers.new ≡ vec_capacity numbers.old }
     {
         let Some(modes) = self.of(t) else {
             return;

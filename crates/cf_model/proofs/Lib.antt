@@ -28,9 +28,7 @@ pub mod OwnedNext
 pub mod Sharing
 pub mod Winning
 pub mod PlainDeals
-pub mod PlainSteps
-pub mod PlainStands
-pub mod PlainStates
+pub mod Staged
 pub mod FirstHeld
 pub mod ParcelSteps
 pub mod PackedLines

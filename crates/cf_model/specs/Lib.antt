@@ -15,7 +15,7 @@ pub mod Bounds
 pub mod Leading
 pub mod Coming
 pub mod Sharing
-pub mod Stage
+pub mod Plain
 pub mod Tokens
 pub mod Owned
 pub mod Parcels

@@ -1,5 +1,5 @@
 //! Laws of journals, which hold of every script.
-ghost use Rattle.std.specs.Prelude.{◌≡◌, ◌≢◌, ◌<◌, ℕ, true, false, List, ◌∷◌, ◌++◌, Option, Some, None, slice_get};
+ghost use Rattle.std.specs.Prelude.{◌≡◌, ◌≢◌, ◌<◌, ℕ, true, false, List, [], ◌∷◌, ◌++◌, Option, Some, None, slice_get};
 ghost use Rattle.cf_syntax.specs.declared.script.Script.{Script};
 ghost use Rattle.cf_model.specs.declared.entry.Entry.{Entry};
 ghost use Rattle.cf_model.specs.Bounds.{AddsFew, AreFew, FewOfLegal, FewReferences, GainsAreListed, NumbersOfLists};
@@ -9,7 +9,7 @@ ghost use Rattle.cf_model.specs.Flowing.{ChangesGrow, GainsFew, GainsFit, HeldCh
 ghost use Rattle.cf_model.specs.Coming.{ComingIsHad, ComingStays, FirstIsNext, OwnStays};
 ghost use Rattle.cf_model.specs.Finals.{FinalsFit};
 ghost use Rattle.cf_model.specs.Growing.{GrowsBy};
-ghost use Rattle.cf_model.specs.Journals.{After, IsLegal, Next, all_sleep};
+ghost use Rattle.cf_model.specs.Journals.{After, IsLegal, Next};
 ghost use Rattle.cf_model.specs.Leading.{LeadTells};
 ghost use Rattle.cf_model.specs.Parcels.{HasOneAtMost};
 ghost use Rattle.cf_model.specs.Owned.{GivesUp, NextIsLegal, ReleaseIsOwn, UsesFit};
@@ -27,11 +27,12 @@ ghost use Rattle.cf_contents.specs.Deeds.{deed_at, fresh, with_change};
 ghost use Rattle.cf_next.specs.declared.action.Action.{Action};
 ghost use Rattle.cf_next.specs.Actions.{cut_of};
 ghost use Rattle.cf_next.specs.Stands.{Kind};
-ghost use Rattle.cf_next.specs.Demands.{Demand, frame_lines};
-ghost use Rattle.cf_model.specs.State.{State, stand_at};
+ghost use Rattle.cf_next.specs.Demands.{frame_lines};
+ghost use Rattle.cf_model.specs.State.{Parts, State, stand_at};
 ghost use Rattle.cf_model.specs.Steps.{demanded};
 ghost use Rattle.cf_model.specs.Things.{thing_in, thing_of};
-ghost use Rattle.cf_model.specs.Stage.{IsPlainStand, IsPlainState, IsPlainDemand, DealsPlainly};
+ghost use Rattle.cf_model.specs.Deals.{posts_of};
+ghost use Rattle.cf_model.specs.Plain.{ActsOnBodies, DealsPlainly};
 
 /// Two legal journals of a script with the same threads, and the same ticks and stalls of the lead, are equal: the
 /// answer and the effect of a legal entry are functions of the state.
@@ -185,28 +186,17 @@ pub fn lines_are_of_the_stage()
         → slice_get (frame_lines s kind block) n ≡ Some (says x) → is_of_stage x ≡ true }
 {}
 
-/// After every list of entries of a script whose statements are of the forms that the reader takes, each of its
-/// threads is in its block alone.
-pub fn stands_are_plain()
-    ensures { (s : Script) (es : List Entry) (t : ℕ) → IsOfStage s → t < s.thread_count
-        → IsPlainStand t (stand_at t (After s es).stands) }
+/// A script whose statements are all of the forms that the reader takes has nothing registered after any list of
+/// entries, and none of its statements posts to anybody.
+pub fn nothing_is_registered()
+    ensures registrations { (s : Script) (es : List Entry) → IsOfStage s → (After s es).parts.registrations ≡ [] }
+    ensures posts { (p : Parts) (x : Statement) (used : List (Option ℕ)) → is_of_stage x ≡ true
+        → posts_of p x used ≡ [] }
 {}
 
-/// After every list of entries of such a script, no loop and no notice has anything.
-pub fn parts_are_plain()
-    ensures { (s : Script) (es : List Entry) → IsOfStage s → IsPlainState s (After s es) }
-{}
-
-/// In such a state a thread demands a claim, a statement that the reader takes, what setup packs, the end of its
-/// block, the release of what it was given out, or a slot of a finalised body.
-pub fn plain_demands()
-    ensures { (s : Script) (st : State) (t : ℕ) (d : Demand) → IsOfStage s → IsPlainState s st
-        → demanded s st t ≡ Some d → IsPlainDemand d }
-{}
-
-/// A statement of a form that the reader takes does what its deed says, and no more.
+/// A statement that acts on bodies alone does what its deed says, and no more.
 pub fn plain_deals()
-    ensures { (s : Script) (t : ℕ) (st : State) (x : Statement) (used : List (Option ℕ)) → is_of_stage x ≡ true
+    ensures { (s : Script) (t : ℕ) (st : State) (x : Statement) (used : List (Option ℕ)) → ActsOnBodies x
         → DealsPlainly s t st x used }
 {}
 
@@ -260,10 +250,4 @@ pub fn gains_are_listed()
 /// After every list of entries of every script a place of a parcel has one reference at most.
 pub fn parcels_have_one()
     ensures { (s : Script) (es : List Entry) (u k : ℕ) → HasOneAtMost (parcel u k) (After s es).edges }
-{}
-
-/// In such a state no loop sleeps, so a legal journal of such a script has no tick and no stall, and time stands at 0.
-pub fn plain_time_stands()
-    ensures awake { (s : Script) (st : State) → IsPlainState s st → all_sleep s st ≡ false }
-    ensures time { (s : Script) (es : List Entry) → IsOfStage s → IsLegal s es → (After s es).parts.time ≡ 0 }
 {}

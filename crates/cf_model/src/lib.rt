@@ -23,8 +23,8 @@ pub use laws::{
     gains_are_listed, gains_are_live_or_new, held_along_journals, held_references_change_by_flows,
     journals_are_determined, journals_grow, lead_ends_the_run, lead_tells_the_times,
     lines_are_of_the_stage, made_objects_have_changes, next_actions_of_owned_scripts,
-    next_retains_are_had, next_retains_stay, nothing_without_threads, numbers_of_lists,
-    own_references_stay, parcels_have_one, parts_are_plain, plain_deals, plain_demands,
-    plain_time_stands, references_in_view_and_of_others, references_stay_few,
-    releases_take_their_own, sizes_stay_small, stands_are_plain, threads_demand_until_done,
+    next_retains_are_had, next_retains_stay, nothing_is_registered, nothing_without_threads,
+    numbers_of_lists, own_references_stay, parcels_have_one, plain_deals,
+    references_in_view_and_of_others, references_stay_few, releases_take_their_own,
+    sizes_stay_small, threads_demand_until_done,
 };

@@ -3,3 +3,7 @@ pub mod Mirroring
 pub mod Things
 pub mod Doing
 pub mod Flagging
+pub mod Needing
+pub mod Naming
+pub mod OverLoops
+pub mod Settling

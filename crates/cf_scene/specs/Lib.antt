@@ -2,3 +2,6 @@
 pub mod Scenes
 pub mod Dealing
 pub mod Sleeping
+pub mod Needs
+pub mod Gains
+pub mod Acts

@@ -1,4 +1,5 @@
 -- The files of lemmas of cf_script.
+pub mod AbsentLaws
 pub mod ClassLaws
 pub mod FeedLaws
 pub mod FormHintLaws

@@ -4,16 +4,16 @@ use Rattle.std.specs.Prelude.{codes, ◌==◌}
 use Rattle.std.proofs.lemmas.Bool.{eqb-true}
 use Rattle.cf_syntax.specs.declared.script.Script.{Script}
 use Rattle.cf_syntax.specs.declared.statement.Statement.{Statement}
+use Rattle.cf_syntax.specs.declared.refusal.Refusal.{Refusal}
 use Rattle.cf_syntax.specs.declared.refusal.Reason.{Reason}
 use Rattle.cf_syntax.specs.Lines.{lines}
 use Rattle.cf_syntax.specs.FormWords.{◌>>=◌, Names, With}
-use Rattle.cf_syntax.specs.Text.{Reading, Opened, is_word, is_handler, with_statement, statement_of, statement_line, place_line, after_line, whole, on_line_after, read_from, script_of}
+use Rattle.cf_syntax.specs.Text.{Reading, Opened, start, is_word, is_handler, with_statement, statement_of, statement_line, place_line, after_line, whole, on_line_after, read_from, named_threads, script_by, script_of}
 use Rattle.cf_script.specs.declared.fault.LineFault.{LineFault}
 use Rattle.cf_script.specs.declared.fault.LineFault.TheVariants.{Faulty, NoRoom}
 use Rattle.cf_script.specs.declared.fault.ScriptFault.{ScriptFault}
 use Rattle.cf_script.specs.Gives.{Fails, GivesAs, Gives, GivesFault}
 use Rattle.cf_script.specs.BlockViews.{with_line}
-use Rattle.cf_script.proofs.ThreadLaws.{finish}
 
 -- a reading with the open block and the names after a statement
 abbrev put_in : Reading → With Opened → Reading
@@ -37,30 +37,38 @@ placed_in r b (Err e) (Err (Faulty f)) x h = ap (put_in_all r) h
 placed_in r b (Err e) (Err NoRoom) x h = tt
 
 -- a statement in the open block
-pub line_placed : (r : Reading) (b : Opened) (ws : List (List ℕ)) (result : Result (Unit {0}) LineFault) (names : Names)
+pub line_placed : (threads : List (List ℕ)) (r : Reading) (b : Opened) (ws : List (List ℕ)) (result : Result (Unit {0}) LineFault) (names : Names)
     (after : Opened)
-    → GivesAs (λ _. record { names = names; value = after }) result (with_line r.classes r.names b (r.count + 1) ws)
-    → GivesAs (λ _. record r { open_block = Some after; names = names }) result (statement_line [] r b ws)
+    → GivesAs (λ _. record { names = names; value = after }) result (with_line r.classes threads r.names b (r.count + 1) ws)
+    → GivesAs (λ _. record r { open_block = Some after; names = names }) result (statement_line threads r b ws)
 unfolding statement_line
-line_placed r b ws result names after h =
-    placed_in r b (statement_of r.classes [] (is_handler b.kind) r.names ws) result (record { names = names; value = after }) h
+line_placed threads r b ws result names after h =
+    placed_in r b (statement_of r.classes threads (is_handler b.kind) r.names ws) result (record { names = names; value = after }) h
 
-pub placed : (r s : Reading) (o : Option Opened) (b : Opened) (ws : List (List ℕ))
+pub placed : (threads : List (List ℕ)) (r s : Reading) (o : Option Opened) (b : Opened) (ws : List (List ℕ))
     (result : Result (Unit {0}) LineFault)
     → o ≡ Some b → is_word ws 0 (codes "end") ≡ false
-    → GivesAs (λ _. s) result (statement_line [] r b ws)
-    → GivesAs (λ _. s) result (place_line [] r o ws)
-placed r s o b ws result e f h = rw (e, f) h
+    → GivesAs (λ _. s) result (statement_line threads r b ws)
+    → GivesAs (λ _. s) result (place_line threads r o ws)
+placed threads r s o b ws result e f h = rw (e, f) h
+
+-- reading on to the end of the text
+abbrev pub finish : (threads : List (List ℕ)) → Reading → List (List ℕ) → Result Script Refusal
+finish threads r ls = read_from threads r ls >>= (λ s. on_line_after s.count (whole s))
+
+pub script_finish : (bs : List ℕ) → finish (named_threads (lines bs)) start (lines bs) ≡ script_of bs
+unfolding script_by
+script_finish bs = refl
 
 -- the fault of a line is that of the text
-pub line_refused : (r : Reading) (all : List (List ℕ)) (l : List ℕ) (ls : List (List ℕ)) (bs : List ℕ)
+pub line_refused : (threads : List (List ℕ)) (r : Reading) (all : List (List ℕ)) (l : List ℕ) (ls : List (List ℕ)) (bs : List ℕ)
     (fault : LineFault) (err : ScriptFault)
-    → finish r all ≡ script_of bs → all ≡ l ∷ ls → Fails fault (after_line [] r l)
+    → finish threads r all ≡ script_of bs → all ≡ l ∷ ls → Fails fault (after_line threads r l)
     → GivesFault r.count fault err → Gives (Err err) (script_of bs)
-line_refused r all l ls bs (Faulty reason) err so_far is e g =
-    rw g (sym so_far ∙ ap (finish r) is
-    ∙ ap (λ (n : Result Reading Reason). (on_line_after r.count n >>= (λ s. read_from [] s ls)) >>= (λ s. on_line_after s.count (whole s))) e)
-line_refused r all l ls bs NoRoom err so_far is e g = rw g tt
+line_refused threads r all l ls bs (Faulty reason) err so_far is e g =
+    rw g (sym so_far ∙ ap (finish threads r) is
+    ∙ ap (λ (n : Result Reading Reason). (on_line_after r.count n >>= (λ s. read_from threads s ls)) >>= (λ s. on_line_after s.count (whole s))) e)
+line_refused threads r all l ls bs NoRoom err so_far is e g = rw g tt
 
 -- no byte is left where a test says so
 pub none_left : (bs : List ℕ) (t : Bool) → t ≡ (length bs == 0) → t ≡ true → bs ≡ []
@@ -71,7 +79,7 @@ none_left bs t e f = none bs (eqb-true (length bs) 0 (sym e ∙ f))
     none (b ∷ bs) e = absurd (omega (arith, e))
 
 -- what is made at the end of the text is its script
-pub read_whole : (bs : List ℕ) (r : Reading) (rest : List ℕ) (s : Script) → finish r (lines rest) ≡ script_of bs
+pub read_whole : (threads : List (List ℕ)) (bs : List ℕ) (r : Reading) (rest : List ℕ) (s : Script) → finish threads r (lines rest) ≡ script_of bs
     → rest ≡ [] → whole r ≡ Ok s → script_of bs ≡ Ok s
-read_whole bs r rest s so_far none e =
-    sym so_far ∙ ap (λ (ls : List ℕ). finish r (lines ls)) none ∙ ap (λ (n : Result Script Reason). on_line_after r.count n) e
+read_whole threads bs r rest s so_far none e =
+    sym so_far ∙ ap (λ (ls : List ℕ). finish threads r (lines ls)) none ∙ ap (λ (n : Result Script Reason). on_line_after r.count n) e

@@ -17,8 +17,8 @@ use Rattle.cf_script.proofs.TableLaws.{IsOf, form_row, row_count}
 -- the rows of the table have the shapes of their forms
 record IsShaped (r : FormWord) (x : Shape) : Type 0 where
   operands : r.operands ≡ operands_by x
-  says : (classes : List ClassLine) (ns : Numbers) (ws : List (List ℕ))
-      → statement_by classes [] r.form ns ws ≡ Ok (made_by x ns ws)
+  says : (classes : List ClassLine) (threads : List (List ℕ)) (ns : Numbers) (ws : List (List ℕ))
+      → statement_by classes threads r.form ns ws ≡ Ok (made_by x ns ws)
 
 abbrev Shaped : FormWord → Type 0
 Shaped r = (x : Shape) → shape_of r.form ≡ Some x → IsShaped r x
@@ -31,12 +31,13 @@ some_same : (x y : Shape) → Some x ≡ Some y → x ≡ y
 some_same x y e = cc
 
 shaped : (r : FormWord) (x y : Shape) → (r.operands ≡ operands_by x)
-    → ((classes : List ClassLine) (ns : Numbers) (ws : List (List ℕ)) → statement_by classes [] r.form ns ws ≡ Ok (made_by x ns ws))
+    → ((classes : List ClassLine) (threads : List (List ℕ)) (ns : Numbers) (ws : List (List ℕ))
+    → statement_by classes threads r.form ns ws ≡ Ok (made_by x ns ws))
     → Some x ≡ Some y → IsShaped r y
 shaped r x y os s e = subst (IsShaped r) (some_same x y e) (record { operands = os; says = s })
 
 all_shaped : AllShaped forms_now
-all_shaped = (λ x e. shaped _ _ x refl (λ c n w. refl) e, (λ x e. shaped _ _ x refl (λ c n w. refl) e, (λ x e. shaped _ _ x refl (λ c n w. refl) e, (λ x e. absurd cc, (λ x e. absurd cc, (λ x e. absurd cc, (λ x e. absurd cc, (λ x e. absurd cc, (λ x e. absurd cc, (λ x e. absurd cc, (λ x e. absurd cc, (λ x e. absurd cc, (λ x e. absurd cc, (λ x e. absurd cc, (λ x e. absurd cc, (λ x e. absurd cc, (λ x e. absurd cc, (λ x e. absurd cc, (λ x e. absurd cc, (λ x e. shaped _ _ x refl (λ c n w. refl) e, (λ x e. absurd cc, (λ x e. shaped _ _ x refl (λ c n w. refl) e, (λ x e. absurd cc, (λ x e. absurd cc, (λ x e. absurd cc, (λ x e. absurd cc, (λ x e. shaped _ _ x refl (λ c n w. refl) e, (λ x e. absurd cc, (λ x e. shaped _ _ x refl (λ c n w. refl) e, (λ x e. shaped _ _ x refl (λ c n w. refl) e, (λ x e. shaped _ _ x refl (λ c n w. refl) e, (λ x e. shaped _ _ x refl (λ c n w. refl) e, (λ x e. absurd cc, (λ x e. shaped _ _ x refl (λ c n w. refl) e, (λ x e. shaped _ _ x refl (λ c n w. refl) e, (λ x e. shaped _ _ x refl (λ c n w. refl) e, (λ x e. shaped _ _ x refl (λ c n w. refl) e, (λ x e. absurd cc, (λ x e. shaped _ _ x refl (λ c n w. refl) e, (λ x e. shaped _ _ x refl (λ c n w. refl) e, (λ x e. shaped _ _ x refl (λ c n w. refl) e, (λ x e. shaped _ _ x refl (λ c n w. refl) e, (λ x e. shaped _ _ x refl (λ c n w. refl) e, (λ x e. absurd cc, (λ x e. shaped _ _ x refl (λ c n w. refl) e, (λ x e. absurd cc, (λ x e. shaped _ _ x refl (λ c n w. refl) e, (λ x e. shaped _ _ x refl (λ c n w. refl) e, (λ x e. shaped _ _ x refl (λ c n w. refl) e, (λ x e. absurd cc, tt))))))))))))))))))))))))))))))))))))))))))))))))))
+all_shaped = (λ x e. shaped _ _ x refl (λ c t n w. refl) e, (λ x e. shaped _ _ x refl (λ c t n w. refl) e, (λ x e. shaped _ _ x refl (λ c t n w. refl) e, (λ x e. absurd cc, (λ x e. absurd cc, (λ x e. absurd cc, (λ x e. absurd cc, (λ x e. absurd cc, (λ x e. absurd cc, (λ x e. absurd cc, (λ x e. absurd cc, (λ x e. absurd cc, (λ x e. absurd cc, (λ x e. absurd cc, (λ x e. absurd cc, (λ x e. absurd cc, (λ x e. absurd cc, (λ x e. absurd cc, (λ x e. absurd cc, (λ x e. absurd cc, (λ x e. shaped _ _ x refl (λ c t n w. refl) e, (λ x e. absurd cc, (λ x e. shaped _ _ x refl (λ c t n w. refl) e, (λ x e. absurd cc, (λ x e. absurd cc, (λ x e. absurd cc, (λ x e. absurd cc, (λ x e. shaped _ _ x refl (λ c t n w. refl) e, (λ x e. absurd cc, (λ x e. shaped _ _ x refl (λ c t n w. refl) e, (λ x e. shaped _ _ x refl (λ c t n w. refl) e, (λ x e. shaped _ _ x refl (λ c t n w. refl) e, (λ x e. shaped _ _ x refl (λ c t n w. refl) e, (λ x e. absurd cc, (λ x e. shaped _ _ x refl (λ c t n w. refl) e, (λ x e. shaped _ _ x refl (λ c t n w. refl) e, (λ x e. shaped _ _ x refl (λ c t n w. refl) e, (λ x e. shaped _ _ x refl (λ c t n w. refl) e, (λ x e. absurd cc, (λ x e. shaped _ _ x refl (λ c t n w. refl) e, (λ x e. shaped _ _ x refl (λ c t n w. refl) e, (λ x e. shaped _ _ x refl (λ c t n w. refl) e, (λ x e. shaped _ _ x refl (λ c t n w. refl) e, (λ x e. shaped _ _ x refl (λ c t n w. refl) e, (λ x e. absurd cc, (λ x e. shaped _ _ x refl (λ c t n w. refl) e, (λ x e. absurd cc, (λ x e. shaped _ _ x refl (λ c t n w. refl) e, (λ x e. shaped _ _ x refl (λ c t n w. refl) e, (λ x e. shaped _ _ x refl (λ c t n w. refl) e, (λ x e. absurd cc, (λ x e. absurd cc, (λ x e. absurd cc, (λ x e. absurd cc, (λ x e. absurd cc, (λ x e. absurd cc, (λ x e. absurd cc, (λ x e. absurd cc, (λ x e. absurd cc, (λ x e. absurd cc, tt))))))))))))))))))))))))))))))))))))))))))))))))))))))))))))
 
 found_shaped : (test : FormWord → Bool) (rows : List FormWord) (r : FormWord) → AllShaped rows
     → find_row test rows ≡ Some r → Shaped r
@@ -128,7 +129,7 @@ read_as names s = Ok (record { names = names; value = s })
 pub one_reads : (h : Bool) (names : Names) (form : StatementForm) (ws : List (List ℕ)) (w1 : List ℕ) (v : ℕ)
     → w1 ≡ word_at ws 1 → IsKnown h names w1 v
     → (s : Statement) → by_one (shape_of form) v ≡ Some s → Reads h names form ws s
-one_reads h names form ws w1 v a k s e = λ classes r found is.
+one_reads h names form ws w1 v a k s e = λ classes threads r found is.
     let o = one_of (shape_of form) v s e in
     let row = row_shaped ws r (one o.0) found (ap shape_of is ∙ o.1) in
     rw (row.operands, two_words ws (row_words ws r (one o.0) found row.operands), ← a, k.used, k.known, row.says)
@@ -137,7 +138,7 @@ one_reads h names form ws w1 v a k s e = λ classes r found is.
 pub two_reads : (h : Bool) (names : Names) (form : StatementForm) (ws : List (List ℕ)) (w1 w2 : List ℕ) (v w : ℕ)
     → w1 ≡ word_at ws 1 → w2 ≡ word_at ws 2 → IsKnown h names w1 v → IsKnown h names w2 w
     → (s : Statement) → by_two (shape_of form) v w ≡ Some s → Reads h names form ws s
-two_reads h names form ws w1 w2 v w a b k l s e = λ classes r found is.
+two_reads h names form ws w1 w2 v w a b k l s e = λ classes threads r found is.
     let o = two_of (shape_of form) v w s e in
     let row = row_shaped ws r (two o.0) found (ap shape_of is ∙ o.1) in
     rw (row.operands, three_words ws (row_words ws r (two o.0) found row.operands), ← a, ← b, k.used, l.used, k.known, l.known, row.says)
@@ -147,7 +148,7 @@ pub three_reads : (h : Bool) (names : Names) (form : StatementForm) (ws : List (
     → w1 ≡ word_at ws 1 → w2 ≡ word_at ws 2 → w3 ≡ word_at ws 3
     → IsKnown h names w1 v → IsKnown h names w2 w → IsKnown h names w3 x
     → (s : Statement) → by_three (shape_of form) v w x ≡ Some s → Reads h names form ws s
-three_reads h names form ws w1 w2 w3 v w x a b d k l m s e = λ classes r found is.
+three_reads h names form ws w1 w2 w3 v w x a b d k l m s e = λ classes threads r found is.
     let o = three_of (shape_of form) v w x s e in
     let row = row_shaped ws r (three o.0) found (ap shape_of is ∙ o.1) in
     rw (row.operands, four_words ws (row_words ws r (three o.0) found row.operands), ← a, ← b, ← d, k.used, l.used, m.used, k.known, l.known, m.known, row.says)
@@ -156,7 +157,7 @@ three_reads h names form ws w1 w2 w3 v w x a b d k l m s e = λ classes r found 
 pub at_reads : (h : Bool) (names : Names) (form : StatementForm) (ws : List (List ℕ)) (w1 w2 : List ℕ) (v i : ℕ)
     → w1 ≡ word_at ws 1 → w2 ≡ word_at ws 2 → IsKnown h names w1 v → Some i ≡ index_of w2
     → (s : Statement) → by_at (shape_of form) v i ≡ Some s → Reads h names form ws s
-at_reads h names form ws w1 w2 v i a b k l s e = λ classes r found is.
+at_reads h names form ws w1 w2 v i a b k l s e = λ classes threads r found is.
     let o = at_of (shape_of form) v i s e in
     let row = row_shaped ws r (at o.0) found (ap shape_of is ∙ o.1) in
     rw (row.operands, three_words ws (row_words ws r (at o.0) found row.operands), ← a, ← b, k.used, ← l, k.known, row.says)
@@ -166,7 +167,7 @@ pub put_reads : (h : Bool) (names : Names) (form : StatementForm) (ws : List (Li
     → w1 ≡ word_at ws 1 → w2 ≡ word_at ws 2 → w3 ≡ word_at ws 3
     → IsKnown h names w1 v → Some i ≡ index_of w2 → IsKnown h names w3 w
     → (s : Statement) → by_put (shape_of form) v i w ≡ Some s → Reads h names form ws s
-put_reads h names form ws w1 w2 w3 v i w a b d k l m s e = λ classes r found is.
+put_reads h names form ws w1 w2 w3 v i w a b d k l m s e = λ classes threads r found is.
     let o = put_of (shape_of form) v i w s e in
     let row = row_shaped ws r (put o.0) found (ap shape_of is ∙ o.1) in
     rw (row.operands, four_words ws (row_words ws r (put o.0) found row.operands), ← a, ← b, ← d, k.used, ← l, m.used, k.known, m.known, row.says)
@@ -176,7 +177,7 @@ pub span_reads : (h : Bool) (names : Names) (form : StatementForm) (ws : List (L
     → w1 ≡ word_at ws 1 → w2 ≡ word_at ws 2 → w3 ≡ word_at ws 3
     → IsKnown h names w1 v → Some i ≡ index_of w2 → Some n ≡ index_of w3
     → (s : Statement) → by_span (shape_of form) v i n ≡ Some s → Reads h names form ws s
-span_reads h names form ws w1 w2 w3 v i n a b d k l m s e = λ classes r found is.
+span_reads h names form ws w1 w2 w3 v i n a b d k l m s e = λ classes threads r found is.
     let o = span_of (shape_of form) v i n s e in
     let row = row_shaped ws r (span o.0) found (ap shape_of is ∙ o.1) in
     rw (row.operands, four_words ws (row_words ws r (span o.0) found row.operands), ← a, ← b, ← d, k.used, ← l, ← m, k.known, row.says)

@@ -16,13 +16,13 @@ abbrev pub put : Opened → ℕ → Result (With Statement) Reason → Result (W
 put b line found = found >>= (λ s. Ok (record { names = s.names; value = with_statement b s.value line }))
 
 -- a line is a statement of its form, by names that are the same
-pub line_by : (classes : List ClassLine) (names same : Names) (b : Opened) (line : ℕ) (ws : List (List ℕ))
+pub line_by : (classes : List ClassLine) (threads : List (List ℕ)) (names same : Names) (b : Opened) (line : ℕ) (ws : List (List ℕ))
     (r : FormWord)
     (h : Bool)
     → form_of ws ≡ Ok r → same ≡ names → h ≡ is_handler b.kind
-    → with_line classes names b line ws ≡ put b line (statement_in classes h same r ws)
+    → with_line classes threads names b line ws ≡ put b line (statement_in classes threads h same r ws)
 unfolding statement_of
-line_by classes names same b line ws r h e en eh = rw (e, en, eh) refl
+line_by classes threads names same b line ws r h e en eh = rw (e, en, eh) refl
 
 -- one that fails, and one that is there
 pub line_fails : (b : Opened) (line : ℕ) (u : Result (With Statement) Reason) (all : Result (With Opened) Reason)

@@ -34,16 +34,17 @@ reading_of r = record {
 }
 
 -- a block that is open with a statement more, whose line has a number, and the names after it
-abbrev pub with_line : List ClassLine → Names → Opened → (line : ℕ) → List (List ℕ) → Result (With Opened) Reason
-with_line classes names b line ws = do
-  s ← statement_of classes [] (is_handler b.kind) names ws
+abbrev pub with_line : List ClassLine → (threads : List (List ℕ)) → Names → Opened → (line : ℕ) → List (List ℕ)
+    → Result (With Opened) Reason
+with_line classes threads names b line ws = do
+  s ← statement_of classes threads (is_handler b.kind) names ws
   Ok (record { names = s.names; value = with_statement b s.value line })
 
 -- the statement of a form that is found
-abbrev pub statement_in : List ClassLine → (in_handler : Bool) → Names → FormWord → List (List ℕ)
-    → Result (With Statement) Reason
-statement_in classes in_handler names r ws = do
+abbrev pub statement_in : List ClassLine → (threads : List (List ℕ)) → (in_handler : Bool) → Names → FormWord
+    → List (List ℕ) → Result (With Statement) Reason
+statement_in classes threads in_handler names r ws = do
   _ ← are_of in_handler r.operands [] (drop 1 ws)
   ns ← numbers_of r.operands (drop 1 ws) (no_numbers names)
-  s ← statement_by classes [] r.form ns.value ws
+  s ← statement_by classes threads r.form ns.value ws
   Ok (record { names = ns.names; value = s })

@@ -98,5 +98,5 @@ pub record IsKnown (in_handler : Bool) (names : Names) (word : List ℕ) (v : �
 
 -- the words of a line of a form are a statement that brings no name
 abbrev pub Reads : (in_handler : Bool) → Names → StatementForm → List (List ℕ) → Statement → Type 0
-Reads in_handler names form ws s = (classes : List ClassLine) (r : FormWord) → form_of ws ≡ Ok r → r.form ≡ form
-    → statement_in classes in_handler names r ws ≡ Ok (record { names = names; value = s })
+Reads in_handler names form ws s = (classes : List ClassLine) (threads : List (List ℕ)) (r : FormWord)
+    → form_of ws ≡ Ok r → r.form ≡ form → statement_in classes threads in_handler names r ws ≡ Ok (record { names = names; value = s })

@@ -20,6 +20,11 @@ abbrev pub found_row : Result (Bor FormWord) Reason → Result FormTable.FormWor
 found_row (Ok r) = Ok (form_word_of r.now)
 found_row (Err e) = Err e
 
+-- a name that is there, as a list
+abbrev pub name_list : Option (Bor (List ℕ)) → List (List ℕ)
+name_list None = []
+name_list (Some name) = name.now ∷ []
+
 -- forms that some words may both be of: kinds that one word may be, and all else the same
 abbrev pub may_meet : Option (List ℕ) → Option (List ℕ) → Bool
 may_meet None k = true

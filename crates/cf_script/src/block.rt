@@ -16,6 +16,7 @@ use crate::names::{Names, copies, in_order};
 use crate::openings::after;
 use crate::shapes::known_statement;
 use crate::statements::read_statement;
+use crate::threads::Threads;
 use crate::words::{is, word_at, words_of};
 use cf_ids::Seq;
 use cf_syntax::{Block, BlockKind, Given, Handler, Parts, Reason, Statement};
@@ -81,19 +82,20 @@ impl OpenBlock {
         &mut self,
         alloc: Global,
         classes: &Classes,
+        threads: &Threads,
         names: &mut Names,
         line: u32,
         words: &[&[u8]],
     ) -> Result<(), LineFault>
         ensures { GivesAs (λ _. record { names = names.new; value = open_block_of self.new }) result
-            (with_line classes.now names.old (open_block_of self.old) line (lent words.now)) }
+            (with_line classes.now threads.now names.old (open_block_of self.old) line (lent words.now)) }
     {
         let form_word = names.form_of(words)?;
         let in_handler = is_handler(self.kind);
         if let Some(statement) = known_statement(names, in_handler, form_word.form, words) {
             return self.push(statement, line);
         }
-        match read_statement(alloc, classes, in_handler, names, form_word, words) {
+        match read_statement(alloc, classes, threads, in_handler, names, form_word, words) {
             Ok(statement) => self.push(statement, line),
             Err(fault) => Err(fault),
         }
@@ -174,17 +176,22 @@ impl Reader {
 
     /// A line that says something, after line 1, by its words.
     #[inline(always)]
-    fn place_line(&mut self, alloc: Global, words: &[&[u8]]) -> Result<(), LineFault>
+    fn place_line(
+        &mut self,
+        alloc: Global,
+        threads: &Threads,
+        words: &[&[u8]],
+    ) -> Result<(), LineFault>
         requires { self.old.count + 1 < 2 ^ 32 }
         ensures { GivesAs (λ _. reading_of self.new) result
-            (place_line [] (reading_of self.old) (option_map open_block_of self.old.block) (lent words.now)) }
+            (place_line threads.now (reading_of self.old) (option_map open_block_of self.old.block) (lent words.now)) }
     {
         let line = self.count + 1;
         match &mut self.block {
             None => self.outside(alloc, words),
             Some(_) if is(word_at(words, 0), b"end") => self.end_line(alloc, words),
             Some(block) => {
-                block.statement_line(alloc, &self.classes, &mut self.names, line, words)
+                block.statement_line(alloc, &self.classes, threads, &mut self.names, line, words)
             }
         }
     }
@@ -195,18 +202,19 @@ impl Reader {
     fn spoken_line<'a>(
         &mut self,
         alloc: Global,
+        threads: &Threads,
         found: &mut Vec<&'a [u8]>,
         line: &'a [u8],
         has_words: bool,
     ) -> Result<(), LineFault>
         requires count { self.old.count + 1 < 2 ^ 32 }
         requires words { IsTrue has_words → words line.now ≡ Some (lent found.old.items) }
-        ensures { GivesAs (λ _. reading_of self.new) result (spoken_line [] (reading_of self.old) line.now) }
+        ensures { GivesAs (λ _. reading_of self.new) result (spoken_line threads.now (reading_of self.old) line.now) }
     {
         words_of(found, line, has_words)?;
         let words = found.as_slice();
         if self.count != 0 {
-            return self.place_line(alloc, words);
+            return self.place_line(alloc, threads, words);
         }
         if is_header(words) {
             Ok(())
@@ -220,6 +228,7 @@ impl Reader {
     pub fn after_line<'a>(
         &mut self,
         alloc: Global,
+        threads: &Threads,
         found: &mut Vec<&'a [u8]>,
         line: &'a [u8],
         is_known: bool,
@@ -228,7 +237,7 @@ impl Reader {
         requires count { self.old.count + 1 < 2 ^ 32 }
         requires utf8 { IsTrue is_known → IsUtf8 line.now }
         requires words { IsTrue has_words → words line.now ≡ Some (lent found.old.items) }
-        ensures read { GivesAs (λ _. reading_of self.new) result (after_line [] (reading_of self.old) line.now) }
+        ensures read { GivesAs (λ _. reading_of self.new) result (after_line threads.now (reading_of self.old) line.now) }
         ensures count { OnOk result (self.new.count ≡ self.old.count + 1) }
     {
         if !is_line_utf8(line, is_known) {
@@ -236,7 +245,7 @@ impl Reader {
         }
         let count = self.count + 1;
         if self.count == 0 || !says_nothing(line) {
-            self.spoken_line(alloc, found, line, has_words)?;
+            self.spoken_line(alloc, threads, found, line, has_words)?;
         }
         self.count = count;
         Ok(())

@@ -3,7 +3,7 @@ use crate::table::FormWord;
 use cf_syntax::{Operand, StatementForm};
 
 /// One row a form; a form that has a last word or none has two.
-pub(crate) static FORMS: [FormWord; 50] = [
+pub(crate) static FORMS: [FormWord; 60] = [
     FormWord {
         word: b"retain",
         kind: None,
@@ -116,6 +116,18 @@ pub(crate) static FORMS: [FormWord; 50] = [
         kind: Some(b"heap"),
         operands: &[Operand::Bound, Operand::Found, Operand::Plain],
         form: StatementForm::MakeHeap,
+    },
+    FormWord {
+        word: b"make",
+        kind: Some(b"source"),
+        operands: &[
+            Operand::Bound,
+            Operand::Found,
+            Operand::Int,
+            Operand::Handler,
+            Operand::Info,
+        ],
+        form: StatementForm::MakeSource,
     },
     FormWord {
         word: b"new",
@@ -313,5 +325,59 @@ pub(crate) static FORMS: [FormWord; 50] = [
         kind: None,
         operands: &[Operand::Bound, Operand::Used, Operand::Index],
         form: StatementForm::FieldTake,
+    },
+    FormWord {
+        word: b"add",
+        kind: None,
+        operands: &[Operand::Used, Operand::Thread, Operand::ModeOrCommon],
+        form: StatementForm::Add,
+    },
+    FormWord {
+        word: b"drop",
+        kind: None,
+        operands: &[Operand::Used, Operand::Thread, Operand::ModeOrCommon],
+        form: StatementForm::Drop,
+    },
+    FormWord {
+        word: b"common",
+        kind: None,
+        operands: &[Operand::Thread, Operand::Mode],
+        form: StatementForm::Common,
+    },
+    FormWord {
+        word: b"signal",
+        kind: None,
+        operands: &[Operand::Used],
+        form: StatementForm::Signal,
+    },
+    FormWord {
+        word: b"invalidate",
+        kind: None,
+        operands: &[Operand::Used],
+        form: StatementForm::Invalidate,
+    },
+    FormWord {
+        word: b"wake",
+        kind: None,
+        operands: &[Operand::Thread],
+        form: StatementForm::Wake,
+    },
+    FormWord {
+        word: b"stop",
+        kind: None,
+        operands: &[Operand::Thread],
+        form: StatementForm::Stop,
+    },
+    FormWord {
+        word: b"run",
+        kind: None,
+        operands: &[Operand::Mode, Operand::Limit],
+        form: StatementForm::Run,
+    },
+    FormWord {
+        word: b"run",
+        kind: None,
+        operands: &[Operand::Mode, Operand::Limit, Operand::Once],
+        form: StatementForm::Run,
     },
 ];

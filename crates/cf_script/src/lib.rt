@@ -17,6 +17,7 @@ mod reader;
 mod shapes;
 mod statements;
 mod table;
+mod threads;
 mod words;
 
 pub use cf_syntax::{Block, ClassLine, Given, Handler, Reason, Refusal, Script, Statement};

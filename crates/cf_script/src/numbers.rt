@@ -1,7 +1,7 @@
 //! The words that are numbers, bytes and kinds.
 ghost use Rattle.std.specs.Prelude.{◌≡◌, ◌≤◌, ◌^◌, ◌<◌, [], IfOk, IfSome, None, Some, unwrap_or, is_some, ◌-◌, if◌then◌else◌};
 ghost use Rattle.std.specs.List.{list_all};
-ghost use Rattle.cf_syntax.specs.Numbers.{is_digit, number_below, index_of, unum_of, is_mask, is_field_count, integer_of, bytes_of, kind_of};
+ghost use Rattle.cf_syntax.specs.Numbers.{is_digit, number_below, index_of, unum_of, is_zero, is_mask, is_field_count, integer_of, bytes_of, kind_of};
 ghost use Rattle.cf_syntax.specs.FormStatements.{index_at, field_count_at, number_at, mask_at, integer_at, kind_at};
 ghost use Rattle.cf_script.specs.Views.{lent};
 ghost use Rattle.hex.specs.Hex.{is_hex_digit};
@@ -76,6 +76,16 @@ pub(crate) fn unum_of(word: &[u8]) -> Option<u64>
 {
     let number = number_below(UNUM_LIMIT, word)?;
     Some(number)
+}
+
+/// Whether a word is a UNUM that is 0.
+pub(crate) fn is_zero(word: &[u8]) -> bool
+    ensures { result ≡ is_zero (unum_of word.now) }
+{
+    match unum_of(word) {
+        Some(number) => number == 0,
+        None => false,
+    }
 }
 
 /// Whether a word is a MASK.

@@ -1,10 +1,12 @@
 //! What the words of a form have to be.
 ghost use Rattle.std.specs.Prelude.{◌≡◌, [], length};
 ghost use Rattle.cf_syntax.specs.FormWords.{is_variable, is_fitting, is_of, reason_of, are_of};
-ghost use Rattle.cf_syntax.specs.Numbers.{unum_of, is_mask};
+ghost use Rattle.cf_syntax.specs.Numbers.{unum_of, is_zero, is_mask};
 ghost use Rattle.cf_script.specs.Views.{lent};
 
-use crate::numbers::{index_of, integer_of, is_field_count, is_hex, is_mask, kind_of, unum_of};
+use crate::numbers::{
+    index_of, integer_of, is_field_count, is_hex, is_mask, is_zero, kind_of, unum_of,
+};
 use crate::words::{is, is_name, is_text, word_at};
 use cf_number::{Num, NumKind};
 use cf_syntax::{Operand, Reason};
@@ -47,7 +49,7 @@ fn is_of(in_handler: bool, operand: Operand, before: &[u8], word: &[u8]) -> bool
         Operand::Int => integer_of(word).is_some(),
         Operand::Fitting => is_fitting(kind_of(before), integer_of(word)),
         Operand::Unum => unum_of(word).is_some(),
-        Operand::Limit => unum_of(word).is_some() || is(word, b"forever"),
+        Operand::Limit => is_zero(word),
         Operand::Index => index_of(word).is_some(),
         Operand::FieldCount => is_field_count(word),
         Operand::Mask => is_mask(word),

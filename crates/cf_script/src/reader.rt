@@ -10,6 +10,7 @@ use crate::block::Reader;
 use crate::fault::{LineFault, ScriptFault};
 use crate::lines::{is_utf8, next_line};
 use crate::near::near_words;
+use crate::threads::Threads;
 use cf_syntax::{Refusal, Script};
 use std::alloc::Global;
 
@@ -37,6 +38,9 @@ pub fn read_script(alloc: Global, bytes: &[u8]) -> Result<Script, ScriptFault>
     let Ok(mut reader) = Reader::new(alloc) else {
         return Err(ScriptFault::NoMemory);
     };
+    let Ok(threads) = Threads::of_text(alloc, bytes) else {
+        return Err(ScriptFault::NoMemory);
+    };
     let mut found = Vec::new(alloc);
     // Where a text is UTF-8, each of its lines is.
     let is_known = is_utf8(bytes);
@@ -45,7 +49,14 @@ pub fn read_script(alloc: Global, bytes: &[u8]) -> Result<Script, ScriptFault>
         let near = near_words(&mut found, rest);
         let (line, after) = next_line(rest, near);
         let count = reader.count;
-        if let Err(fault) = reader.after_line(alloc, &mut found, line, is_known, near.is_some()) {
+        if let Err(fault) = reader.after_line(
+            alloc,
+            &threads,
+            &mut found,
+            line,
+            is_known,
+            near.is_some(),
+        ) {
             return Err(on_line(count, fault));
         }
         rest = after;

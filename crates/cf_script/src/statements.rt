@@ -1,5 +1,5 @@
 //! The statement that the words of a line are.
-ghost use Rattle.std.specs.Prelude.{◌≡◌, ◌+◌, [], IfOk, length, None, Some, if◌then◌else◌};
+ghost use Rattle.std.specs.Prelude.{◌≡◌, ◌+◌, IfOk, length, None, Some, if◌then◌else◌};
 ghost use Rattle.std.specs.Str.{bytes_eq};
 ghost use Rattle.cf_syntax.specs.Words.{text_of};
 ghost use Rattle.cf_syntax.specs.FormStatements.{last_word, bytes_at, literal_of, has_last, var, notice_at, mode_at, thread_of, kind_at, integer_at, number_by, statement_by};
@@ -15,6 +15,7 @@ use crate::names::{LineNumbers, Names, number_words};
 use crate::numbers::{bytes_of, index_at, integer_at, kind_at, mask_at, number_at, unum_of};
 use crate::operands::are_of;
 use crate::table::FormWord;
+use crate::threads::Threads;
 use crate::words::{is, text_of, word_at};
 use cf_data::Bytes;
 use cf_ids::{NameId, ThreadId, VarId};
@@ -101,17 +102,16 @@ fn mode_at(numbers: &LineNumbers, words: &[&[u8]], i: usize) -> ModeWord
     }
 }
 
-/// The thread that a word names, of a script without threads after setup. The forms that name threads are still to
-/// come, and with them the numbers of these threads.
-fn thread_of(word: &[u8]) -> ThreadWord
-    ensures { result ≡ thread_of [] word.now }
+/// The thread that a word names.
+fn thread_of(threads: &Threads, word: &[u8]) -> ThreadWord
+    ensures { result ≡ thread_of threads.now word.now }
 {
     if is(word, b"self") {
         ThreadWord::Own
     } else if is(word, b"setup") {
         ThreadWord::Named(Some(ThreadId::SETUP))
     } else {
-        ThreadWord::Named(None)
+        ThreadWord::Named(threads.named(word))
     }
 }
 
@@ -136,12 +136,13 @@ fn number_by(variable: VarId, words: &[&[u8]]) -> Result<Statement, Reason>
 fn statement_by(
     alloc: Global,
     classes: &Classes,
+    threads: &Threads,
     form: StatementForm,
     numbers: &LineNumbers,
     words: &[&[u8]],
 ) -> Result<Statement, LineFault>
     ensures { GivesAs (λ s. s) result
-        (statement_by classes.now [] form (line_numbers_of numbers.now) (lent words.now)) }
+        (statement_by classes.now threads.now form (line_numbers_of numbers.now) (lent words.now)) }
 {
     let variable = variable_at(numbers, 0);
     let second = variable_at(numbers, 1);
@@ -355,25 +356,25 @@ fn statement_by(
         }),
         StatementForm::Add => Ok(Statement::Add {
             item: variable,
-            thread: thread_of(word_at(words, 2)),
+            thread: thread_of(threads, word_at(words, 2)),
             mode: mode_at(numbers, words, 3),
         }),
         StatementForm::Drop => Ok(Statement::Drop {
             item: variable,
-            thread: thread_of(word_at(words, 2)),
+            thread: thread_of(threads, word_at(words, 2)),
             mode: mode_at(numbers, words, 3),
         }),
         StatementForm::Common => Ok(Statement::Common {
-            thread: thread_of(word_at(words, 1)),
+            thread: thread_of(threads, word_at(words, 1)),
             mode: numbers.mode,
         }),
         StatementForm::Signal => Ok(Statement::Signal { source: variable }),
         StatementForm::Invalidate => Ok(Statement::Invalidate { item: variable }),
         StatementForm::Wake => Ok(Statement::Wake {
-            thread: thread_of(word_at(words, 1)),
+            thread: thread_of(threads, word_at(words, 1)),
         }),
         StatementForm::Stop => Ok(Statement::Stop {
-            thread: thread_of(word_at(words, 1)),
+            thread: thread_of(threads, word_at(words, 1)),
         }),
         StatementForm::Run => Ok(Statement::Run {
             mode: numbers.mode,
@@ -403,6 +404,7 @@ fn statement_by(
 pub(crate) fn read_statement(
     alloc: Global,
     classes: &Classes,
+    threads: &Threads,
     in_handler: bool,
     names: &mut Names,
     form_word: &FormWord,
@@ -410,11 +412,11 @@ pub(crate) fn read_statement(
 ) -> Result<Statement, LineFault>
     requires { length words.now ≡ 1 + length form_word.now.operands.now }
     ensures { GivesAs (λ s. record { names = names.new; value = s }) result
-        (statement_in classes.now in_handler names.old (form_word_of form_word.now) (lent words.now)) }
+        (statement_in classes.now threads.now in_handler names.old (form_word_of form_word.now) (lent words.now)) }
 {
     let (_, after) = words.split_at(1);
     are_of(in_handler, form_word.operands, after)?;
     let mut numbers = LineNumbers::new(alloc);
     number_words(alloc, names, &mut numbers, form_word.operands, after)?;
-    statement_by(alloc, classes, form_word.form, &numbers, words)
+    statement_by(alloc, classes, threads, form_word.form, &numbers, words)
 }

@@ -128,7 +128,7 @@ fn first_word(bytes: &[u8]) -> Option<(&[u8], &[u8])>
 }
 
 /// The bytes without the blanks at their front.
-fn skip_blanks(bytes: &[u8]) -> &[u8]
+pub(crate) fn skip_blanks(bytes: &[u8]) -> &[u8]
     ensures words { words result.now ≡ words bytes.now }
     ensures starts { 0 < length result.now → is_blank (slice_index result.now 0) ≡ false }
     ensures within { length result.now ≤ length bytes.now }

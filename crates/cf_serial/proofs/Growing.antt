@@ -24,6 +24,7 @@ use Rattle.cf_model.proofs.Balance.{live_led}
 use Rattle.cf_model.proofs.Entries.{ActionView, IsStep as IsThreads, action_view, is_stall as views_stall, is_step, is_tick}
 use Rattle.cf_model.proofs.Finality.{kept, step_after}
 use Rattle.cf_model.proofs.Growth.{grows_by}
+use Rattle.cf_model.proofs.Limiting.{few_of_legal, few_of_owned}
 use Rattle.cf_model.proofs.Listing.{gains_are_listed}
 use Rattle.cf_model.proofs.Numbering.{picked_is, pointer_most}
 use Rattle.cf_model.proofs.OwnedNext.{legal_next, next_uses}
@@ -185,9 +186,9 @@ module _ (r : Run) (run : IsRun r) (t : ℕ) (a : Action) (pick : picks r ≡ So
   abbrev run_of : WorldView → NumbersView → Run
   run_of w n = record { world = w; threads = r.threads; pointer = t + 1; numbers = n; stalled = r.stalled }
 
-  grown : (gained : List ℕ) (n : NumbersView) → ((o : ℕ) → gains o step.flow ≤ 2)
+  grown : (gained : List ℕ) (n : NumbersView)
       → AreDegrees (length after.parts.objects) after.edges n.items → IsRun (run_of (world_after gained) n)
-  grown gained n few counts = record {
+  grown gained n counts = record {
     script = s;
     begun = run.begun;
     owned = run.owned;
@@ -203,7 +204,7 @@ module _ (r : Run) (run : IsRun r) (t : ℕ) (a : Action) (pick : picks r ≡ So
     asleep = λ h. absurd (no_both (has_stalled (es ++ e ∷ [])) h still_unstalled);
     pointer_is = sym ((grows_by s es e).pointer ∙ ap (moved_by (pointer_of s es)) picked_here);
     numbers_are = counts;
-    few = λ o. omega (arith, degrees o, few o, run.few o, length-append es (e ∷ []));
+    few_modes = run.few_modes;
   }
 
   stepped : (gained : List ℕ) (n : NumbersView) → IsRun (run_of (world_after gained) n)
@@ -247,7 +248,7 @@ module _ (r : Run) (run : IsRun r) (t : ℕ) (a : Action) (pick : picks r ≡ So
         → n.items ≡ slice_set r.numbers.items o (slice_index r.numbers.items o - 1) → IsStep r (run_of w n)
     run_cut w gained n is lowered =
         subst (λ (v : WorldView). IsStep r (run_of v n)) (sym is)
-        (stepped gained n (grown gained n (λ p. omega (arith, gains_none o step.flow p cut_flow_is))
+        (stepped gained n (grown gained n
         (record {
           size = ap length lowered ∙ size_lowered r.numbers.items o (slice_index r.numbers.items o - 1) ∙ run.numbers_are.size ∙ sym same_made;
           at = λ p h. omega (
@@ -310,15 +311,25 @@ module _ (r : Run) (run : IsRun r) (t : ℕ) (a : Action) (pick : picks r ≡ So
       pub gain_made : (p : ℕ) → 0 < times p gained → p < length now
       gain_made p some = omega (arith, size, made_after p (omega (arith, degree_gain p, some)))
 
-      pub gain_fits : length gained ≤ 2 → (p : ℕ) → p < length now → slice_index now p + length gained < 2 ^ 64
-      gain_fits few p h = omega (arith, now_at p h, run.few p, run.within, run.most, few)
+      pub gain_fits : (p : ℕ) → p < length now → slice_index now p + length gained < 2 ^ 64
+      gain_fits p h =
+          omega (
+            arith,
+            now_at p h,
+            (few_of_owned s es p run.owned).references run.few_modes,
+            (gains_are_listed s es e).few,
+            (few_of_legal s es run.serial.legal).objects,
+            run.few_modes,
+            run.within,
+            run.most,
+          )
 
-      pub run_gained : (w : WorldView) (n : NumbersView) → w ≡ world_after gained → length gained ≤ 2
+      pub run_gained : (w : WorldView) (n : NumbersView) → w ≡ world_after gained
           → length n.items ≡ length now
           → ((p : ℕ) → p < length now → slice_index n.items p ≡ slice_index now p + times p gained) → IsStep r (run_of w n)
-      run_gained w n is few same at =
+      run_gained w n is same at =
           subst (λ (v : WorldView). IsStep r (run_of v n)) (sym is)
-          (stepped gained n (grown gained n (λ p. omega (arith, gains_are p, times_le-length p gained, few))
+          (stepped gained n (grown gained n
           (record {
             size = same ∙ size;
             at = λ p h. omega (arith, at p (omega (arith, size, h)), now_at p (omega (arith, size, h)), degree_gain p);

@@ -180,7 +180,7 @@ module _ (r : Run) (run : IsRun r) (none : picks r ≡ None) where
           at = λ o h. run.numbers_are.at o (omega (arith, h, ap (λ (x : State). length x.parts.objects) is, ap length objects))
               ∙ ap (degree o) (sym edges) ∙ ap (λ (x : State). degree o x.edges) (sym is);
         };
-        few = λ o. omega (arith, run.few o, ap (λ (x : State). degree o x.edges) is, ap (degree o) edges, length-append es (e ∷ []));
+        few_modes = run.few_modes;
       };
       script = refl;
       limit = refl;

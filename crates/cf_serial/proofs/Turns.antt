@@ -56,7 +56,7 @@ room_keeps r t run = record {
   asleep = run.asleep;
   pointer_is = run.pointer_is;
   numbers_are = run.numbers_are;
-  few = run.few;
+  few_modes = run.few_modes;
 }
 
 pub prepared_keeps : (r : Run) (t : ℕ) → IsRun r → IsRun (prepared_run t r)
@@ -217,7 +217,7 @@ numbers_keep r n same run = record {
   asleep = run.asleep;
   pointer_is = run.pointer_is;
   numbers_are = subst (AreDegrees (length (After run.script r.world.journal).parts.objects) (After run.script r.world.journal).edges) (sym same) run.numbers_are;
-  few = run.few;
+  few_modes = run.few_modes;
 }
 
 -- one thread more of a range that can't go on

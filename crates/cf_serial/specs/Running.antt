@@ -1,6 +1,6 @@
 -- A serial run as far as it has come, what it does next, and what a step does to it. This project's own.
 use Rattle.std.specs.Prelude.{◌≡◌, ℕ, ◌+◌, ◌*◌, ◌<◌, ◌≤◌, Bool, true, false, List, length, Option, Some, None, IsSomeAnd, ◌==◌, if◌then◌else◌}
-use Rattle.cf_ids.specs.declared.limits.TheConstants.{THREADS}
+use Rattle.cf_ids.specs.declared.limits.TheConstants.{MODES, THREADS}
 use Rattle.cf_syntax.specs.declared.script.Script.{Script}
 use Rattle.cf_syntax.specs.Owned.{Owned}
 use Rattle.cf_graph.specs.Edges.{degree}
@@ -22,8 +22,8 @@ use Rattle.cf_serial.specs.declared.run.Turn.TheVariants as turns
 use Rattle.cf_serial.specs.Serial.{AreDegrees, ClockFits, StopsSerially}
 
 -- a run as far as it has come: its journal is in the serial order and no longer than the limit; a journal with a stall
--- leaves all asleep; its pointer, its numbers and its mark of a stall are those of the journal; and no object has more
--- references than two for each entry
+-- leaves all asleep; its pointer, its numbers and its mark of a stall are those of the journal; and the script has no
+-- more modes than it may
 pub record IsRun (r : Run) : Type 0 where
   pub script : Script
   pub begun : r.world.script ≡ Some script
@@ -38,7 +38,7 @@ pub record IsRun (r : Run) : Type 0 where
   pub pointer_is : r.pointer ≡ pointer_of script r.world.journal
   pub numbers_are : AreDegrees (length (After script r.world.journal).parts.objects)
       (After script r.world.journal).edges r.numbers.items
-  pub few : (o : ℕ) → degree o (After script r.world.journal).edges ≤ 2 * length r.world.journal
+  pub few_modes : length script.modes ≤ MODES
 
 -- ---- what comes next
 

@@ -121,7 +121,9 @@ impl Run {
         ensures world { IfOk result (λ r. r.world
             ≡ record { script = Some script; limit = limit; journal = []; gained = []; room = None }) }
     {
-        let threads = script.script().threads();
+        let owned = script.script();
+        owned.has_numbers();
+        let threads = owned.threads();
         let mut world = World::empty();
         world.begin(alloc, script, limit)?;
         Ok(Run {

@@ -1,5 +1,5 @@
 -- The words of a line name modes that have numbers and threads that the text has, and its statement names no others.
-use Rattle.std.proofs.Common.{◌≡◌, ℕ, suc, ◌+◌, ◌<◌, ◌≤◌, Bool, true, false, cond, not, eqb, ltb, List, [], ◌∷◌, ◌++◌, length, drop, Option, Some, None, Result, Ok, Err, refl, ap, sym, ◌∙◌, arith, subst}
+use Rattle.std.proofs.Common.{◌≡◌, ℕ, suc, ◌+◌, ◌<◌, ◌≤◌, Bool, true, false, cond, not, ltb, List, [], ◌∷◌, ◌++◌, length, drop, Option, Some, None, Result, Ok, Err, refl, arith, subst}
 use Rattle.std.specs.Prelude.{ℤ, ◌||◌, codes, IfSome}
 use Rattle.std.specs.List.{list_any, position_or_len}
 use Rattle.std.specs.Str.{bytes_eq}
@@ -12,7 +12,6 @@ use Rattle.cf_syntax.specs.declared.statement.Statement.{Statement}
 use Rattle.cf_syntax.specs.declared.statement.Statement.TheVariants.{MakeNumber}
 use Rattle.cf_syntax.specs.declared.mention.ThreadWord.{ThreadWord}
 use Rattle.cf_syntax.specs.declared.mention.ThreadWord.TheVariants.{Own, Named}
-use Rattle.cf_syntax.specs.declared.mention.ModeWord.{ModeWord}
 use Rattle.cf_syntax.specs.declared.mention.ModeWord.TheVariants as modes
 use Rattle.cf_syntax.specs.declared.script.ClassLine.{ClassLine}
 use Rattle.cf_syntax.specs.declared.form.StatementForm.{StatementForm}
@@ -23,7 +22,7 @@ use Rattle.cf_syntax.specs.declared.form.Operand.{Operand}
 use Rattle.cf_syntax.specs.declared.refusal.Reason.{Reason}
 use Rattle.cf_syntax.specs.declared.refusal.Reason.TheVariants.{TooMany, Number}
 use Rattle.cf_syntax.specs.FormStatements.{Numbers, word_at, var, kind_at, integer_at, mode_at, thread_named, thread_of, with_literal, number_by, statement_by}
-use Rattle.cf_syntax.specs.FormWords.{◌>>=◌, form_of, are_of, Names, With, names_in, limit_of, with_names, with_name, with_number, numbered, table_of, numbered_word, numbers_of, no_numbers}
+use Rattle.cf_syntax.specs.FormWords.{form_of, are_of, Names, With, names_in, limit_of, with_names, with_name, with_number, numbered, table_of, numbered_word, numbers_of, no_numbers}
 use Rattle.cf_syntax.specs.Numbered.{thread_word, mode_word, NamesThread, NamesMode}
 use Rattle.cf_syntax.specs.Text.{statement_of}
 use Rattle.cf_syntax.proofs.ReadingLaws.{OkHas, ok_has, err_has, then_has, either_has, has_ok}

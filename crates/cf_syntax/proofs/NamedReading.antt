@@ -1,11 +1,11 @@
 -- A script that is read from a text has modes, and names no other modes and threads than its own.
-use Rattle.std.proofs.Common.{◌≡◌, ℕ, zero, suc, ◌+◌, ◌-◌, ◌<◌, ◌≤◌, Bool, true, false, cond, eqb, ltb, List, [], ◌∷◌, ◌++◌, length, map, drop, replicate, Option, Some, None, Result, Ok, Err, refl, ap, sym, ◌∙◌, arith, subst}
-use Rattle.std.specs.Prelude.{codes, nat_lt, not, is_some, option_and_then, IfSome, ◌&&◌, ◌||◌}
+use Rattle.std.proofs.Common.{◌≡◌, ℕ, suc, ◌+◌, ◌-◌, ◌<◌, ◌≤◌, Bool, true, false, cond, eqb, ltb, List, [], ◌∷◌, length, take, drop, replicate, Option, Some, None, Result, Ok, Err, refl, ap, sym, ◌∙◌, arith, subst}
+use Rattle.std.specs.Prelude.{codes, nat_lt, not, is_some, option_and_then, IfSome, ◌&&◌}
 use Rattle.std.specs.Option.{option_map}
 use Rattle.std.specs.List.{All, list_any}
 use Rattle.std.specs.Str.{bytes_eq, is_utf8}
 use Rattle.std.proofs.lemmas.Bool.{and_parts, eqb-true, ltb-true}
-use Rattle.std.proofs.lemmas.List.{length-append}
+use Rattle.std.proofs.lemmas.List.{length-append, length-take}
 use Rattle.std.proofs.lemmas.List.Elements.{All-nil, All-push, All-weaker}
 use Rattle.std.proofs.lemmas.Slice.Eq.{bytes_eq-Decides}
 use Rattle.cf_ids.specs.declared.limits.TheConstants.{MODES}
@@ -13,7 +13,6 @@ use Rattle.cf_syntax.specs.declared.place.Place.TheVariants.{Between, Plain, Quo
 use Rattle.cf_syntax.specs.declared.statement.Statement.{Statement}
 use Rattle.cf_syntax.specs.declared.script.Parts.{Parts}
 use Rattle.cf_syntax.specs.declared.script.Block.{Block}
-use Rattle.cf_syntax.specs.declared.script.ClassLine.{ClassLine}
 use Rattle.cf_syntax.specs.declared.form.NameTable.TheVariants as tables
 use Rattle.cf_syntax.specs.declared.form.Operand.TheVariants as operands
 use Rattle.cf_syntax.specs.declared.refusal.Reason.{Reason}
@@ -22,10 +21,10 @@ use Rattle.cf_syntax.specs.declared.refusal.Reason.TheVariants as reasons
 use Rattle.cf_syntax.specs.Lines.{in_first, lines}
 use Rattle.cf_syntax.specs.Words.{is_blank, says_nothing, with_byte, words, words_from}
 use Rattle.cf_syntax.specs.FormTable.{FormWord, forms_now}
-use Rattle.cf_syntax.specs.FormStatements.{Numbers, word_at}
-use Rattle.cf_syntax.specs.FormWords.{◌>>=◌, require, needed, starts, form_of, Names, With, names_in, limit_of, with_names, with_name, numbered, numbers_of, no_numbers}
+use Rattle.cf_syntax.specs.FormStatements.{word_at}
+use Rattle.cf_syntax.specs.FormWords.{require, needed, starts, form_of, With, limit_of, numbered, no_numbers}
 use Rattle.cf_syntax.specs.Numbered.{ThreadsNamed, ModesNamed, NamesThread, NamesMode, HasModes}
-use Rattle.cf_syntax.specs.Text.{Opened, Reading, start, is_word, is_header, class_operands, handler_operands, thread_operands, has_words, class_has_name, block_has_name, used_words, numbered_uses, class_line, setup_line, thread_line, handler_line, outside, is_handler, end_line, statement_of, statement_line, inside, place_line, header_line, spoken_line, after_line, ended, script_at, whole, on_line_after, read_from, thread_name, thread_names, script_by, script_of}
+use Rattle.cf_syntax.specs.Text.{Opened, Reading, start, is_word, is_header, class_operands, handler_operands, thread_operands, has_words, class_has_name, block_has_name, used_words, numbered_uses, class_line, setup_line, thread_line, handler_line, outside, is_handler, end_line, statement_of, statement_line, inside, place_line, header_line, spoken_line, after_line, ended, whole, on_line_after, read_from, thread_name, thread_names, named_threads, script_by, script_of}
 use Rattle.cf_syntax.proofs.RefusalLaws.{bind_ok}
 use Rattle.cf_syntax.proofs.ReadingLaws.{OkHas, ok_has, err_has, then_has, either_has, has_ok, numbered_has}
 use Rattle.cf_syntax.proofs.SizeLaws.{passed}
@@ -338,9 +337,9 @@ has_setup r a e =
     let c = bind_ok (require Open (not (is_some r.open_block))) _ a b.2 in
     ltb-true 0 r.threads (passed (nat_lt 0 r.threads) tt a NoSetup c.2).0
 
-whole_fits : (threads : ℕ) (r : Reading) → Fitted threads threads r → OkHas NamesOnly (whole r)
+whole_fits : (threads k : ℕ) (r : Reading) → threads ≤ k → Fitted threads k r → OkHas NamesOnly (whole r)
 unfolding whole
-whole_fits threads r h =
+whole_fits threads k r le h =
     then_has NamesOnly (ended r) _ (λ a p.
     let some = has_setup r a p in
     ok_has NamesOnly _ (record {
@@ -349,7 +348,7 @@ whole_fits threads r h =
         few = h.few;
         named = All-weaker (BlockNamed (suc threads) (length r.names.modes)) (ModesNamed (length r.names.modes)) (λ b. All-weaker (NamesWithin (suc threads) (length r.names.modes)) (NamesMode (length r.names.modes)) (λ x g. g.mode) b.statements) r.blocks h.ended;
       };
-      threads = All-weaker (BlockNamed (suc threads) (length r.names.modes)) (ThreadsNamed r.threads) (λ b. All-weaker (NamesWithin (suc threads) (length r.names.modes)) (NamesThread r.threads) (λ x g. (within_more (suc threads) r.threads (length r.names.modes) (length r.names.modes) (omega (arith, some, h.begun)) (omega arith) x g).thread) b.statements) r.blocks h.ended;
+      threads = All-weaker (BlockNamed (suc threads) (length r.names.modes)) (ThreadsNamed r.threads) (λ b. All-weaker (NamesWithin (suc threads) (length r.names.modes)) (NamesThread r.threads) (λ x g. (within_more (suc threads) r.threads (length r.names.modes) (length r.names.modes) (omega (arith, some, le, h.begun)) (omega arith) x g).thread) b.statements) r.blocks h.ended;
     }))
 
 started : (threads : ℕ) → Fitted threads 0 start
@@ -361,14 +360,17 @@ started threads = record {
   opened = tt;
 }
 
-script_fits : (ls : List (List ℕ)) → OkHas NamesOnly (script_by (thread_names ls) ls)
+script_fits : (ls : List (List ℕ)) → OkHas NamesOnly (script_by (named_threads ls) ls)
 unfolding script_by
 script_fits ls =
-    let names = thread_names ls in
+    let names = named_threads ls in
+    let k = length (thread_names ls) in
     then_has NamesOnly (read_from names start ls) (λ r. on_line_after r.count (whole r)) (λ r e.
-    let h = has_ok (Fitted (length names) (0 + length names)) (read_from names start ls) r e (all_fit names 0 start ls (started (length names))) in
-    let n : 0 + length names ≡ length names = omega arith in
-    numbered_has NamesOnly r.count (whole r) (whole_fits (length names) r (subst (λ (m : ℕ). Fitted (length names) m r) n h)))
+    let h = has_ok (Fitted (length names) (0 + k)) (read_from names start ls) r e (all_fit names 0 start ls (started (length names))) in
+    numbered_has NamesOnly r.count (whole r) (whole_fits (length names) (0 + k) r (few (thread_names ls) 63) h))
+  where
+    few : (xs : List (List ℕ)) (n : ℕ) → length (take n xs) ≤ 0 + length xs
+    few xs n = omega (arith, length-take n xs)
 
 pub text_names_only : (bs : List ℕ) (s : Parts) → script_of bs ≡ Ok s → NamesOnly s
-text_names_only bs s e = has_ok NamesOnly (script_by (thread_names (lines bs)) (lines bs)) s e (script_fits (lines bs))
+text_names_only bs s e = has_ok NamesOnly (script_by (named_threads (lines bs)) (lines bs)) s e (script_fits (lines bs))

@@ -26,7 +26,7 @@ use Rattle.cf_syntax.specs.Words.{says_nothing, words}
 use Rattle.cf_syntax.specs.FormWords.{require, needed, form_of, are_of, Names, With, numbered, numbers_of, no_numbers}
 use Rattle.cf_syntax.specs.FormStatements.{word_at, statement_by}
 use Rattle.cf_syntax.specs.Numbered.{IsPlaced, FitsText, IsNumbered}
-use Rattle.cf_syntax.specs.Text.{Opened, Reading, start, is_word, is_header, class_operands, handler_operands, thread_operands, has_words, class_has_name, block_has_name, class_by, class_line, new_block, setup_line, setup_variables, givens_of, used_words, numbered_uses, uses_of, thread_line, handler_line, outside, is_handler, close_block, end_line, statement_of, with_statement, statement_line, place_line, header_line, spoken_line, after_line, handler_named, ended, script_at, whole, on_line_after, read_from, thread_names, script_by, script_of}
+use Rattle.cf_syntax.specs.Text.{Opened, Reading, start, is_word, is_header, class_operands, handler_operands, thread_operands, has_words, class_has_name, block_has_name, class_by, class_line, new_block, setup_line, setup_variables, givens_of, used_words, numbered_uses, uses_of, thread_line, handler_line, outside, is_handler, close_block, end_line, statement_of, with_statement, statement_line, place_line, header_line, spoken_line, after_line, handler_named, ended, script_at, whole, on_line_after, read_from, named_threads, script_by, script_of}
 use Rattle.cf_syntax.proofs.NamedReading.{NamesOnly, text_names_only}
 use Rattle.cf_syntax.proofs.RefusalLaws.{bind_ok}
 use Rattle.cf_syntax.proofs.SizeLaws.{EachWithin, CountWithin, pieces_within, pieces_count, lines_within, within_more, words_count, Grown, passed, read_as, ok_is, numbered_grown, numbers_grown, counted_few, member, Named, named_on, named_push, with_member}
@@ -455,8 +455,8 @@ whole_numbered c r s h e own =
 pub text_numbered : (bs : List ℕ) (s : Parts) → length bs ≤ SCRIPT_BYTES → script_of bs ≡ Ok s → IsNumbered s
 unfolding script_by
 text_numbered bs s le e =
-    let a = bind_ok (read_from (thread_names (lines bs)) start (lines bs)) _ s e in
+    let a = bind_ok (read_from (named_threads (lines bs)) start (lines bs)) _ s e in
     let count : length (lines bs) ≤ length bs = omega (arith, length-map (pieces bs) without_return, pieces_count bs) in
     whole_numbered _ a.0 s
-    (read_next (thread_names (lines bs)) 0 start (lines bs) a.0 started (omega (arith, count, le)) (within_more (length bs) SCRIPT_BYTES (lines bs) le (lines_within (length bs) (pieces bs) (pieces_within bs))) a.1)
+    (read_next (named_threads (lines bs)) 0 start (lines bs) a.0 started (omega (arith, count, le)) (within_more (length bs) SCRIPT_BYTES (lines bs) le (lines_within (length bs) (pieces bs) (pieces_within bs))) a.1)
     (line_ok a.0.count (whole a.0) s a.2) (text_names_only bs s e)

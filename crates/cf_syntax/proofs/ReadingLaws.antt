@@ -22,7 +22,7 @@ use Rattle.cf_syntax.specs.FormStatements.{Numbers, word_at, var, kind_at, integ
 use Rattle.cf_syntax.specs.FormWords.{◌>>=◌, require, needed, starts, begins, has_count, find_row, form_of, are_of, Names, With, numbered, numbers_of, no_numbers}
 use Rattle.cf_syntax.specs.Lines.{lines}
 use Rattle.cf_syntax.specs.Words.{says_nothing, words}
-use Rattle.cf_syntax.specs.Text.{Opened, Reading, start, is_word, is_header, class_operands, handler_operands, thread_operands, has_words, class_has_name, block_has_name, used_words, numbered_uses, ended, class_line, setup_line, thread_line, handler_line, outside, is_handler, end_line, statement_of, statement_line, inside, place_line, header_line, spoken_line, after_line, whole, on_line_after, read_from, thread_names, script_by, Text}
+use Rattle.cf_syntax.specs.Text.{Opened, Reading, start, is_word, is_header, class_operands, handler_operands, thread_operands, has_words, class_has_name, block_has_name, used_words, numbered_uses, ended, class_line, setup_line, thread_line, handler_line, outside, is_handler, end_line, statement_of, statement_line, inside, place_line, header_line, spoken_line, after_line, whole, on_line_after, read_from, named_threads, script_by, Text}
 use Rattle.cf_syntax.specs.Stage.{is_of_stage, IsOfStage}
 
 -- ---- what a result has, if it is Ok
@@ -58,17 +58,8 @@ has_ok P r x e h = h.has x e
 
 -- a form is none of those that the reader refuses
 abbrev is_now : StatementForm → Bool
-is_now forms.MakeSource = false
 is_now forms.MakeTimer = false
 is_now forms.MakeObserver = false
-is_now forms.Add = false
-is_now forms.Drop = false
-is_now forms.Common = false
-is_now forms.Signal = false
-is_now forms.Invalidate = false
-is_now forms.Wake = false
-is_now forms.Stop = false
-is_now forms.Run = false
 is_now forms.Observe = false
 is_now forms.Forget = false
 is_now forms.Post = false
@@ -79,7 +70,7 @@ AllNow [] = Unit {0}
 AllNow (r ∷ rows) = (is_now r.form ≡ true) × AllNow rows
 
 all_now : AllNow forms_now
-all_now = (refl, (refl, (refl, (refl, (refl, (refl, (refl, (refl, (refl, (refl, (refl, (refl, (refl, (refl, (refl, (refl, (refl, (refl, (refl, (refl, (refl, (refl, (refl, (refl, (refl, (refl, (refl, (refl, (refl, (refl, (refl, (refl, (refl, (refl, (refl, (refl, (refl, (refl, (refl, (refl, (refl, (refl, (refl, (refl, (refl, (refl, (refl, (refl, (refl, (refl, tt))))))))))))))))))))))))))))))))))))))))))))))))))
+all_now = (refl, (refl, (refl, (refl, (refl, (refl, (refl, (refl, (refl, (refl, (refl, (refl, (refl, (refl, (refl, (refl, (refl, (refl, (refl, (refl, (refl, (refl, (refl, (refl, (refl, (refl, (refl, (refl, (refl, (refl, (refl, (refl, (refl, (refl, (refl, (refl, (refl, (refl, (refl, (refl, (refl, (refl, (refl, (refl, (refl, (refl, (refl, (refl, (refl, (refl, (refl, (refl, (refl, (refl, (refl, (refl, (refl, (refl, (refl, (refl, tt))))))))))))))))))))))))))))))))))))))))))))))))))))))))))))
 
 found_now : (test : FormWord → Bool) (rows : List FormWord) → AllNow rows → (r : FormWord) → find_row test rows ≡ Some r
     → is_now r.form ≡ true
@@ -123,17 +114,8 @@ module _ (classes : List ClassLine) (threads : List (List ℕ)) (ns : Numbers) (
   form_stage forms.StrInsert now = literal_stage _ _ (λ t. refl)
   form_stage forms.StrReplace now = literal_stage _ _ (λ t. refl)
   form_stage forms.MakeNumber now = number_stage (var ns 0) (kind_at ws 3) (integer_at ws 4)
-  form_stage forms.MakeSource now = absurd cc
   form_stage forms.MakeTimer now = absurd cc
   form_stage forms.MakeObserver now = absurd cc
-  form_stage forms.Add now = absurd cc
-  form_stage forms.Drop now = absurd cc
-  form_stage forms.Common now = absurd cc
-  form_stage forms.Signal now = absurd cc
-  form_stage forms.Invalidate now = absurd cc
-  form_stage forms.Wake now = absurd cc
-  form_stage forms.Stop now = absurd cc
-  form_stage forms.Run now = absurd cc
   form_stage forms.Observe now = absurd cc
   form_stage forms.Forget now = absurd cc
   form_stage forms.Post now = absurd cc
@@ -290,4 +272,4 @@ script_reads threads ls =
     (λ r e. numbered_has IsOfStage r.count (whole r) (whole_reads r (has_ok ReadsOfStage (read_from threads start ls) r e (all_reads threads start ls start_reads))))
 
 pub text_of_stage : (bs : List ℕ) (s : Script) → Text bs s → IsOfStage s
-text_of_stage bs s e = has_ok IsOfStage (script_by (thread_names (lines bs)) (lines bs)) s e (script_reads (thread_names (lines bs)) (lines bs))
+text_of_stage bs s e = has_ok IsOfStage (script_by (named_threads (lines bs)) (lines bs)) s e (script_reads (named_threads (lines bs)) (lines bs))

@@ -7,7 +7,7 @@ use Rattle.cf_syntax.specs.declared.refusal.Reason.{Reason}
 use Rattle.cf_syntax.specs.declared.refusal.Reason.TheVariants.{NotUtf8}
 use Rattle.cf_syntax.specs.Lines.{lines}
 use Rattle.cf_syntax.specs.FormWords.{◌>>=◌, require}
-use Rattle.cf_syntax.specs.Text.{Reading, start, after_line, whole, on_line_after, read_from, thread_names, script_by, script_of, Text}
+use Rattle.cf_syntax.specs.Text.{Reading, start, after_line, whole, on_line_after, read_from, named_threads, script_by, script_of, Text}
 use Rattle.cf_syntax.specs.Refusals.{fault_in, next_fault, Refused}
 
 -- what a step that is Ok goes on with
@@ -99,7 +99,7 @@ found threads r (l ∷ ls) x e = step (after_line threads r l) refl e (λ s f. f
 pub refused_from : (bs : List ℕ) (x : Refusal) → script_of bs ≡ Err x → Refused bs x
 unfolding script_by
 refused_from bs x e =
-    let threads = thread_names (lines bs) in
+    let threads = named_threads (lines bs) in
     let a = found threads start (lines bs) x e in
     let same : a.count ≡ a.before.count = omega (arith, a.place) in
     record {
@@ -143,7 +143,7 @@ fails_next threads r (l ∷ ls) x line fault = step (after_line threads r l) fau
 pub refused_is : (bs : List ℕ) (x : Refusal) → Refused bs x → script_of bs ≡ Err x
 unfolding script_by
 refused_is bs x h =
-    let threads = thread_names (lines bs) in
+    let threads = named_threads (lines bs) in
     reading_on threads start h.before h.before.count (lines bs) h.earlier
     ∙ fails_next threads h.before (drop h.before.count (lines bs)) x h.line h.fault
 

@@ -46,6 +46,7 @@ forms_now =
     ∷ made (codes "bag") (Plain ∷ []) forms.MakeBag
     ∷ made (codes "heap") [] forms.MakeHeap
     ∷ made (codes "heap") (Plain ∷ []) forms.MakeHeap
+    ∷ made (codes "source") (Int ∷ Handler ∷ Info ∷ []) forms.MakeSource
     ∷ form_word (codes "new") (Bound ∷ Class ∷ Int ∷ []) forms.New
     ∷ form_word (codes "str.append") (Used ∷ Used ∷ []) forms.StrAppend
     ∷ form_word (codes "str.insert") (Used ∷ Index ∷ Text ∷ []) forms.StrInsert
@@ -78,15 +79,6 @@ forms_now =
     ∷ form_word (codes "field.set") (Used ∷ Index ∷ Used ∷ []) forms.FieldSet
     ∷ form_word (codes "field.clear") (Used ∷ Index ∷ []) forms.FieldClear
     ∷ form_word (codes "field.take") (Bound ∷ Used ∷ Index ∷ []) forms.FieldTake
-    ∷ []
-
--- The forms that the program cannot run yet. The reader refuses them as words that begin no form, and as kinds that
--- are none; a line that moves from here to the table above is taken.
-abbrev pub forms_later : List FormWord
-forms_later =
-    made (codes "source") (Int ∷ Handler ∷ Info ∷ []) forms.MakeSource
-    ∷ made (codes "timer") (Unum ∷ Unum ∷ Handler ∷ Info ∷ []) forms.MakeTimer
-    ∷ made (codes "observer") (Mask ∷ Repeats ∷ Int ∷ Handler ∷ Info ∷ []) forms.MakeObserver
     ∷ form_word (codes "add") (Used ∷ Thread ∷ ModeOrCommon ∷ []) forms.Add
     ∷ form_word (codes "drop") (Used ∷ Thread ∷ ModeOrCommon ∷ []) forms.Drop
     ∷ form_word (codes "common") (Thread ∷ Mode ∷ []) forms.Common
@@ -96,6 +88,14 @@ forms_later =
     ∷ form_word (codes "stop") (Thread ∷ []) forms.Stop
     ∷ form_word (codes "run") (Mode ∷ Limit ∷ []) forms.Run
     ∷ form_word (codes "run") (Mode ∷ Limit ∷ Once ∷ []) forms.Run
+    ∷ []
+
+-- The forms that the program cannot run yet. The reader refuses them as words that begin no form, and as kinds that
+-- are none; a line that moves from here to the table above is taken.
+abbrev pub forms_later : List FormWord
+forms_later =
+    made (codes "timer") (Unum ∷ Unum ∷ Handler ∷ Info ∷ []) forms.MakeTimer
+    ∷ made (codes "observer") (Mask ∷ Repeats ∷ Int ∷ Handler ∷ Info ∷ []) forms.MakeObserver
     ∷ form_word (codes "observe") (Used ∷ Handler ∷ NoticeOrAny ∷ Filter ∷ []) forms.Observe
     ∷ form_word (codes "forget") (Used ∷ NoticeOrAny ∷ Filter ∷ []) forms.Forget
     ∷ form_word (codes "post") (Notice ∷ Info ∷ []) forms.Post

@@ -12,7 +12,7 @@ use Rattle.cf_syntax.specs.declared.refusal.Reason.{Reason}
 use Rattle.cf_syntax.specs.declared.refusal.Reason.TheVariants.{Word, Kind, Arity, Text, Name, Number, Hex, TooMany}
 use Rattle.cf_ids.specs.declared.limits.TheConstants.{VARIABLES, HANDLERS, MODES, NOTICES}
 use Rattle.cf_syntax.specs.Words.{is_name, is_text}
-use Rattle.cf_syntax.specs.Numbers.{index_of, unum_of, integer_of, bytes_of, kind_of, is_mask, is_field_count}
+use Rattle.cf_syntax.specs.Numbers.{index_of, unum_of, integer_of, bytes_of, kind_of, is_zero, is_mask, is_field_count}
 use Rattle.cf_syntax.specs.FormTable.{FormWord, forms_now}
 use Rattle.cf_syntax.specs.FormStatements.{Numbers, word_at}
 
@@ -92,7 +92,7 @@ is_of h operands.Hex before word = is_some (bytes_of word)
 is_of h operands.Int before word = is_some (integer_of word)
 is_of h operands.Fitting before word = is_fitting (kind_of before) (integer_of word)
 is_of h operands.Unum before word = is_some (unum_of word)
-is_of h operands.Limit before word = is_some (unum_of word) || bytes_eq word (codes "forever")
+is_of h operands.Limit before word = is_zero (unum_of word)
 is_of h operands.Index before word = is_some (index_of word)
 is_of h operands.FieldCount before word = is_field_count (index_of word)
 is_of h operands.Mask before word = is_mask (unum_of word)

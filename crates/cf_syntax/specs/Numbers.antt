@@ -45,6 +45,11 @@ abbrev pub is_field_count : Option ℕ → Bool
 is_field_count None = false
 is_field_count (Some n) = nat_le n FIELDS
 
+-- a UNUM that is 0, as the limit of a run is until time comes: so a run is past its deadline at once
+abbrev pub is_zero : Option ℕ → Bool
+is_zero None = false
+is_zero (Some n) = n == 0
+
 -- a MASK: at least one of the bits 1, 2, 4, 32, 64 and 128, and no other
 abbrev pub is_mask : Option ℕ → Bool
 is_mask None = false

@@ -4,7 +4,7 @@ use Rattle.std.specs.Prelude.{◌≡◌, ℕ, ◌+◌, List, [], ◌∷◌, take
 use Rattle.cf_syntax.specs.declared.refusal.Refusal.{Refusal}
 use Rattle.cf_syntax.specs.declared.refusal.Reason.{Reason}
 use Rattle.cf_syntax.specs.Lines.{lines}
-use Rattle.cf_syntax.specs.Text.{Reading, start, after_line, whole, read_from, thread_names}
+use Rattle.cf_syntax.specs.Text.{Reading, start, after_line, whole, read_from, named_threads}
 
 -- the fault of what is refused, and none of what is not
 abbrev pub fault_in : {A E : Type 0} → Result A E → Option E
@@ -19,6 +19,6 @@ next_fault threads r (l ∷ ls) = fault_in (after_line threads r l)
 -- the refusal of bytes, by the lines before it
 pub record Refused (bs : List ℕ) (r : Refusal) : Type 0 where
   pub before : Reading
-  pub earlier : read_from (thread_names (lines bs)) start (take before.count (lines bs)) ≡ Ok before
+  pub earlier : read_from (named_threads (lines bs)) start (take before.count (lines bs)) ≡ Ok before
   pub line : r.line ≡ before.count + 1
-  pub fault : next_fault (thread_names (lines bs)) before (drop before.count (lines bs)) ≡ Some r.reason
+  pub fault : next_fault (named_threads (lines bs)) before (drop before.count (lines bs)) ≡ Some r.reason

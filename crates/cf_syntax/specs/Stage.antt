@@ -1,4 +1,4 @@
--- The forms of statements that a script may have until run loops and notices can be run: those that the reader takes.
+-- The forms of statements that a script may have until time and notices come: those that the reader takes.
 -- This project's own.
 use Rattle.std.specs.Prelude.{◌≡◌, ℕ, Bool, true, false, Some, slice_get}
 use Rattle.cf_syntax.specs.declared.statement.Statement.{Statement}
@@ -8,17 +8,8 @@ use Rattle.cf_syntax.specs.BlockLines.{statements_in}
 
 -- a statement is of a form that the reader takes; a form that moves in the table of forms loses its line here
 abbrev pub is_of_stage : Statement → Bool
-is_of_stage (forms.MakeSource v order handler info) = false
 is_of_stage (forms.MakeTimer v first interval handler info) = false
 is_of_stage (forms.MakeObserver v mask repeats order handler info) = false
-is_of_stage (forms.Add item thread mode) = false
-is_of_stage (forms.Drop item thread mode) = false
-is_of_stage (forms.Common thread mode) = false
-is_of_stage (forms.Signal source) = false
-is_of_stage (forms.Invalidate item) = false
-is_of_stage (forms.Wake thread) = false
-is_of_stage (forms.Stop thread) = false
-is_of_stage (forms.Run mode limit once) = false
 is_of_stage (forms.Observe observer handler name object) = false
 is_of_stage (forms.Forget observer name object) = false
 is_of_stage (forms.Post name info) = false

@@ -1,7 +1,7 @@
 -- The script that a text is, or its refusal. This project's own: line 1 is `cf 1`, class lines follow, then the block
 -- `setup`, the blocks of threads and those of handlers, each to a line `end`, with a statement on each line between.
 -- Each step below tries the reasons of a line in their order.
-use Rattle.std.specs.Prelude.{◌≡◌, ℕ, ◌+◌, ◌-◌, Bool, true, false, not, ◌&&◌, List, [], ◌∷◌, ◌++◌, length, map, drop, replicate, codes, Result, Ok, Err, Option, Some, None, is_some, nat_lt, nat_le, ◌==◌, if◌then◌else◌}
+use Rattle.std.specs.Prelude.{◌≡◌, ℕ, ◌+◌, ◌-◌, Bool, true, false, not, ◌&&◌, List, [], ◌∷◌, ◌++◌, length, map, take, drop, replicate, codes, Result, Ok, Err, Option, Some, None, is_some, nat_lt, nat_le, ◌==◌, if◌then◌else◌}
 use Rattle.std.specs.Option.{option_map}
 use Rattle.std.specs.List.{list_any, position_or_len}
 use Rattle.std.specs.Str.{bytes_eq, is_utf8}
@@ -311,6 +311,10 @@ abbrev pub thread_names : List (List ℕ) → List (List ℕ)
 thread_names [] = []
 thread_names (l ∷ ls) = thread_name (words l) ++ thread_names ls
 
+-- the names of the threads that statements may name: the first 63, which are all of a script's
+abbrev pub named_threads : List (List ℕ) → List (List ℕ)
+named_threads ls = take 63 (thread_names ls)
+
 -- the script that lines are, or their refusal
 unfoldable pub script_by : (threads : List (List ℕ)) → List (List ℕ) → Result Script Refusal
 script_by threads ls = do
@@ -319,7 +323,7 @@ script_by threads ls = do
 
 -- the script that bytes are the text of, or their refusal
 abbrev pub script_of : List ℕ → Result Script Refusal
-script_of bs = script_by (thread_names (lines bs)) (lines bs)
+script_of bs = script_by (named_threads (lines bs)) (lines bs)
 
 -- bytes are the text of a script
 abbrev pub Text : List ℕ → Script → Type 0

@@ -4,14 +4,15 @@ use Rattle.cf_syntax.specs.declared.script.Script.{Script}
 use Rattle.cf_syntax.specs.declared.refusal.Refusal.{Refusal}
 use Rattle.cf_syntax.specs.declared.refusal.Reason.{Reason}
 use Rattle.cf_syntax.specs.declared.refusal.Reason.TheVariants.{NotUtf8, Text, Header, Word, Order, Kind, Arity, Name, Number, Hex, Twice, Open, NoSetup}
-use Rattle.cf_syntax.specs.declared.statement.Statement.TheVariants.{MakeString, MakeBag, Retain, SetTake, ArrSet}
+use Rattle.cf_syntax.specs.declared.statement.Statement.TheVariants.{MakeString, MakeBag, Retain, SetTake, ArrSet, Wake, Run}
+use Rattle.cf_syntax.specs.declared.mention.ThreadWord.TheVariants.{Named}
 use Rattle.cf_syntax.specs.Text.{script_of}
 use Rattle.cf_syntax.specs.Examples.{refused_at}
 
 -- setup, a thread that takes over a variable and one that setup does not have, and a handler of two variables
 abbrev pub blocks_text : List ℕ
 blocks_text =
-    codes "cf 1\nsetup\n  make a string \"h\\\"i\"\n# nothing\nmake b bag plain\nend\n"
+    codes "cf 1\nsetup\n  make a string \"h\\\"i\"\n# nothing\nmake b bag plain\nwake t\nrun panel 00 once\nend\n"
     ++ codes "thread t uses b z\nset.take v b z\nend\nhandler h\nretain info\narr.set w 7 info\nend"
 
 abbrev pub blocks_script : Script
@@ -21,30 +22,30 @@ blocks_script = record {
     name = codes "setup";
     uses = [];
     variables = codes "a" ∷ codes "b" ∷ [];
-    statements = MakeString 0 (codes "h\"i") ∷ MakeBag 1 true ∷ [];
-    lines = 3 ∷ 5 ∷ [];
+    statements = MakeString 0 (codes "h\"i") ∷ MakeBag 1 true ∷ Wake (Named (Some 1)) ∷ Run 1 (Some 0) true ∷ [];
+    lines = 3 ∷ 5 ∷ 6 ∷ 7 ∷ [];
     first = 2;
-    last = 6;
+    last = 8;
   } ∷ record {
     name = codes "t";
     uses = record { setup = Some 1; own = 0 } ∷ record { setup = None; own = 1 } ∷ [];
     variables = codes "b" ∷ codes "z" ∷ codes "v" ∷ [];
     statements = SetTake 2 0 1 ∷ [];
-    lines = 8 ∷ [];
-    first = 7;
-    last = 9;
+    lines = 10 ∷ [];
+    first = 9;
+    last = 11;
   } ∷ record {
     name = codes "h";
     uses = [];
     variables = codes "info" ∷ codes "w" ∷ [];
     statements = Retain 0 ∷ ArrSet 1 7 0 ∷ [];
-    lines = 11 ∷ 12 ∷ [];
-    first = 10;
-    last = 13;
+    lines = 13 ∷ 14 ∷ [];
+    first = 12;
+    last = 15;
   } ∷ [];
   thread_count = 2;
   handlers = record { name = codes "h"; block = Some 2 } ∷ [];
-  modes = codes "default" ∷ [];
+  modes = codes "default" ∷ codes "panel" ∷ [];
   notices = [];
 }
 
@@ -83,9 +84,11 @@ abbrev pub refused_lines : List Case
 refused_lines =
     case (in_setup (255 ∷ [])) 3 NotUtf8
     ∷ case (in_setup (codes "frob")) 3 Word
-    ∷ case (in_setup (codes "run default 0")) 3 Word
+    ∷ case (in_setup (codes "post n nil")) 3 Word
+    ∷ case (in_setup (codes "run default forever")) 3 Number
+    ∷ case (in_setup (codes "run default 1 once")) 3 Number
     ∷ case (in_setup (codes "make a frob")) 3 Kind
-    ∷ case (in_setup (codes "make a source 0 h nil")) 3 Kind
+    ∷ case (in_setup (codes "make a timer 0 0 h nil")) 3 Kind
     ∷ case (in_setup (codes "make a")) 3 Arity
     ∷ case (in_setup (codes "make a string")) 3 Arity
     ∷ case (in_setup (codes "make 9 frob")) 3 Kind

@@ -113,7 +113,7 @@ pub enum StatementForm {
     Wake,
     /// `stop THREAD`
     Stop,
-    /// `run MODE UNUM` or `run MODE forever`, also with a last word `once`
+    /// `run MODE 0`, also with a last word `once`; later also with a UNUM or `forever` in place of 0
     Run,
     /// `observe V HANDLER NAME|any X|any`
     Observe,
@@ -160,7 +160,7 @@ pub enum Operand {
     Fitting,
     /// A UNUM: decimal digits whose value is below 2^64.
     Unum,
-    /// A UNUM, or `forever`.
+    /// A UNUM that is 0; later any UNUM, or `forever`.
     Limit,
     /// An INDEX: decimal digits whose value is below 2^32.
     Index,

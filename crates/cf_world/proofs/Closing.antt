@@ -99,7 +99,7 @@ module _ (w : Inside) (inv : IsBegun w) (r : Reserved) (found : IsFound w.ground
   below_limit = parts.below
 
   module _ (w' : Inside) (limit : w'.limit ≡ w.limit) (gone : HasGone r w.ground w'.ground w'.frames.items) (none : w'.has_room ≡ false)
-      (gained_room : 2 ≤ vec_capacity w'.gained) (few : length w'.gained.items ≤ 2) (list_room : 2 ≤ vec_capacity w'.list) where
+      (gained_room : 2 ≤ vec_capacity w'.gained) (list_room : 2 ≤ vec_capacity w'.list) where
     longer : length w'.ground.journal ≡ length w.ground.journal + 1
     longer = ap length gone.entered.journal ∙ length-append w.ground.journal (entry_of w.ground.script r.thread (state_of w.ground) r.action ∷ [])
 
@@ -110,7 +110,6 @@ module _ (w : Inside) (inv : IsBegun w) (r : Reserved) (found : IsFound w.ground
       most = omega (arith, inv.most, limit);
       room = omega (arith, longer, inv.room, limit, gone.entered.room);
       gained_room = gained_room;
-      few = few;
       list_room = list_room;
       reserved = subst (λ (b : Bool). ReservedIf w'.ground w'.frames.items (cond b (Some w'.reserved) None)) (sym none) tt;
       lists = subst (λ (b : Bool). ListsFit w'.ground w'.frames.items (vec_capacity w'.gained) (vec_capacity w'.list) (cond b (Some w'.reserved) None)) (sym none) tt;

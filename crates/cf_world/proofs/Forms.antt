@@ -1,8 +1,7 @@
 -- Of each form of entry: how its thread moves on by it.
-use Rattle.std.proofs.Common.{◌≡◌, ℕ, zero, suc, ◌+◌, ◌<◌, ◌∙◌, Bool, true, false, cond, List, [], ◌∷◌, ◌++◌, Option, Some, None, refl, sym, ap, subst, eqb, eq-eqb, arith}
+use Rattle.std.proofs.Common.{◌≡◌, ℕ, zero, suc, ◌+◌, ◌<◌, ◌∙◌, Bool, true, false, cond, List, [], ◌∷◌, Option, Some, None, refl, sym, ap, subst, eqb, eq-eqb, arith}
 use Rattle.std.proofs.lemmas.Bool.Decides.{nat_tests}
 use Rattle.std.specs.Prelude.{slice_get, ◌&&◌}
-use Rattle.cf_ids.specs.declared.answer.Answer.{Answer}
 use Rattle.cf_ids.specs.declared.answer.Answer.TheVariants as answers
 use Rattle.cf_ids.specs.declared.answer.Ended.{Ended}
 use Rattle.cf_ids.specs.declared.answer.Ended.TheVariants.{More, Last}
@@ -13,25 +12,18 @@ use Rattle.cf_syntax.specs.declared.mention.Ownership.{Ownership}
 use Rattle.cf_syntax.specs.declared.mention.Ownership.TheVariants.{Keeps, Binds, Retains, Releases}
 use Rattle.cf_syntax.specs.Mentions.{ownership_of, first_of}
 use Rattle.cf_syntax.specs.BlockLines.{claims, says, packs}
-use Rattle.cf_syntax.specs.Stage.{is_of_stage}
 use Rattle.cf_syntax.specs.Owned.{FitsByBlock}
 use Rattle.cf_graph.specs.Owners.{is_thread}
 use Rattle.cf_graph.specs.Holders.{Holder, owner_of, parcel, variable, owed, slot}
 use Rattle.cf_graph.specs.Edges.{Reference, held_by, weigh, has, degree, counted, from_thread}
 use Rattle.cf_graph.specs.Flows.{Flow, shrinks, flowed, IsThere, cut_of as flow_cut}
-use Rattle.cf_contents.specs.Deeds.{Change}
 use Rattle.cf_next.specs.declared.action.Action.{Action}
 use Rattle.cf_next.specs.Actions.{Site, action_of, cut_of}
 use Rattle.cf_next.specs.Standing.{is_retain, finals_in}
 use Rattle.cf_next.specs.Steps.{says_retain}
-use Rattle.cf_next.specs.Facts.{Facts}
-use Rattle.cf_next.specs.Stands.{Frame, Stand}
 use Rattle.cf_next.specs.Demands.{Demand, does, ends, owes, drops}
-use Rattle.cf_next.specs.Advance.{advanced, bodies_of, owed_by, run_frames, is_entered, on_top, line_done}
 use Rattle.cf_next.specs.Next.{object_at, used_objects, top_frame, site_in, action_in}
-use Rattle.cf_model.specs.State.{Parts, State, first_held, stand_at}
-use Rattle.cf_model.specs.Deals.{Deal, change_deal, change_unless_skipped}
-use Rattle.cf_model.specs.Stage.{deed_in}
+use Rattle.cf_model.specs.State.{State, first_held, stand_at}
 use Rattle.cf_model.specs.Known.{facts_of}
 use Rattle.cf_model.specs.Own.{first_from, own_reference}
 use Rattle.cf_model.specs.Steps.{Step, type_in, cut_answer, finals_of, demanded, step_of, frames_at, bindings_of, depth_of, step_answer, step_finals, claim_step, pack_step, packed_holder, statement_step, release_step, retain_step, cut_step, cut_flow}
@@ -41,7 +33,7 @@ use Rattle.cf_model.proofs.Balance.{IsBalanced, IsLive, degree-shrunk, live_led}
 use Rattle.cf_model.proofs.Dropping.{drop_fits, demand_slot}
 use Rattle.cf_model.proofs.Fitting.{cut_fits}
 use Rattle.cf_model.proofs.OwnLaws.{IsOf, OwnIs, own_is}
-use Rattle.cf_model.proofs.PlainDeals.{deals_plainly}
+use Rattle.cf_world.proofs.Timing.{StopsNone, deal_still}
 use Rattle.cf_model.proofs.Using.{IsSound, demand_may}
 use Rattle.cf_world.specs.Worlds.{ended_at, retained_by}
 use Rattle.cf_world.specs.Entering.{answer_for, answer_of_cut}
@@ -211,11 +203,7 @@ abbrev pub NoCut : Ownership → List (Option ℕ) → Type 0
 NoCut (Releases v) used = first_of used ≡ None
 NoCut _ used = Unit {0}
 
-deal_stops : (p : Parts) (x : Answer) (o : Option ℕ) (c : Change) → (change_deal p x o c).stops ≡ None
-deal_stops p x None c = refl
-deal_stops p x (Some b) c = refl
-
-module _ (s : Script) (t : ℕ) (st : State) (x : Statement) (of : is_of_stage x ≡ true) where
+module _ (s : Script) (t : ℕ) (st : State) (x : Statement) (stops : StopsNone x) where
   abbrev used : List (Option ℕ)
   used = used_objects (bindings_of (frames_at t st)) (says x)
 
@@ -226,10 +214,7 @@ module _ (s : Script) (t : ℕ) (st : State) (x : Statement) (of : is_of_stage x
   Quiet step = (step_finals step st ≡ []) × (step.stops ≡ None)
 
   quiet : (w : Ownership) → NoCut w used → Quiet (said w)
-  quiet Keeps none = (
-    refl,
-    ap (λ (d : Deal). d.stops) (deals_plainly s t st x used of).deal ∙ deal_stops st.parts (deed_in s st x used).answer (first_of used) (change_unless_skipped (deed_in s st x used).answer (deed_in s st x used).change),
-  )
+  quiet Keeps none = (refl, (deal_still s t st x used stops).1)
   quiet (Binds v) none = (refl, refl)
   quiet (Retains v) none = by (first_of used)
     where
@@ -335,12 +320,3 @@ module _ (s : Script) (t : ℕ) (st : State) (x : Statement) (a : Action) (next 
 
   pub retain_same : is_retain a ≡ says_retain x
   retain_same = ap is_retain (sym action_is) ∙ statement_retain x site
-
--- ---- a statement needs of the facts the time alone, and that not if it begins no run
-
-pub advanced_by_time : (f : Facts) (t time : ℕ) (x : Statement) (answer : Answer) (finals list : List ℕ) (stand : Stand)
-    → ((n : ℕ) (b : Bool) → run_frames n (says x) b ≡ [])
-    → advanced (record f { time = time }) t (does (says x)) answer finals list stand ≡ advanced f t (does (says x)) answer finals list stand
-advanced_by_time f t time x answer finals list stand none =
-    ap (λ (fs : List Frame). record { frames = fs ++ on_top (line_done f t (says x) answer list) stand.frames; work = bodies_of finals ++ owed_by (says x) list; is_done = false })
-    (none time (is_entered answer) ∙ sym (none f.time (is_entered answer)))

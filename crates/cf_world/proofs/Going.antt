@@ -14,7 +14,6 @@ use Rattle.cf_syntax.specs.declared.mention.Ownership.{Ownership}
 use Rattle.cf_syntax.specs.declared.mention.Ownership.TheVariants.{Keeps, Binds, Retains, Releases}
 use Rattle.cf_syntax.specs.Mentions.{ownership_of, first_of}
 use Rattle.cf_syntax.specs.BlockLines.{claims, says, packs}
-use Rattle.cf_syntax.specs.Stage.{is_of_stage}
 use Rattle.cf_syntax.proofs.BlockLaws.{owned_fits}
 use Rattle.cf_next.specs.declared.object.Used.{Used}
 use Rattle.cf_next.specs.declared.step.Step.{Step as Found}
@@ -33,20 +32,23 @@ use Rattle.cf_model.specs.declared.entry.Entry.{Entry}
 use Rattle.cf_model.specs.State.{State, first_held, stand_at}
 use Rattle.cf_graph.specs.Holders.{parcel}
 use Rattle.cf_model.specs.Known.{facts_of}
-use Rattle.cf_model.specs.Steps.{step_of, step_answer, frames_at, bindings_of, depth_of, demanded, type_in, answer_if}
-use Rattle.cf_model.proofs.PlainDeals.{deals_plainly}
-use Rattle.cf_model.proofs.PlainStates.{line_of_stage}
+use Rattle.cf_model.specs.Steps.{step_of, step_answer, frames_at, bindings_of, depth_of, demanded, Made, item_made, type_in, answer_if}
+use Rattle.cf_world.proofs.Timing.{StopsNone, said_time}
+use Rattle.cf_world.proofs.Apart.{apart_stops}
+use Rattle.cf_body.specs.Items.{ItemView}
+use Rattle.cf_scene.specs.Needs.{acts_on_loops}
+use Rattle.cf_model.specs.Journals.{After}
 use Rattle.cf_model.proofs.Sound.{sound}
 use Rattle.cf_world.specs.Worlds.{entry_of, retained_by}
-use Rattle.cf_world.specs.Grounds.{GroundView, deed_of, state_of, known, statement_at, ends_in}
-use Rattle.cf_world.specs.Entering.{HasEntered, IsLastAnswer, listed_if, IsDeed, IsBinding, IsRetain, IsSkip, IsRelease, answer_for, answer_of_cut, listed_in, used_in}
-use Rattle.cf_world.specs.Kept.{IsKept, step_kept}
+use Rattle.cf_world.specs.Grounds.{GroundView, IsReady, NeedsDeed, ReadyIf, deed_of, state_of, known, statement_at, ends_in}
+use Rattle.cf_world.specs.Entering.{HasEntered, IsLastAnswer, listed_if, IsDeed, IsBinding, IsMaking, item_new, IsRetain, IsSkip, IsRelease, answer_for, answer_of_cut, listed_in, used_in}
+use Rattle.cf_world.specs.Kept.{IsKept, IsSaid, step_kept}
 use Rattle.cf_world.specs.declared.found.Found.{Found as Kept}
 use Rattle.cf_world.specs.declared.found.Found.TheVariants as kept
 use Rattle.cf_world.specs.declared.found.Reserved.{Reserved}
-use Rattle.cf_world.specs.Begun.{standing_at, StandSo, AreFrames, HasMoved, MovesBy, HasGone, IsClaims, IsOwes, IsFound, IsReserved, IsReadyFor, ReadyIf, NeedsDeed, IsReady, finals_of_cut, most_listed}
-use Rattle.cf_world.proofs.Moving.{IsMove, action_of_demand, gone_by, room_two, less_room, stand_here}
-use Rattle.cf_world.proofs.Forms.{NoCut, claim_moves, pack_moves, end_moves, finals_for, finals_of_answer, cut_moves, cut_live, owed_cuts, drop_cuts, release_cuts, said_moves, lists_none, said_cuts_none, said_releases, said_retains, retain_same, advanced_by_time}
+use Rattle.cf_world.specs.Begun.{standing_at, StandSo, AreFrames, HasMoved, MovesBy, HasGone, IsClaims, IsOwes, IsFound, IsReserved, IsReadyFor, finals_of_cut, most_listed}
+use Rattle.cf_world.proofs.Moving.{IsMove, action_of_demand, after_entry, gone_by, next_steps, room_for, room_two, less_room, stand_here}
+use Rattle.cf_world.proofs.Forms.{NoCut, claim_moves, pack_moves, end_moves, finals_for, finals_of_answer, cut_moves, cut_live, owed_cuts, drop_cuts, release_cuts, said_moves, lists_none, said_cuts_none, said_releases, said_retains, retain_same}
 
 -- ---- what was found
 
@@ -55,6 +57,11 @@ IsFoundStep g r x = IsStep g.script (facts_of (state_of g)) r.thread (stand_at r
 
 abbrev pub Keeps_ : GroundView → Reserved → Kept → Type 0
 Keeps_ g r f = IsKept g.script (facts_of (state_of g)) r.thread (stand_at r.thread (state_of g).stands) f
+
+-- what was found is a statement, which acts on run loops or does not
+abbrev pub Said : GroundView → Reserved → (loops : Bool) → (b n : ℕ) → Used → Type 0
+Said g r loops b n used =
+    IsSaid g.script (facts_of (state_of g)) r.thread (stand_at r.thread (state_of g).stands) loops b n used
 
 pub kept_as : (g : GroundView) (r : Reserved) (f : Kept) → IsFound g r → r.found ≡ f → Keeps_ g r f
 kept_as g r f found e = subst (Keeps_ g r) e found.kept
@@ -165,7 +172,7 @@ top_bindings : (fs : List Frame) → (top_frame fs).bindings ≡ bindings_of fs
 top_bindings [] = refl
 top_bindings (f ∷ fs) = refl
 
-module _ (g : GroundView) (r : Reserved) (found : IsFound g r) (b n : ℕ) (used : Used) (said : Keeps_ g r (kept.Says b n used)) where
+module _ (g : GroundView) (r : Reserved) (found : IsFound g r) (b n : ℕ) (used : Used) (loops : Bool) (said : Said g r loops b n used) where
   abbrev now : State
   now = state_of g
 
@@ -178,16 +185,9 @@ module _ (g : GroundView) (r : Reserved) (found : IsFound g r) (b n : ℕ) (used
   abbrev objects : List (Option ℕ)
   objects = used_in g u x
 
-  line_of : (fs : List Frame) → IsLine g.script (says x) fs → is_of_stage x ≡ true
-  line_of [] h = absurd h
-  line_of (f ∷ fs) h = line_of_stage g.script f.kind f.block f.number x found.runs.stage h
-
   line_number : (fs : List Frame) → IsLine g.script (says x) fs → (top_frame fs).number + 1 < 4294967296
   line_number [] h = absurd h
   line_number (f ∷ fs) h = omega (arith, slice_get_within _ f.number (says x) h, lines-few g.script found.runs.numbered f.kind f.block)
-
-  pub staged : is_of_stage x ≡ true
-  staged = line_of (frames_at u now) said.line
 
   pub number_fits : (frames : List Standing) → AreFrames g.script now frames
       → (top_frame (standing_at frames u).stand.frames).number + 1 < 4294967296
@@ -219,6 +219,14 @@ module _ (g : GroundView) (r : Reserved) (found : IsFound g r) (b n : ℕ) (used
       by true e = let h = retains e in subst (λ (d : Bool). cond d (Unit {0}) (HasRoom more (standing_at frames u))) (sym (with_retain more fin h.0 h.1)) tt
       by false e = less_room more 2 (standing_at frames u) few (room_two r.action (standing_at frames u) (retain_same g.script u now x r.action found.acts.next said.demands ∙ e) room)
 
+  -- the same where more may be listed
+  pub says_more : (frames : List Standing) (more n : ℕ) → says_retain x ≡ false
+      → HasRoomFor r.action more (standing_at frames u) → n ≤ more → SaysRoom x None n (standing_at frames u)
+  says_more frames more n plain room few =
+      let same = retain_same g.script u now x r.action found.acts.next said.demands in
+      subst (λ (c : Bool). cond (c && ((n == 0) && true)) (Unit {0}) (HasRoom n (standing_at frames u))) (sym plain)
+      (less_room n more (standing_at frames u) few (room_for r.action more (standing_at frames u) (same ∙ plain) room))
+
   pub says_list : (list : List ℕ) → All IsObjectNumber list → SaysList x list
   says_list list h = by (is_post (says x))
     where
@@ -228,7 +236,7 @@ module _ (g : GroundView) (r : Reserved) (found : IsFound g r) (b n : ℕ) (used
 
 -- ---- what a statement asks of the ground, and how its thread moves on by it
 
-module _ (g : GroundView) (r : Reserved) (found : IsFound g r) (b n : ℕ) (used : Used) (said : Keeps_ g r (kept.Says b n used)) where
+module _ (g : GroundView) (r : Reserved) (found : IsFound g r) (b n : ℕ) (used : Used) (loops : Bool) (said : Said g r loops b n used) where
   abbrev at : State
   at = state_of g
 
@@ -244,21 +252,27 @@ module _ (g : GroundView) (r : Reserved) (found : IsFound g r) (b n : ℕ) (used
   abbrev said_answer : Answer
   said_answer = step_answer (step_of g.script th at (frames_at th at) (does (says z))) at
 
-  ready_here : IsReadyFor g (kept.Says b n used) → NeedsDeed (ownership_of z) (IsReady g z (objects_of used))
+  ready_here : IsReadyFor g th (kept.Says b n used) → NeedsDeed (ownership_of z) (IsReady g z (objects_of used))
   ready_here h = subst (λ (o : Option Statement). ReadyIf g o (objects_of used)) said.at h
 
   deed_here : (d : IsReady g z (objects_of used)) → g.ready ≡ Some (deed_of g.script at z os)
-  deed_here d = d.deed ∙ ap (λ (us : List (Option ℕ)). Some (deed_of g.script at z us)) (objects_are g r found b n used said)
+  deed_here d = d.deed ∙ ap (λ (us : List (Option ℕ)). Some (deed_of g.script at z us)) (objects_are g r found b n used loops said)
 
-  pub deed_is : ownership_of z ≡ Keeps → IsReadyFor g (kept.Says b n used) → IsDeed g th
-  deed_is w h =
+  pub deed_is : ownership_of z ≡ Keeps → acts_on_loops z ≡ false → IsReadyFor g th (kept.Says b n used) → IsDeed g th
+  deed_is w apart h =
       let d : IsReady g z (objects_of used) = subst (λ (o : Ownership). NeedsDeed o (IsReady g z (objects_of used))) w (ready_here h) in
-      record { statement = z; demands = said.demands; keeps = w; ready = deed_here d }
+      record { statement = z; demands = said.demands; apart = apart; keeps = w; ready = deed_here d }
 
-  pub binding_is : (v : ℕ) → ownership_of z ≡ Binds v → IsReadyFor g (kept.Says b n used) → IsBinding g th
-  binding_is v w h =
+  pub binding_is : (v : ℕ) → ownership_of z ≡ Binds v → item_made z ≡ None → IsReadyFor g th (kept.Says b n used) → IsBinding g th
+  binding_is v w none h =
       let d : IsReady g z (objects_of used) = subst (λ (o : Ownership). NeedsDeed o (IsReady g z (objects_of used))) w (ready_here h) in
-      record { statement = z; var = v; demands = said.demands; binds = w; ready = deed_here d; room = d.room }
+      record { statement = z; var = v; demands = said.demands; binds = w; itemless = none; ready = deed_here d; room = d.room }
+
+  pub making_is : (v : ℕ) (item : ItemView) → ownership_of z ≡ Binds v → item_new (first_of os) (item_made z) ≡ Some item
+      → IsReadyFor g th (kept.Says b n used) → IsMaking g th item
+  making_is v item w made h =
+      let d : IsReady g z (objects_of used) = subst (λ (o : Ownership). NeedsDeed o (IsReady g z (objects_of used))) w (ready_here h) in
+      record { statement = z; var = v; demands = said.demands; binds = w; made = made; room = d.room }
 
   pub retain_is : (v : ℕ) (object : Option ℕ) → ownership_of z ≡ Retains v → object ≡ first_of (objects_of used)
       → IsRetain g th object
@@ -267,7 +281,7 @@ module _ (g : GroundView) (r : Reserved) (found : IsFound g r) (b n : ℕ) (used
     var = v;
     demands = said.demands;
     retains = w;
-    object_is = sym (is ∙ ap first_of (objects_are g r found b n used said));
+    object_is = sym (is ∙ ap first_of (objects_are g r found b n used loops said));
   }
 
   pub skip_is : (v : ℕ) → ownership_of z ≡ Releases v → cut_of r.action ≡ None → IsSkip g th
@@ -296,17 +310,17 @@ module _ (g : GroundView) (r : Reserved) (found : IsFound g r) (b n : ℕ) (used
   lists_nothing other = sym (listed_here ∙ lists_none g.script th (depth_of (frames_at th at)) at z os (ownership_of z) other)
 
   -- without a cut
-  pub quiet_moves : (list : List ℕ) → cut_of r.action ≡ None → list ≡ listed_in g th
+  pub quiet_moves : StopsNone z → (list : List ℕ) → cut_of r.action ≡ None → list ≡ listed_in g th
       → IsMove g.script th at (does (says z)) said_answer [] list
-  quiet_moves list none e =
-      let m = said_moves g.script th at z (staged g r found b n used said) (said_cuts_none g.script th at z r.action found.acts.next said.demands none) in
+  quiet_moves stops list none e =
+      let m = said_moves g.script th at z stops (said_cuts_none g.script th at z r.action found.acts.next said.demands none) in
       record { answer_is = m.answer_is; finals_are = m.finals_are; list_is = sym (e ∙ listed_here); stops = m.stops }
 
   -- a retain
-  pub booked_moves : (o : ℕ) → retained_by r.action ≡ Some o → IsMove g.script th at (does (says z)) said_answer [] []
-  booked_moves o some =
+  pub booked_moves : StopsNone z → (o : ℕ) → retained_by r.action ≡ Some o → IsMove g.script th at (does (says z)) said_answer [] []
+  booked_moves stops o some =
       let h = said_retains g.script th at z r.action found.acts.next said.demands o some in
-      let m = said_moves g.script th at z (staged g r found b n used said) (subst (λ (w : Ownership). NoCut w os) (sym h.retains) tt) in
+      let m = said_moves g.script th at z stops (subst (λ (w : Ownership). NoCut w os) (sym h.retains) tt) in
       let other : ownership_of z ≡ Keeps → ⊥ = λ keeps. no_keeps h.var (sym h.retains ∙ keeps) in
       record { answer_is = m.answer_is; finals_are = m.finals_are; list_is = lists_none g.script th (depth_of (frames_at th at)) at z os (ownership_of z) other; stops = m.stops }
     where
@@ -333,7 +347,7 @@ last_is [] a b h k = h ∙ sym k
 last_is (e ∷ []) a b h k = h ∙ sym k
 last_is (e ∷ f ∷ es) a b h k = last_is (f ∷ es) a b h k
 
-module _ (g g' : GroundView) (frames frames' : List Standing) (r : Reserved) (found : IsFound g r) (entered : HasEntered r.thread r.action g g') (b n : ℕ) (used : Used) (said : Keeps_ g r (kept.Says b n used))
+module _ (g g' : GroundView) (frames frames' : List Standing) (r : Reserved) (found : IsFound g r) (entered : HasEntered r.thread r.action g g') (b n : ℕ) (used : Used) (loops : Bool) (said : Said g r loops b n used)
     (so : AreFrames g.script (state_of g) frames) where
   abbrev was : State
   was = state_of g
@@ -362,14 +376,19 @@ module _ (g g' : GroundView) (frames frames' : List Standing) (r : Reserved) (fo
       → StandSo s stands frames → facts.time ≡ (state_of g').parts.time → IsLastAnswer g'.journal (Some answer)
       → HasMoved s stands w (advanced facts w (does (says y)) answer finals list (stand_at w stands)) frames'
 
+  -- what a thread says changes no time
+  time_is : was.parts.time ≡ (state_of g').parts.time
+  time_is =
+      let es = g.journal ++ entry_of g.script w was r.action ∷ [] in
+      let states : state_of g' ≡ After g.script es = ap (λ (c : Script). After c g'.journal) entered.script ∙ ap (After g.script) entered.journal in
+      sym (ap (λ (x : State). x.parts.time) (states ∙ after_entry g.script g.journal w r.action told (does (says y)) (next_steps g w r.action found.runs found.acts) said.demands)
+      ∙ said_time g.script w was y)
+
   pub say_gone : (finals list : List ℕ) → IsMove g.script w was (does (says y)) of_step finals list
       → IsSayOn finals list → HasGone r g g' frames'
   say_gone finals list h on =
-      let time = (state_of g').parts.time in
-      let moved = on g.script was.stands (record (facts_of was) { time = time }) told so refl last_told in
-      let same = advanced_by_time (facts_of was) w time y told finals list (stand_at w was.stands) (deals_plainly g.script w was y (used_in g w y) (staged g r found b n used said)).runs in
       gone_by g g' r (does (says y)) of_step told finals finals list frames' found entered said.demands h told_is refl
-      (subst (λ (s : Stand). HasMoved g.script was.stands w s frames') same moved)
+      (on g.script was.stands (facts_of was) told so time_is last_told)
 
 -- ---- a statement that is entered, and its thread moved on by it
 
@@ -390,23 +409,23 @@ module _ (g : GroundView) (r : Reserved) (found : IsFound g r) (b n : ℕ) (used
   said_here = kept_as g r (kept.Says b n used) found is
 
   pub same_here : said_here.statement ≡ x
-  same_here = statement_is g r found b n used said_here x there
+  same_here = statement_is g r found b n used false said_here x there
 
   pub room_here : (frames : List Standing) (fin : Option ℕ) (more : ℕ)
       → HasRoomFor r.action (most_listed r.action) (standing_at frames r.thread) → more ≤ 2
       → (says_retain said_here.statement ≡ true → (more ≡ 0) × (fin ≡ None)) → SaysRoom x fin more (standing_at frames r.thread)
   room_here frames fin more room few retains =
-      subst (λ (y : Statement). SaysRoom y fin more (standing_at frames r.thread)) same_here (says_room g r found b n used said_here frames fin more room few retains)
+      subst (λ (y : Statement). SaysRoom y fin more (standing_at frames r.thread)) same_here (says_room g r found b n used false said_here frames fin more room few retains)
 
   pub list_here : (list : List ℕ) → All IsObjectNumber list → SaysList x list
-  list_here list h = subst (λ (y : Statement). SaysList y list) same_here (says_list g r found b n used said_here list h)
+  list_here list h = subst (λ (y : Statement). SaysList y list) same_here (says_list g r found b n used false said_here list h)
 
   -- a retain lists nothing
   pub quiet_retain : (list : List ℕ) → list ≡ listed_in g r.thread → says_retain said_here.statement ≡ true
       → (length list ≡ 0) × (◌≡◌ {A = Option ℕ} None None)
   quiet_retain list e retains =
       let h = retains_var said_here.statement retains in
-      (ap length (e ∙ sym (lists_nothing g r found b n used said_here (λ keeps. no_keeps h.0 (sym h.1 ∙ keeps)))), refl)
+      (ap length (e ∙ sym (lists_nothing g r found b n used false said_here (λ keeps. no_keeps h.0 (sym h.1 ∙ keeps)))), refl)
     where
       no_keeps : (v : ℕ) → Retains v ≡ Keeps → ⊥
       no_keeps v e = cc
@@ -429,11 +448,29 @@ module _ (g : GroundView) (r : Reserved) (found : IsFound g r) (b n : ℕ) (used
       subst (λ (d : Bool). cond (d && ((0 == 0) && not (is_some no_object))) (Unit {0}) (HasRoom 0 f)) (sym (retain_form x h.var (ap ownership_of (sym same_here) ∙ h.retains))) tt
 
   -- what the ground asks of it
-  pub deed_asked : Keeps ≡ ownership_of x → IsReadyFor g r.found → IsDeed g r.thread
-  deed_asked e ready = deed_is g r found b n used said_here (ap ownership_of same_here ∙ sym e) (subst (IsReadyFor g) is ready)
+  pub deed_asked : Keeps ≡ ownership_of x → IsReadyFor g r.thread r.found → IsDeed g r.thread
+  deed_asked e ready = deed_is g r found b n used false said_here (ap ownership_of same_here ∙ sym e) said_here.acts (subst (IsReadyFor g r.thread) is ready)
+
+  pub binding_asked : (v : ℕ) (info : Option ℕ) → Binds v ≡ ownership_of x → ◌≡◌ {A = Option ItemView} None (item_new info (item_made x))
+      → IsReadyFor g r.thread r.found → IsBinding g r.thread
+  binding_asked v info e none ready =
+      binding_is g r found b n used false said_here v (ap ownership_of same_here ∙ sym e) (no_item (item_made said_here.statement) (none ∙ ap (λ (y : Statement). item_new info (item_made y)) (sym same_here)))
+      (subst (IsReadyFor g r.thread) is ready)
+    where
+      no_item : (o : Option Made) → None ≡ item_new info o → o ≡ None
+      no_item None q = refl
+      no_item (Some m) q = absurd cc
+
+  pub making_asked : (v : ℕ) (item : ItemView) → Binds v ≡ ownership_of x
+      → Some item ≡ item_new (first_of (objects_of used)) (item_made x)
+      → IsReadyFor g r.thread r.found → IsMaking g r.thread item
+  making_asked v item e made ready =
+      making_is g r found b n used false said_here v item (ap ownership_of same_here ∙ sym e)
+      (ap (λ (us : List (Option ℕ)). item_new (first_of us) (item_made said_here.statement)) (sym (objects_are g r found b n used false said_here)) ∙ ap (λ (y : Statement). item_new (first_of (objects_of used)) (item_made y)) same_here ∙ sym made)
+      (subst (IsReadyFor g r.thread) is ready)
 
   pub skip_asked : (v : ℕ) → Releases v ≡ ownership_of x → cut_of r.action ≡ None → IsSkip g r.thread
-  skip_asked v e none = skip_is g r found b n used said_here v (ap ownership_of same_here ∙ sym e) none
+  skip_asked v e none = skip_is g r found b n used false said_here v (ap ownership_of same_here ∙ sym e) none
 
 module _ (g g' : GroundView) (frames frames' : List Standing) (r : Reserved) (found : IsFound g r) (entered : HasEntered r.thread r.action g g') (b n : ℕ) (used : Used) (is : r.found ≡ kept.Says b n used)
     (so : AreFrames g.script (state_of g) frames) (x : Statement) (there : Some x ≡ statement_at g'.script b n) where
@@ -449,29 +486,29 @@ module _ (g g' : GroundView) (frames frames' : List Standing) (r : Reserved) (fo
       → HasMoved s stands r.thread (advanced facts r.thread (does (says y)) answer finals list (stand_at r.thread stands)) frames'
 
   gone_on : (finals list : List ℕ)
-      → IsMove g.script r.thread (state_of g) (does (says said_now.statement)) (said_answer g r found b n used said_now) finals list
+      → IsMove g.script r.thread (state_of g) (does (says said_now.statement)) (said_answer g r found b n used false said_now) finals list
       → IsOn x finals list → HasGone r g g' frames'
   gone_on finals list h on =
-      say_gone g g' frames frames' r found entered b n used said_now so finals list h
+      say_gone g g' frames frames' r found entered b n used false said_now so finals list h
       (subst (λ (y : Statement). IsOn y finals list) (sym (same_here g r found b n used is x there_before)) on)
 
   pub quiet_gone : (list : List ℕ) → cut_of r.action ≡ None → list ≡ listed_in g r.thread → IsOn x [] list
       → HasGone r g g' frames'
-  quiet_gone list none e on = gone_on [] list (quiet_moves g r found b n used said_now list none e) on
+  quiet_gone list none e on = gone_on [] list (quiet_moves g r found b n used false said_now (apart_stops said_now.statement said_now.acts) list none e) on
 
   pub booked_gone : (o : ℕ) → retained_by r.action ≡ Some o → IsOn x [] [] → HasGone r g g' frames'
-  booked_gone o some on = gone_on [] [] (booked_moves g r found b n used said_now o some) on
+  booked_gone o some on = gone_on [] [] (booked_moves g r found b n used false said_now (apart_stops said_now.statement said_now.acts) o some) on
 
   pub release_gone : (o : ℕ) (ended : Ended) (finals : List ℕ) → cut_of r.action ≡ Some o → ends_in g o ended
       → finals ≡ finals_of_cut ended o → IsOn x finals [] → HasGone r g g' frames'
   release_gone o ended finals some end same on =
-      gone_on (finals_of_cut ended o) [] (release_moves g r found b n used said_now o ended some end) (subst (λ (fs : List ℕ). IsOn x fs []) same on)
+      gone_on (finals_of_cut ended o) [] (release_moves g r found b n used false said_now o ended some end) (subst (λ (fs : List ℕ). IsOn x fs []) same on)
 
 pub nothing_there : (g g' : GroundView) (r : Reserved) (found : IsFound g r)
     (entered : HasEntered r.thread r.action g g') (b n : ℕ) (used : Used) → r.found ≡ kept.Says b n used
     → None ≡ statement_at g'.script b n → ⊥
 nothing_there g g' r found entered b n used is none =
-    no_statement g r found b n used (kept_as g r (kept.Says b n used) found is) (none ∙ ap (λ (s : Script). statement_at s b n) entered.script)
+    no_statement g r found b n used false (kept_as g r (kept.Says b n used) found is) (none ∙ ap (λ (s : Script). statement_at s b n) entered.script)
 
 -- the slot that is given up is the one of the action
 pub drop_cut : (g : GroundView) (r : Reserved) (found : IsFound g r) (b k o left : ℕ) → r.found ≡ kept.Drops b k o left

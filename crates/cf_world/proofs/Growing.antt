@@ -86,10 +86,10 @@ has_entered g g' t a acts same grown capacity = record {
 }
 
 pub has_written : (g : Inside) (t : ℕ) (a : Action) → MayAct (view_of g) t a
-    → (journal : Vec Entry) (ready : Option Ready) (body_room : ℕ)
+    → (journal : Vec Entry) (ready : Option Ready) (body_room : ℕ) (loops : List Loop)
     → journal.items ≡ g.journal.items ++ entry_of g.script t (After g.script g.journal.items) a ∷ [] → vec_capacity journal ≡ vec_capacity g.journal
-    → HasEntered t a (view_of g) (record { script = g.script; journal = journal.items; journal_room = vec_capacity journal - vec_len journal; ready = ready; body_room = body_room })
-has_written g t a acts journal ready body_room grown capacity = record {
+    → HasEntered t a (view_of g) (record { script = g.script; journal = journal.items; journal_room = vec_capacity journal - vec_len journal; ready = ready; body_room = body_room; loops = loops })
+has_written g t a acts journal ready body_room loops grown capacity = record {
   script = refl;
   journal = grown;
   room = omega (arith, ap length grown, length-append g.journal.items (entry_of g.script t (After g.script g.journal.items) a ∷ []), acts.room, capacity);

@@ -28,7 +28,6 @@ module _ (w w' : Inside) (a : Action) (inv : IsBegun w) (h : HasLed a w.ground w
     most = omega (arith, limit, inv.most);
     room = omega (arith, longer, limit, inv.room, h.room);
     gained_room = rw gained inv.gained_room;
-    few = rw gained inv.few;
     list_room = rw list inv.list_room;
     reserved = rw none tt;
     lists = rw none tt;

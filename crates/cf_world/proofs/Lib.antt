@@ -24,9 +24,15 @@ pub mod Stalling
 pub mod Starting
 pub mod Stating
 pub mod Telling
+pub mod Timing
 pub mod Waking
 pub mod Awaiting
 pub mod Begins
 pub mod EdgeLists
 pub mod Weighing
 pub mod Referring
+pub mod Apart
+pub mod Bodies
+pub mod Deals
+pub mod Items
+pub mod Naming

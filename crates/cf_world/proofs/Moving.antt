@@ -2,14 +2,14 @@
 use Rattle.std.proofs.Common.{◌≡◌, ℕ, zero, suc, ◌<◌, ◌≤◌, ◌∙◌, ◌⊎◌, Bool, true, false, cond, List, [], ◌∷◌, ◌++◌, length, map, Option, Some, None, get_or, set, refl, sym, ap, subst, arith, inl, inr}
 use Rattle.std.proofs.lemmas.List.{length-set, get_or_default, get_or-set_same, get_or-set_other}
 use Rattle.std.proofs.lemmas.Bool.{cases_eq}
-use Rattle.std.specs.Prelude.{◌&&◌, ◌==◌}
+use Rattle.std.specs.Prelude.{◌&&◌, ◌==◌, IfSome}
 use Rattle.std.specs.List.{All}
 use Rattle.cf_ids.specs.Ranges.{IsObjectNumber}
 use Rattle.cf_ids.specs.declared.answer.Answer.{Answer}
 use Rattle.cf_syntax.specs.declared.script.Script.{Script}
 use Rattle.cf_syntax.proofs.BlockLaws.{owned_fits}
 use Rattle.cf_next.specs.declared.action.Action.{Action}
-use Rattle.cf_next.specs.Stands.{Stand}
+use Rattle.cf_next.specs.Stands.{Stand, stop_stand}
 use Rattle.cf_next.specs.Standing.{Standing, HasRoom, HasRoomFor, is_retain}
 use Rattle.cf_next.specs.declared.step.Step.{Step as Found}
 use Rattle.cf_next.specs.Steps.{IsStep as Demands, StepRoom, StepLists, is_retain_step, step_posts}
@@ -70,6 +70,21 @@ moved_by s stands frames t f stand h within thread is = record {
     by : (u : ℕ) → u < s.thread_count → (u ≡ t) ⊎ (u ≡ t → ⊥) → (get_or (set frames t f) u nobody).thread ≡ u
     by u below (inl e) = ap (λ (v : ℕ). (get_or (set frames t f) v nobody).thread) e ∙ ap (λ (g : Standing). g.thread) (get_or-set_same frames t f nobody within) ∙ thread ∙ sym e
     by u below (inr n) = ap (λ (g : Standing). g.thread) (get_or-set_other frames t u f nobody n) ∙ h.thread u below
+
+-- the run of one of them is told to stop
+pub within_some : (stopped : Option ℕ) (u : ℕ) (frames : List Standing) → stopped ≡ Some u
+    → IfSome stopped (λ v. v < length frames) → u < length frames
+within_some stopped u frames is h = subst (λ (o : Option ℕ). IfSome o (λ v. v < length frames)) is h
+
+pub stopped_by : (s : Script) (stands : List Stand) (frames : List Standing) (u i : ℕ) (stopped : Option ℕ) (f : Standing)
+    → StandSo s stands frames → u < length frames → stopped ≡ Some u → i ≡ u
+    → f.thread ≡ (standing_at frames u).thread → f.stand ≡ stop_stand (standing_at frames u).stand
+    → StandSo s (stopped_at stopped stands) (set frames i f)
+stopped_by s stands frames u i stopped f so within is same thread stand =
+    subst (λ (k : ℕ). StandSo s (stopped_at stopped stands) (set frames k f)) (sym same)
+    (subst (λ (o : Option ℕ). StandSo s (stopped_at o stands) (set frames u f)) (sym is)
+    (moved_by s stands frames u f (stop_stand (stand_at u stands)) so within
+    (thread ∙ so.thread u (subst (λ (n : ℕ). u < n) so.count within)) (stand ∙ ap stop_stand (stand_here s stands frames u so))))
 
 -- what a thread demands it demands where it stands
 module _ (s : Script) (stands : List Stand) (frames : List Standing) (t : ℕ) (h : StandSo s stands frames) (within : t < s.thread_count) where

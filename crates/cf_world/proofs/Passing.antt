@@ -32,11 +32,11 @@ use Rattle.cf_model.specs.Known.{facts_of}
 use Rattle.cf_model.specs.Things.{Thing, thing_at}
 use Rattle.cf_model.specs.Deals.{Deal, with_used, with_thing, thing_deal, with_item, signal_source, signal_deal, stop_deal, okay, answering, wake_parts, change_deal, change_unless_skipped, deal_of}
 use Rattle.cf_model.specs.Steps.{fired, idle, sleeping, start_all, fire, fire_if, retain_step, release_step, claim_step, pack_step, packed_holder, statement_step, line_step, sleep_step, unwoken_step, phase_step, close_step, step_of, step_answer, frames_at, bindings_of, depth_of, demanded, done_by}
-use Rattle.cf_model.specs.Stage.{deed_in}
+use Rattle.cf_model.specs.Plain.{deed_in}
 use Rattle.cf_model.specs.Journals.{owners_of}
 use Rattle.cf_model.proofs.Acting.{demand_fits}
 use Rattle.cf_model.proofs.PlainDeals.{deed_fits}
-use Rattle.cf_model.proofs.PlainStates.{line_of_stage}
+use Rattle.cf_model.proofs.Staged.{line_of_stage}
 use Rattle.cf_model.proofs.Sound.{uses_at_most}
 use Rattle.cf_model.proofs.Using.{IsSound, demand_may}
 use Rattle.cf_model.proofs.Views.{FrameView, StandView, WorkView, first_drops, first_owes, first_spends, is_call, is_close, is_end, is_line, is_phase, is_return, of_frame, of_work, stand_view}
@@ -315,13 +315,6 @@ binds_leave (forms.Drop item u m) v e = absurd cc
 binds_leave (forms.Common u m) v e = absurd cc
 binds_leave (forms.Invalidate item) v e = absurd cc
 binds_leave _ v e = tt
-
-pub staged_leave : (x : Statement) → is_of_stage x ≡ true → LeavesLoops x
-staged_leave (forms.Add item u m) of = absurd cc
-staged_leave (forms.Drop item u m) of = absurd cc
-staged_leave (forms.Common u m) of = absurd cc
-staged_leave (forms.Invalidate item) of = absurd cc
-staged_leave x of = tt
 
 -- the loops stay those of the state
 abbrev pub KeepsLoops : Script → ℕ → State → List Loop → Type 0

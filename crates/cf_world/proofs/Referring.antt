@@ -1,7 +1,7 @@
 -- The references by the parts of a world are those of the state, each as often.
-use Rattle.std.proofs.Common.{◌≡◌, ℕ, zero, suc, ◌+◌, ◌<◌, ◌≤◌, Bool, List, [], ◌∷◌, ◌++◌, length, map, drop, Option, Some, None, refl, sym, ap, ◌∙◌, subst, arith, inl, inr, append-nil}
+use Rattle.std.proofs.Common.{◌≡◌, ℕ, zero, suc, ◌+◌, ◌<◌, ◌≤◌, Bool, List, [], ◌∷◌, ◌++◌, length, map, drop, Option, Some, None, refl, sym, ap, ◌∙◌, subst, arith, inl, inr}
 use Rattle.std.specs.Prelude.{slice_get, slice_index_or, count_by, option_to_list}
-use Rattle.std.proofs.lemmas.List.{map-append}
+use Rattle.std.proofs.lemmas.List.{length-map, map-append}
 use Rattle.std.proofs.lemmas.Bool.{cases_lt}
 use Rattle.std.specs.Option.{option_map}
 use Rattle.cf_syntax.specs.declared.script.Script.{Script}
@@ -22,12 +22,11 @@ use Rattle.cf_model.specs.State.{State, Parts, blank, stand_at, left_of}
 use Rattle.cf_model.specs.declared.entry.Entry.{Entry}
 use Rattle.cf_model.specs.Journals.{After, IsLegal}
 use Rattle.cf_model.specs.Parcels.{HasOneAtMost}
-use Rattle.cf_model.specs.Stage.{IsPlainState}
+use Rattle.cf_loops.specs.Following.{IsPlaceOfLoop, SamePlaces}
 use Rattle.cf_model.specs.Tokens.{HeldAsTold, owed_in, frames_hold, callouts_hold}
 use Rattle.cf_model.proofs.Places.{kinds_apart, held_objects as times-held}
 use Rattle.cf_model.proofs.Limiting.{few_of_legal}
 use Rattle.cf_model.proofs.Parcels.{parcels_one}
-use Rattle.cf_model.proofs.PlainStates.{plain_after}
 use Rattle.cf_model.proofs.Sound.{sound}
 use Rattle.cf_world.specs.Begun.{AreFrames, IsBegun, view_of}
 use Rattle.cf_world.specs.declared.begun.Begun.TheInside.{Inside}
@@ -84,13 +83,23 @@ pub record AreOfLoops (es of_loops : List Reference) : Type 0 where
   pub others : (r : Reference) → ((t m : ℕ) → r.holder ≡ in_mode t m → ⊥) → ((t : ℕ) → r.holder ≡ in_common t → ⊥)
       → weigh (one r) of_loops ≡ 0
 
--- no loop has anything
-no-loops : (s : Script) (st : State) → IsPlainState s st → AreOfLoops st.edges []
-no-loops s st plain = record {
-  modes = λ t m o. sym (plain.modes t m o);
-  common_items = λ t o. sym (plain.common_items t o);
-  others = λ r a b. refl;
+-- what has as many references of each place of a loop, and no others, has those of loops
+of_places : (es of_loops : List Reference) → SamePlaces es of_loops
+    → ((r : Reference) → (IsPlaceOfLoop r.holder → ⊥) → weigh (one r) of_loops ≡ 0) → AreOfLoops es of_loops
+of_places es of_loops same none = record {
+  modes = λ t m o. same (held_by (in_mode t m) o) tt;
+  common_items = λ t o. same (held_by (in_common t) o) tt;
+  others = λ r modes commons. none r (by r.holder modes commons);
 }
+  where
+    by : (h : Holder) → ((t m : ℕ) → h ≡ in_mode t m → ⊥) → ((t : ℕ) → h ≡ in_common t → ⊥) → IsPlaceOfLoop h → ⊥
+    by (in_mode t m) a b p = a t m refl
+    by (in_common t) a b p = b t refl
+    by (variable t d v) a b p = p
+    by (callout t d) a b p = p
+    by (owed t) a b p = p
+    by (parcel t k) a b p = p
+    by (slot c) a b p = p
 
 -- ---- all of them
 
@@ -296,21 +305,20 @@ module _ (s : Script) (st : State) (rows : List (List (Option ℕ))) (bodies : L
 
 -- the edges of a world are those of the state after its journal
 pub world-edges : (s : Script) (journal : List Entry) (rows : List (List (Option ℕ))) (bodies : List Held)
-    (frames : List Standing) (p : Edge → Bool) (es : List Edge)
-    → MayRun s → Mirrors (After s journal).parts bodies → HoldsParcels s (After s journal) rows → AreFrames s (After s journal) frames → AllHaveVariables (stands_of frames) (length frames)
-    → es ≡ (edges_of (below (stand_references s (stands_of frames)) (length frames)) ++ edges_of (below (parcel_references rows) (length rows))) ++ edges_of (below (slot_references bodies) (length bodies))
+    (of_loops : List Reference) (frames : List Standing) (p : Edge → Bool) (es : List Edge)
+    → AreOfLoops (After s journal).edges of_loops → MayRun s → Mirrors (After s journal).parts bodies → HoldsParcels s (After s journal) rows → AreFrames s (After s journal) frames → AllHaveVariables (stands_of frames) (length frames)
+    → es ≡ ((edges_of (below (stand_references s (stands_of frames)) (length frames)) ++ edges_of (below (parcel_references rows) (length rows))) ++ edges_of (below (slot_references bodies) (length bodies))) ++ edges_of of_loops
     → count_by p es ≡ count_by p (edges_of (After s journal).edges)
-world-edges s journal rows bodies frames p es runs mirrors parcels framed variables is =
+world-edges s journal rows bodies of_loops frames p es loops runs mirrors parcels framed variables is =
     let st = After s journal in
-    let plain = plain_after s journal runs.stage in
+    let count : length st.stands ≡ s.thread_count = sym (ap length framed.stand) ∙ length-map frames (λ (f : Standing). f.stand) ∙ framed.count in
     let places = edges_of (below (parcel_references rows) (length rows)) in
     let slots = edges_of (below (slot_references bodies) (length bodies)) in
     let few : (t : ℕ) → t < s.thread_count → HasVariables (stand_at t st.stands).frames =
     λ t lt. subst (λ (ss : List Stand). HasVariables (stand_at t ss).frames) framed.stand (variables t (omega (arith, lt, framed.count))) in
-    edges_same s st rows bodies [] (sound s journal runs.owned).held plain.stand_count (λ t k. parcels_one s journal t k) mirrors parcels (no-loops s st plain) few p es
-    (is ∙ ap (λ (n : ℕ). (edges_of (below (stand_references s (stands_of frames)) n) ++ places) ++ slots) framed.count
-    ∙ ap (λ (ss : List Stand). (edges_of (below (stand_references s ss) s.thread_count) ++ places) ++ slots) framed.stand
-    ∙ sym (append-nil ((edges_of (below (stand_references s st.stands) s.thread_count) ++ places) ++ slots)))
+    edges_same s st rows bodies of_loops (sound s journal runs.owned).held count (λ t k. parcels_one s journal t k) mirrors parcels loops few p es
+    (is ∙ ap (λ (n : ℕ). ((edges_of (below (stand_references s (stands_of frames)) n) ++ places) ++ slots) ++ edges_of of_loops) framed.count
+    ∙ ap (λ (ss : List Stand). ((edges_of (below (stand_references s ss) s.thread_count) ++ places) ++ slots) ++ edges_of of_loops) framed.stand)
 
 -- a world has at most as many bodies as there are numbers of objects
 pub few-bodies : (s : Script) (journal : List Entry) (bodies : List Held) → IsLegal s journal
@@ -327,5 +335,5 @@ begun-edges w p none first es begun runs empty is variables adds =
     let threads = edges_of (below (stand_references w.ground.script (stands_of w.frames.items)) (length w.frames.items)) in
     let places = edges_of (below (parcel_references adds.rows) (length adds.rows)) in
     let slots = edges_of (below (slot_references adds.bodies) (length adds.bodies)) in
-    world-edges w.ground.script w.ground.journal adds.rows adds.bodies w.frames.items p es runs adds.mirrors adds.places begun.frames variables
-    (adds.added ∙ ap (λ (fs : List Edge). (fs ++ places) ++ slots) (is ∙ ap (λ (fs : List Edge). fs ++ threads) empty))
+    world-edges w.ground.script w.ground.journal adds.rows adds.bodies adds.loops w.frames.items p es (of_places (edges_in (view_of w)) adds.loops adds.of_loops adds.of_no_other) runs adds.mirrors adds.places begun.frames variables
+    (adds.added ∙ ap (λ (fs : List Edge). ((fs ++ places) ++ slots) ++ edges_of adds.loops) (is ∙ ap (λ (fs : List Edge). fs ++ threads) empty))

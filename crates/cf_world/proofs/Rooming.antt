@@ -2,7 +2,7 @@
 use Rattle.std.proofs.Common.{◌≡◌, ℕ, zero, suc, ◌<◌, ◌≤◌, ◌∙◌, ◌⊎◌, Bool, true, false, cond, List, [], ◌∷◌, length, map, Result, Ok, Err, Option, Some, None, get_or, set, sym, ap, subst, arith, inl, inr}
 use Rattle.std.proofs.lemmas.List.{length-set, get_or-set_same, get_or-set_other}
 use Rattle.std.proofs.lemmas.Bool.{cases_eq}
-use Rattle.std.specs.Prelude.{◌&&◌, ◌==◌, IfSome, IsTrue, OnOk}
+use Rattle.std.specs.Prelude.{◌&&◌, ◌==◌, IsTrue, OnOk}
 use Rattle.cf_syntax.specs.declared.script.Script.{Script}
 use Rattle.cf_syntax.specs.declared.statement.Statement.{Statement}
 use Rattle.cf_syntax.specs.declared.mention.Ownership.{Ownership}
@@ -17,13 +17,15 @@ use Rattle.cf_model.specs.declared.entry.Entry.{Entry}
 use Rattle.cf_model.specs.State.{State, stand_at}
 use Rattle.cf_model.specs.Known.{facts_of}
 use Rattle.cf_model.specs.Journals.{After, Next, makes}
-use Rattle.cf_world.specs.Grounds.{GroundView, MayRun, deed_of, state_of, statement_at}
+use Rattle.cf_world.specs.Grounds.{GroundView, IsReady, MayRun, NeedsDeed, PlaceIf, ReadyIf, deed_of, state_of, statement_at}
+use Rattle.rl_modes.specs.Loops.{Loop}
+use Rattle.cf_scene.specs.Needs.{HasPlaceFor}
 use Rattle.cf_world.specs.Kept.{IsKept}
 use Rattle.cf_world.specs.declared.found.Found.{Found}
 use Rattle.cf_world.specs.declared.found.Found.TheVariants as kept
 use Rattle.cf_world.specs.declared.found.Reserved.{Reserved}
 use Rattle.cf_world.proofs.Moving.{less_room}
-use Rattle.cf_world.specs.Begun.{AreFrames, IsFound, IsNeeded, IsReady, IsReadyFor, IsReserved, NeedsDeed, ReadyIf, StandSo, has_deed, most_listed, nobody, standing_at}
+use Rattle.cf_world.specs.Begun.{AreFrames, HasLists, IsFound, IsReadyFor, IsReserved, ListsFit, ReservedIf, StandSo, most_listed, nobody, standing_at}
 
 -- what was found does not ask for the bodies' room
 module _ (g g' : GroundView) (script : g'.script ≡ g.script) (journal : g'.journal ≡ g.journal) (room : g'.journal_room ≡ g.journal_room) where
@@ -87,28 +89,11 @@ stand_stays s stands frames t f within thread stand h = record {
 
 -- ---- the deed that is ready
 
-no_deed : (w : Ownership) (P : Type 0) → has_deed w ≡ false → NeedsDeed w P
-no_deed Keeps P e = absurd cc
-no_deed (Binds v) P e = absurd cc
-no_deed (Retains v) P e = tt
-no_deed (Releases v) P e = tt
-
-with_deed : (w : Ownership) (P : Type 0) → P → NeedsDeed w P
-with_deed Keeps P h = h
-with_deed (Binds v) P h = h
-with_deed (Retains v) P h = tt
-with_deed (Releases v) P h = tt
-
 deed_maps : (w : Ownership) (P Q : Type 0) → (P → Q) → NeedsDeed w P → NeedsDeed w Q
 deed_maps Keeps P Q f h = f h
 deed_maps (Binds v) P Q f h = f h
 deed_maps (Retains v) P Q f h = tt
 deed_maps (Releases v) P Q f h = tt
-
-pub unneeded : (g : GroundView) (o : Option Statement) (used : List (Option ℕ)) (needed : Bool) → IsNeeded o needed
-    → needed ≡ false → ReadyIf g o used
-unneeded g None used needed is e = tt
-unneeded g (Some x) used needed is e = no_deed (ownership_of x) (IsReady g x used) (sym is ∙ e)
 
 module _ (g g' : GroundView) (script : g'.script ≡ g.script) (journal : g'.journal ≡ g.journal) where
   state_same : state_of g' ≡ state_of g
@@ -118,36 +103,32 @@ module _ (g g' : GroundView) (script : g'.script ≡ g.script) (journal : g'.jou
       → deed_of g'.script (state_of g') x used ≡ deed_of g.script (state_of g) x used
   deed_same x used = ap (λ (s : Script). deed_of s (state_of g') x used) script ∙ ap (λ (st : State). deed_of g.script st x used) state_same
 
-  pub ready_made : (b n : ℕ) (used : List (Option ℕ))
-      → IfSome (statement_at g.script b n) (λ x. g'.ready ≡ Some (deed_of g.script (state_of g) x used))
-      → IfSome (statement_at g.script b n) (λ x. 0 < g'.body_room) → ReadyIf g' (statement_at g'.script b n) used
-  ready_made b n used ready room = subst (λ (s : Script). ReadyIf g' (statement_at s b n) used) (sym script) (by (statement_at g.script b n) ready room)
-    where
-      by : (o : Option Statement) → IfSome o (λ x. g'.ready ≡ Some (deed_of g.script (state_of g) x used))
-          → IfSome o (λ x. 0 < g'.body_room) → ReadyIf g' o used
-      by None e more = tt
-      by (Some x) e more = with_deed (ownership_of x) (IsReady g' x used) (record { deed = e ∙ ap (λ (d : Ready). Some d) (sym (deed_same x used)); room = more })
-
-  pub ready_stays : g'.ready ≡ g.ready → g.body_room ≤ g'.body_room → (f : Found) → IsReadyFor g f → IsReadyFor g' f
-  ready_stays ready room (kept.Says b n used) h = subst (λ (s : Script). ReadyIf g' (statement_at s b n) (objects_of used)) (sym script) (by (statement_at g.script b n) h)
+  pub ready_stays : g'.ready ≡ g.ready → g.body_room ≤ g'.body_room → g'.loops ≡ g.loops → (t : ℕ) (f : Found)
+      → IsReadyFor g t f → IsReadyFor g' t f
+  ready_stays ready room loops t (kept.Says b n used) h = subst (λ (s : Script). ReadyIf g' (statement_at s b n) (objects_of used)) (sym script) (by (statement_at g.script b n) h)
     where
       by : (o : Option Statement) → ReadyIf g o (objects_of used) → ReadyIf g' o (objects_of used)
       by None k = tt
       by (Some x) k =
           deed_maps (ownership_of x) (IsReady g x (objects_of used)) (IsReady g' x (objects_of used))
           (λ d. record { deed = ready ∙ d.deed ∙ ap (λ (e : Ready). Some e) (sym (deed_same x (objects_of used))); room = omega (arith, d.room, room) }) k
-  ready_stays ready room _ h = tt
+  ready_stays ready room loops t (kept.Deals b n used) h = subst (λ (s : Script). PlaceIf g' t (statement_at s b n)) (sym script) (by (statement_at g.script b n) h)
+    where
+      by : (o : Option Statement) → PlaceIf g t o → PlaceIf g' t o
+      by None k = tt
+      by (Some x) k = subst (λ (ls : List Loop). HasPlaceFor t ls x) (sym loops) k
+  ready_stays ready room loops t _ h = tt
 
 -- ---- what was reserved
 
 pub reserved_stays : (g g' : GroundView) (frames frames' : List Standing) → g'.script ≡ g.script
     → g'.journal ≡ g.journal → g'.journal_room ≡ g.journal_room
-    → ((a : Action) (n u : ℕ) → HasRoomFor a n (standing_at frames u) → HasRoomFor a n (standing_at frames' u)) → ((f : Found) → IsReadyFor g f → IsReadyFor g' f)
+    → ((a : Action) (n u : ℕ) → HasRoomFor a n (standing_at frames u) → HasRoomFor a n (standing_at frames' u)) → ((t : ℕ) (f : Found) → IsReadyFor g t f → IsReadyFor g' t f)
     → (r : Reserved) → IsReserved g frames r → IsReserved g' frames' r
 reserved_stays g g' frames frames' script journal room stays ready r h = record {
   found = found_stays g g' script journal room r h.found;
   room = stays r.action (most_listed r.action) r.thread h.room;
-  ready = ready r.found h.ready;
+  ready = ready r.thread r.found h.ready;
 }
 
 pub frames_stay : (g g' : GroundView) (frames : List Standing) → g'.script ≡ g.script → g'.journal ≡ g.journal
@@ -171,3 +152,16 @@ room_listed a more f le h = by (is_retain a) le h
         → cond (b && (cond {A = ℕ} b 0 2 == 0)) (Unit {0}) (HasRoom (cond {A = ℕ} b 0 2) f)
     by true le h = tt
     by false le h = less_room 2 more f le h
+
+-- what was reserved, if something was, is so in another ground too
+pub reserved_kept : (g g' : GroundView) (frames frames' : List Standing) (b : Bool) (r : Reserved)
+    → ((q : Reserved) → IsReserved g frames q → IsReserved g' frames' q)
+    → ReservedIf g frames (cond b (Some r) None) → ReservedIf g' frames' (cond b (Some r) None)
+reserved_kept g g' frames frames' true r f h = f r h
+reserved_kept g g' frames frames' false r f h = tt
+
+pub lists_kept : (g g' : GroundView) (frames frames' : List Standing) (m n m' n' : ℕ) (b : Bool) (r : Reserved)
+    → ((q : Reserved) → HasLists g frames m n q → HasLists g' frames' m' n' q)
+    → ListsFit g frames m n (cond b (Some r) None) → ListsFit g' frames' m' n' (cond b (Some r) None)
+lists_kept g g' frames frames' m n m' n' true r f h = f r h
+lists_kept g g' frames frames' m n m' n' false r f h = tt

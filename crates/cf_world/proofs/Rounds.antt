@@ -43,7 +43,10 @@ use Rattle.cf_world.specs.Kept.{step_kept}
 use Rattle.cf_world.specs.declared.found.Found.{Found as Kept}
 use Rattle.cf_world.specs.declared.found.Found.TheVariants as kept
 use Rattle.cf_world.specs.declared.found.Reserved.{Reserved}
-use Rattle.cf_world.specs.Begun.{AreFrames, AreMost, FitsItems, HasGone, HasLists, ListsIf, is_many, HasMoved, IsFound, IsCallOf, IsReserved, IsRoundFound, IsSpends, IsStillFound, standing_at, MovesBy, still_answer}
+use Rattle.cf_world.proofs.Apart.{deals_cut_none, deals_retain_none}
+use Rattle.cf_world.proofs.Forms.{said_releases, said_retains}
+use Rattle.cf_world.specs.Worlds.{retained_by}
+use Rattle.cf_world.specs.Begun.{AreFrames, AreMost, FitsItems, HasGone, HasLists, HasMoved, IsFound, IsCallOf, IsReserved, IsRoundFound, IsSpends, IsStillFound, standing_at, MovesBy, still_answer}
 use Rattle.cf_world.proofs.Called.{refs_objects}
 use Rattle.cf_world.proofs.Going.{IsFoundStep, Keeps_, has_room, kept_as}
 use Rattle.cf_world.proofs.Moving.{IsMove, Moves, action_of_demand, gone_by, less_room, room_for, stand_here}
@@ -143,6 +146,7 @@ module _ (g : GroundView) (r : Reserved) (d : Demand) (demands : demanded g.scri
   kept_pass kept.Closes e h = found_as steps.Closes (ap step_kept e) h refl
   kept_pass (kept.Claims k v) e h = absurd (other (does (claims k v)) h.demand (λ q. q))
   kept_pass (kept.Says b n used) e h = absurd (other (does (says h.statement)) h.demands (λ q. q))
+  kept_pass (kept.Deals b n used) e h = absurd (other (does (says h.statement)) h.demands (λ q. q))
   kept_pass (kept.Packs u k v) e h = absurd (other (does (packs u k v)) h.demand (λ q. q))
   kept_pass kept.Ends e h = absurd (other ends h.demand (λ q. q))
   kept_pass (kept.Owes o left) e h = absurd (other (owes o) h.demand (λ q. q))
@@ -225,6 +229,7 @@ module _ (g : GroundView) (r : Reserved) (a : Answer) where
       }
   still_passes (kept.Claims k v) still h e = absurd still
   still_passes (kept.Says b n used) still h e = absurd still
+  still_passes (kept.Deals b n used) still h e = absurd still
   still_passes (kept.Packs u k v) still h e = absurd still
   still_passes kept.Ends still h e = absurd still
   still_passes (kept.Owes o left) still h e = absurd still
@@ -331,6 +336,7 @@ module _ (g : GroundView) (frames : List Standing) (r : Reserved) (reserved : Is
       close_plain fs = refl
   still_room (kept.Claims k v) e still = absurd still
   still_room (kept.Says b n used) e still = absurd still
+  still_room (kept.Deals b n used) e still = absurd still
   still_room (kept.Packs u k v) e still = absurd still
   still_room kept.Ends e still = absurd still
   still_room (kept.Owes o left) e still = absurd still
@@ -394,6 +400,7 @@ as_spent (kept.Spends j left) i h = (left, ap (λ (n : ℕ). kept.Spends n left)
 as_spent (kept.Begins) i h = absurd h
 as_spent (kept.Claims k v) i h = absurd h
 as_spent (kept.Says b n used) i h = absurd h
+as_spent (kept.Deals b n used) i h = absurd h
 as_spent (kept.Packs u k v) i h = absurd h
 as_spent kept.Ends i h = absurd h
 as_spent kept.Returns i h = absurd h
@@ -418,6 +425,7 @@ as_call (kept.Calls l c o left) k info h = record {
 as_call kept.Begins k info h = absurd h
 as_call (kept.Claims l v) k info h = absurd h
 as_call (kept.Says b n used) k info h = absurd h
+as_call (kept.Deals b n used) k info h = absurd h
 as_call (kept.Packs u l v) k info h = absurd h
 as_call kept.Ends k info h = absurd h
 as_call kept.Returns k info h = absurd h
@@ -497,11 +505,6 @@ call_gains g t k c e =
 
 -- ---- what is listed where that may be many
 
--- there is room for it
-pub many_lists : (g : GroundView) (frames : List Standing) (m n : ℕ) (r : Reserved) → is_many r.found ≡ true
-    → ListsIf g frames m n r → HasLists g frames m n r
-many_lists g frames m n r e h = subst (λ (b : Bool). cond b (HasLists g frames m n r) (Unit {0})) e h
-
 -- the items of the mode of a run fit
 pub mode_fits : (g : GroundView) (r : Reserved) (more : ℕ) → r.found ≡ kept.Enters phases.Sources
     → AreMost g r.thread more r.found → FitsItems (state_of g) r.thread more (innermost_run (frames_at r.thread (state_of g)))
@@ -536,13 +539,9 @@ spent_few g i went more e few =
     omega (arith, few, ap length e, length-map (spending g.script (state_of g) i).leaves (λ (q : Reference). q.object), length-replicate went i)
 
 -- the same with room in one list alone
-pub lists_alone : (g : GroundView) (frames : List Standing) (m n : ℕ) (r : Reserved) → ListsIf g frames m n r
-    → ListsIf g frames n n r
-lists_alone g frames m n r = by (is_many r.found)
-  where
-    by : (b : Bool) → cond b (HasLists g frames m n r) (Unit {0}) → cond b (HasLists g frames n n r) (Unit {0})
-    by true h = record { more = h.more; room = h.room; gained_fits = h.list_fits; list_fits = h.list_fits; most = h.most }
-    by false h = tt
+pub lists_alone : (g : GroundView) (frames : List Standing) (m n : ℕ) (r : Reserved) → HasLists g frames m n r
+    → HasLists g frames n n r
+lists_alone g frames m n r h = record { more = h.more; room = h.room; gained_fits = h.list_fits; list_fits = h.list_fits; most = h.most }
 
 -- what is neither a phase, nor a call, nor an item that is spent stays in its place
 pub round_still : (f : Kept) → IsRoundFound f → ((i left : ℕ) → f ≡ kept.Spends i left → ⊥)
@@ -556,6 +555,7 @@ round_still (kept.Calls k n info left) h a b c = absurd (b k n info left refl)
 round_still (kept.Enters p) h a b c = absurd (c p refl)
 round_still (kept.Claims k v) h a b c = absurd h
 round_still (kept.Says n m used) h a b c = absurd h
+round_still (kept.Deals n m used) h a b c = absurd h
 round_still (kept.Packs u k v) h a b c = absurd h
 round_still kept.Ends h a b c = absurd h
 round_still (kept.Owes o left) h a b c = absurd h
@@ -563,21 +563,22 @@ round_still (kept.Drops n k o left) h a b c = absurd h
 
 -- what else there is than lines, a thread's end and what takes a reference away
 pub else_round : (f : Kept) → ((k v : ℕ) → f ≡ kept.Claims k v → ⊥)
-    → ((b n : ℕ) (used : Used) → f ≡ kept.Says b n used → ⊥)
+    → ((b n : ℕ) (used : Used) → f ≡ kept.Says b n used → ⊥) → ((b n : ℕ) (used : Used) → f ≡ kept.Deals b n used → ⊥)
     → ((u k : ℕ) (v : Option ℕ) → f ≡ kept.Packs u k v → ⊥) → (f ≡ kept.Ends → ⊥) → ((o left : ℕ) → f ≡ kept.Owes o left → ⊥)
     → ((b k o left : ℕ) → f ≡ kept.Drops b k o left → ⊥) → IsRoundFound f
-else_round (kept.Claims k v) a b c d e h = absurd (a k v refl)
-else_round (kept.Says n m used) a b c d e h = absurd (b n m used refl)
-else_round (kept.Packs u k v) a b c d e h = absurd (c u k v refl)
-else_round kept.Ends a b c d e h = absurd (d refl)
-else_round (kept.Owes o left) a b c d e h = absurd (e o left refl)
-else_round (kept.Drops n k o left) a b c d e h = absurd (h n k o left refl)
-else_round kept.Begins a b c d e h = tt
-else_round kept.Returns a b c d e h = tt
-else_round kept.Closes a b c d e h = tt
-else_round (kept.Spends i left) a b c d e h = tt
-else_round (kept.Calls k n info left) a b c d e h = tt
-else_round (kept.Enters p) a b c d e h = tt
+else_round (kept.Claims k v) a b l c d e h = absurd (a k v refl)
+else_round (kept.Says n m used) a b l c d e h = absurd (b n m used refl)
+else_round (kept.Deals n m used) a b l c d e h = absurd (l n m used refl)
+else_round (kept.Packs u k v) a b l c d e h = absurd (c u k v refl)
+else_round kept.Ends a b l c d e h = absurd (d refl)
+else_round (kept.Owes o left) a b l c d e h = absurd (e o left refl)
+else_round (kept.Drops n k o left) a b l c d e h = absurd (h n k o left refl)
+else_round kept.Begins a b l c d e h = tt
+else_round kept.Returns a b l c d e h = tt
+else_round kept.Closes a b l c d e h = tt
+else_round (kept.Spends i left) a b l c d e h = tt
+else_round (kept.Calls k n info left) a b l c d e h = tt
+else_round (kept.Enters p) a b l c d e h = tt
 
 -- ---- what takes a reference away
 
@@ -607,6 +608,9 @@ only_cut g r o found cuts f h says_ owes_ drops_ = by f h says_ owes_ drops_
     by kept.Begins h a b c = none (does (begins 0)) h.demand refl
     by (kept.Claims k v) h a b c = none (does (claims k v)) h.demand refl
     by (kept.Says m n used) h a b c = a m n used refl
+    by (kept.Deals m n used) h a b c =
+        let k = said_releases g.script r.thread (state_of g) h.statement r.action found.acts.next h.demands o cuts in
+        deals_cut_none h.statement k.var h.acts k.releases
     by (kept.Packs u k v) h a b c = none (does (packs u k v)) h.demand refl
     by kept.Ends h a b c = none ends h.demand refl
     by kept.Returns h a b c = none returns h.demand refl
@@ -616,3 +620,40 @@ only_cut g r o found cuts f h says_ owes_ drops_ = by f h says_ owes_ drops_
     by (kept.Calls k n info left) h a b c = none (calls (callee_of k) (record { handler = n; info = object_of info })) h.demand refl
     by (kept.Enters p) h a b c = none (enters p) h.demand (phase_cuts g r.thread p (frames_at r.thread (state_of g)))
     by kept.Closes h a b c = none closes h.demand refl
+
+phase_retains : (g : GroundView) (t : ℕ) (p : Phase) (fs : List Frame)
+    → retained_by (action_in g.script (facts_of (state_of g)) t fs (enters p)) ≡ None
+phase_retains g t (phases.Note a) fs = refl
+phase_retains g t phases.Sources fs = refl
+phase_retains g t phases.Sleep fs = refl
+phase_retains g t phases.Timers fs = refl
+phase_retains g t phases.Test fs = refl
+phase_retains g t phases.Ran fs = refl
+
+-- an action that retains an object is that of a statement which acts on no run loop
+pub only_retain : (g : GroundView) (r : Reserved) (o : ℕ) (found : IsFound g r) → retained_by r.action ≡ Some o
+    → (f : Kept) → Keeps_ g r f → ((b n : ℕ) (used : Used) → f ≡ kept.Says b n used → ⊥) → ⊥
+only_retain g r o found retains f h says_ = by f h says_
+  where
+    none : (d : Demand) → demanded g.script (state_of g) r.thread ≡ Some d
+        → retained_by (action_in g.script (facts_of (state_of g)) r.thread (frames_at r.thread (state_of g)) d) ≡ None → ⊥
+    none d e q =
+        let is = action_of_demand g.script (state_of g) r.thread r.action d found.acts.next e in
+        let both : ◌≡◌ {A = Option ℕ} (Some o) None = sym retains ∙ ap retained_by (sym is) ∙ q in absurd cc
+
+    by : (f : Kept) → Keeps_ g r f → ((b n : ℕ) (used : Used) → f ≡ kept.Says b n used → ⊥) → ⊥
+    by kept.Begins h a = none (does (begins 0)) h.demand refl
+    by (kept.Claims k v) h a = none (does (claims k v)) h.demand refl
+    by (kept.Says m n used) h a = a m n used refl
+    by (kept.Deals m n used) h a =
+        let k = said_retains g.script r.thread (state_of g) h.statement r.action found.acts.next h.demands o retains in
+        deals_retain_none h.statement k.var h.acts k.retains
+    by (kept.Packs u k v) h a = none (does (packs u k v)) h.demand refl
+    by kept.Ends h a = none ends h.demand refl
+    by kept.Returns h a = none returns h.demand refl
+    by (kept.Owes p left) h a = none (owes p) h.demand refl
+    by (kept.Spends i left) h a = none (spends i) h.demand refl
+    by (kept.Drops m k p left) h a = none (drops m k p) h.demand refl
+    by (kept.Calls k n info left) h a = none (calls (callee_of k) (record { handler = n; info = object_of info })) h.demand refl
+    by (kept.Enters p) h a = none (enters p) h.demand (phase_retains g r.thread p (frames_at r.thread (state_of g)))
+    by kept.Closes h a = none closes h.demand refl

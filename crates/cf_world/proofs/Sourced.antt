@@ -43,7 +43,7 @@ use Rattle.cf_model.specs.Things.{Thing, thing_in, thing_of, thing_at, is_valid_
 use Rattle.cf_model.specs.Own.{present_of}
 use Rattle.cf_model.specs.Deals.{Deal, okay, with_used, with_thing, thing_deal, with_filter, with_item, place_in, holds_at, held_at, thread_in, stays_in_one, is_elsewhere, places_added, places_dropped, entering, leaving, add_deal, drop_deal, common_items, common_deal, wake_parts, signal_deal, invalidate_deal, stop_deal, observe_deal, forget_deal, answering, change_deal, change_unless_skipped, deal_of}
 use Rattle.cf_model.specs.Steps.{Made, item_made, made_from, bound_if, fired, fire, fire_if, spend_if, idle, sleeping, retain_step, release_step, claim_step, pack_step, packed_holder, statement_step, line_step, start_all, sleep_step, unwoken_step, phase_step, close_step, step_of, frames_at, bindings_of, depth_of, demanded, acted}
-use Rattle.cf_model.specs.Stage.{deed_in}
+use Rattle.cf_model.specs.Plain.{deed_in}
 use Rattle.cf_model.specs.Journals.{after_action, state_from, After}
 use Rattle.cf_model.proofs.DeedLaws.{keeps_things, deed_edits, deed_makes}
 use Rattle.cf_model.proofs.Entries.{ActionView, is_tick, is_stall, is_step, action_view}

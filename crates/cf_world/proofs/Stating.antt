@@ -9,7 +9,6 @@ use Rattle.cf_syntax.specs.declared.mention.Ownership.{Ownership}
 use Rattle.cf_syntax.specs.declared.mention.Ownership.TheVariants.{Binds}
 use Rattle.cf_syntax.specs.Mentions.{ownership_of, first_of, used_at, makes_object}
 use Rattle.cf_syntax.specs.BlockLines.{says}
-use Rattle.cf_syntax.specs.Stage.{is_of_stage}
 use Rattle.cf_graph.specs.Holders.{Holder, variable, owed, parcel, slot}
 use Rattle.cf_graph.specs.Edges.{Reference, held_by, held_if}
 use Rattle.cf_graph.specs.Flows.{grows, flowed, gained_by}
@@ -26,13 +25,11 @@ use Rattle.cf_model.specs.State.{State, first_held}
 use Rattle.cf_model.specs.Deals.{Deal, change_deal, deal_of, posts_of}
 use Rattle.cf_model.specs.Steps.{Step, Made, bound_if, found, new_slots, object_answer, bind_step, deal_step, statement_step, step_of, step_answer, step_finals, frames_at, depth_of, demanded, done_by, answer_if}
 use Rattle.cf_model.specs.Flowing.{flow_if}
-use Rattle.cf_model.specs.Journals.{After, makes_line}
-use Rattle.cf_model.specs.Stage.{IsPlainDemand, is_claim, is_statement, is_pack, is_over, is_owed, is_slot, deed_in, DealsPlainly}
+use Rattle.cf_model.specs.Journals.{After, IsLegal, makes_line}
+use Rattle.cf_model.specs.Plain.{deed_in, DealsPlainly}
 use Rattle.cf_model.proofs.FirstHeld.{first_flowed}
 use Rattle.cf_model.proofs.Finality.{kept as kept_steady}
 use Rattle.cf_model.proofs.Limiting.{few_of_legal}
-use Rattle.cf_model.proofs.PlainDeals.{deals_plainly}
-use Rattle.cf_model.proofs.PlainStates.{plain_after, plain_demand}
 use Rattle.cf_store.specs.declared.store.Edited.{Edited}
 use Rattle.cf_store.specs.Applies as applies
 use Rattle.cf_store.specs.Applies.{origin_of}
@@ -44,7 +41,9 @@ use Rattle.cf_world.specs.Entering.{MayAct, IsDeed, IsBinding, gained_in, listed
 use Rattle.cf_world.proofs.Growing.{follows_step, passes_held}
 use Rattle.cf_syntax.proofs.BlockLaws.{owned_fits}
 use Rattle.cf_model.proofs.Sound.{sound}
-use Rattle.cf_world.proofs.Passing.{KeepsLoops, keeps_loops, said_of_stage, staged_leave, binds_leave}
+use Rattle.cf_world.proofs.Apart.{apart_leaves}
+use Rattle.cf_world.proofs.Bodies.{bodies_plainly}
+use Rattle.cf_world.proofs.Passing.{KeepsLoops, keeps_loops, said_of_stage, binds_leave}
 use Rattle.cf_scene.proofs.Mirroring.{AreMirrored, mirrored, mirrors_by, mirrored_changed, mirrored_made, bodies_unchanged, count-mirrors}
 
 if_some : {A : Type 0} (o : Option A) (x : A) (P : A → Type 0) → o ≡ Some x → IfSome o P → P x
@@ -60,19 +59,6 @@ objects_held h (o ∷ os) = ap (λ (ps : List ℕ). o ∷ ps) (objects_held h os
 append_none : {A : Type 0} (xs : List A) → xs ++ [] ≡ xs
 append_none [] = refl
 append_none (x ∷ xs) = ap (λ ys. x ∷ ys) (append_none xs)
-
--- ---- what is said is of a form of today
-
-said_is : (x y : Statement) → does (says x) ≡ does (says y) → x ≡ y
-said_is x y e = cc
-
-staged : (d : Demand) (x : Statement) → IsPlainDemand d → d ≡ does (says x) → is_of_stage x ≡ true
-staged _ x (is_claim k v) e = absurd cc
-staged _ x (is_statement y of) e = subst (λ (z : Statement). is_of_stage z ≡ true) (said_is y x e) of
-staged _ x (is_pack u k v) e = absurd cc
-staged _ x is_over e = absurd cc
-staged _ x (is_owed o) e = absurd cc
-staged _ x (is_slot b k o) e = absurd cc
 
 -- ---- the step of a change of a body
 
@@ -136,8 +122,7 @@ module _ (g : Inside) (t : ℕ) (inv : IsGround g) (deed : IsDeed (view_of g) t)
   changed = deal_step t (change_deal st.parts does_it.answer (first_of used) does_it.change) []
 
   plainly : DealsPlainly s t st x used
-  plainly =
-      deals_plainly s t st x used (staged (does (says x)) x (plain_demand s st t (does (says x)) inv.script.stage (plain_after s g.journal.items inv.script.stage) deed.demands) refl)
+  plainly = bodies_plainly s t st x used (said_of_stage s st t inv.script.stage x deed.demands) deed.apart deed.keeps
 
   deal_is : deal_of s t st x used ≡ change_deal st.parts does_it.answer (first_of used) does_it.change
   deal_is = plainly.deal ∙ ap (change_deal st.parts does_it.answer (first_of used)) plainly.skips
@@ -166,7 +151,7 @@ module _ (g : Inside) (t : ℕ) (inv : IsGround g) (deed : IsDeed (view_of g) t)
       (λ u k. old.parcels_are.at u k ∙ sym (deal_parcels t st does_it.answer does_it.change (first_of used) u k))
       (old.flags_are ∙ deal_flags t st does_it.answer does_it.change (first_of used))
       (old.time_is ∙ deal_time t st does_it.answer does_it.change (first_of used))
-      (keeps (does (says x)) deed.demands (staged_leave x (said_of_stage s st t inv.script.stage x deed.demands)))
+      (keeps (does (says x)) deed.demands (apart_leaves x deed.apart))
 
   pub dealt_entry : (a : Action) (e : Edited) → IfSome g.store.ready (λ (r : Ready). applies.IsDeed r.deed e)
       → ◌≡◌ {A = Entry} (record { thread = t; action = a; answer = e.answer }) (entry_of s t st a)
@@ -232,7 +217,7 @@ module _ (t d v : ℕ) (st : State) (a : Answer) (bodies : List Held) (h : Mirro
       by None = refl
       by (Some o) = refl
 
-  bind_mirrors : (origin : Origin)
+  pub bind_mirrors : (origin : Origin)
       → Mirrors (record (binds_it origin).parts { finalised = step_finals (binds_it origin) st ++ (binds_it origin).parts.finalised }) (bodies ++ bodies_from origin)
   bind_mirrors nowhere =
       mirrors_by _ (bodies ++ []) (mirrored_same st.parts.finalised st.parts.dropped st.parts.objects (st.parts.objects ++ []) bodies (bodies ++ []) (append_none st.parts.objects) (append_none bodies) (mirrored st.parts bodies h))
@@ -261,6 +246,21 @@ may_make (fresh ob) true bodies room only some few = (some, few refl)
 may_make (fresh ob) false bodies room only some few = absurd only
 may_make (there o) making bodies room only some few = tt
 
+-- the next object is not finalised, and gave up nothing
+pub unmade_next : (s : Script) (es : List Entry) → IsLegal s es
+    → times (length (After s es).parts.objects) (After s es).parts.finalised ≡ 0
+unmade_next s es legal =
+    none_of (times (length (After s es).parts.objects) (After s es).parts.finalised) ((few_of_legal s es legal).made (length (After s es).parts.objects))
+  where
+    none_of : (n : ℕ) → (0 < n → length (After s es).parts.objects < length (After s es).parts.objects) → n ≡ 0
+    none_of zero h = refl
+    none_of (suc n) h = absurd (omega (arith, h (omega arith)))
+
+pub undropped_next : (s : Script) (es : List Entry) → IsLegal s es
+    → times (length (After s es).parts.objects) (After s es).parts.dropped ≡ 0
+undropped_next s es legal =
+    (kept_steady s es legal).steady.undropped (length (After s es).parts.objects) (unmade_next s es legal)
+
 module _ (g : Inside) (t : ℕ) (a : Action) (inv : IsGround g) (acts : MayAct (view_of g) t a) (binding : IsBinding (view_of g) t) where
   abbrev script : Script
   script = g.script
@@ -287,28 +287,20 @@ module _ (g : Inside) (t : ℕ) (a : Action) (inv : IsGround g) (acts : MayAct (
   keeps_said =
       keeps_loops script t now (owned_fits script inv.script.owned) (sound script g.journal.items inv.script.owned) inv.script.stage g.loops inv.follows.has_loops
 
-  plain_bind : DealsPlainly script t now said uses
-  plain_bind =
-      deals_plainly script t now said uses (staged (does (says said)) said (plain_demand script now t (does (says said)) inv.script.stage (plain_after script g.journal.items inv.script.stage) binding.demands) refl)
-
   binds_is : step_of script t now (frames_at t now) (does (says said)) ≡ bound
   binds_is =
       ap (statement_step script t depth now said uses) binding.binds
-      ∙ ap (λ (m : Option Made). bind_step (variable t depth binding.var) now.parts (bound_if script now.parts said uses m)) plain_bind.made
+      ∙ ap (λ (m : Option Made). bind_step (variable t depth binding.var) now.parts (bound_if script now.parts said uses m)) binding.itemless
 
   fits : Fits (ownership_of said) (makes_object said) (numbered now.parts.objects (used_at uses 1))
       (numbered now.parts.objects (used_at uses 2)) its_deed
   fits = form_fits script.classes said (numbered now.parts.objects (used_at uses 0)) (numbered now.parts.objects (used_at uses 1)) (numbered now.parts.objects (used_at uses 2))
 
   unmade : times (length now.parts.objects) now.parts.finalised ≡ 0
-  unmade = none_of (times (length now.parts.objects) now.parts.finalised) ((few_of_legal script g.journal.items inv.legal).made (length now.parts.objects))
-    where
-      none_of : (n : ℕ) → (0 < n → length now.parts.objects < length now.parts.objects) → n ≡ 0
-      none_of zero h = refl
-      none_of (suc n) h = absurd (omega (arith, h (omega arith)))
+  unmade = unmade_next script g.journal.items inv.legal
 
   undropped : times (length now.parts.objects) now.parts.dropped ≡ 0
-  undropped = (kept_steady script g.journal.items inv.legal).steady.undropped (length now.parts.objects) unmade
+  undropped = undropped_next script g.journal.items inv.legal
 
   change_is : its_deed.change ≡ unchanged
   change_is = no_change (ownership_of said) binding.binds fits.changes

@@ -17,9 +17,9 @@ use Rattle.cf_model.specs.State.{State, Parts, flags_at, flags_of as fresh_flags
 use Rattle.cf_model.specs.Things.{Thing, thing_in, thing_of, thing_at}
 use Rattle.cf_model.specs.Known.{receiver_in}
 use Rattle.cf_model.specs.Journals.{After}
-use Rattle.cf_model.specs.Stage.{IsPlainState}
 use Rattle.cf_model.proofs.Adding.{are_few}
-use Rattle.cf_model.proofs.PlainStates.{plain_after}
+use Rattle.cf_model.proofs.Numbering.{numbered_along}
+use Rattle.cf_syntax.proofs.BlockLaws.{owned_fits}
 use Rattle.cf_scene.specs.declared.flags.Flags.{Flags}
 use Rattle.cf_world.specs.declared.ground.Ground.TheInside.{Inside}
 use Rattle.cf_world.specs.Grounds.{IsGround, deed_of, flags_of}
@@ -79,14 +79,11 @@ module _ (g : Inside) (inv : IsGround g) where
   abbrev st : State
   st = After g.script g.journal.items
 
-  plain : IsPlainState g.script st
-  plain = plain_after g.script g.journal.items inv.script.stage
-
   pub may_grow : MayGrow g.store.bodies
   may_grow = (are_few g.script g.journal.items).grow g.store.bodies inv.follows.mirrors.objects_are inv.short
 
   pub flags_count : length g.flags.items ≡ g.script.thread_count
-  flags_count = sym (length-map g.flags.items flags_of) ∙ ap length inv.follows.flags_are ∙ plain.parts.flag_count
+  flags_count = sym (length-map g.flags.items flags_of) ∙ ap length inv.follows.flags_are ∙ (numbered_along g.script g.journal.items (owned_fits g.script inv.script.owned)).flags
 
   pub flags_told : (t : ℕ) (f : Flags) → t < length g.flags.items → f ≡ get_or g.flags.items t f
       → flags_of f ≡ flags_at t st.parts.flags

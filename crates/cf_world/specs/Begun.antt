@@ -1,5 +1,5 @@
 -- What the fields of a world keep whose script has begun. This project's own.
-use Rattle.std.specs.Prelude.{◌≡◌, ℕ, ◌+◌, ◌<◌, ◌≤◌, Bool, true, false, List, [], ◌∷◌, length, map, Option, Some, None, Result, Ok, Err, slice_index_or, vec_capacity, cond}
+use Rattle.std.specs.Prelude.{◌≡◌, ℕ, ◌+◌, ◌<◌, ◌≤◌, List, [], ◌∷◌, length, map, Option, Some, None, Result, Ok, Err, slice_index_or, vec_capacity, cond}
 use Rattle.std.specs.Option.{option_map}
 use Rattle.cf_ids.specs.declared.answer.Answer.{Answer}
 use Rattle.cf_ids.specs.declared.answer.Answer.TheVariants as answers
@@ -7,9 +7,6 @@ use Rattle.cf_ids.specs.declared.answer.Ended.{Ended}
 use Rattle.cf_ids.specs.declared.answer.Ended.TheVariants.{More, Last}
 use Rattle.cf_syntax.specs.declared.script.Script.{Script}
 use Rattle.cf_syntax.specs.declared.statement.Statement.{Statement}
-use Rattle.cf_syntax.specs.declared.mention.Ownership.{Ownership}
-use Rattle.cf_syntax.specs.declared.mention.Ownership.TheVariants.{Keeps, Binds, Retains, Releases}
-use Rattle.cf_syntax.specs.Mentions.{ownership_of}
 use Rattle.rl_turn.specs.declared.phases.Phase.{Phase}
 use Rattle.rl_turn.specs.declared.phases.Phase.TheVariants as phases
 use Rattle.cf_next.specs.Stands.{Stand, Turn}
@@ -26,8 +23,9 @@ use Rattle.cf_model.specs.Known.{facts_of}
 use Rattle.cf_model.specs.Steps.{result_answer}
 use Rattle.cf_model.specs.Things.{collected_of, items_in}
 use Rattle.cf_scene.specs.Dealing.{spending}
+use Rattle.cf_scene.specs.Needs.{MovesAtMost}
 use Rattle.cf_world.specs.Worlds.{WorldView, next_of}
-use Rattle.cf_world.specs.Grounds.{GroundView, MayRun, state_of, deed_of, statement_at}
+use Rattle.cf_world.specs.Grounds.{GroundView, MayRun, PlaceIf, ReadyIf, state_of, statement_at}
 use Rattle.cf_world.specs.Entering.{HasEntered, MayAct}
 use Rattle.cf_world.specs.Kept.{IsKept}
 use Rattle.cf_world.specs.declared.next.Next.{Next as NextCode}
@@ -57,36 +55,11 @@ view_of w = record {
   room = option_map thread_of (reserved_of w);
 }
 
--- a statement's deed is ready where it has one: where it binds a variable, or keeps the counts as they are
-abbrev pub NeedsDeed : Ownership → Type 0 → Type 0
-NeedsDeed Keeps p = p
-NeedsDeed (Binds v) p = p
-NeedsDeed (Retains v) p = Unit {0}
-NeedsDeed (Releases v) p = Unit {0}
-
--- a statement has such a deed, if there is a statement
-abbrev pub has_deed : Ownership → Bool
-has_deed Keeps = true
-has_deed (Binds v) = true
-has_deed (Retains v) = false
-has_deed (Releases v) = false
-
-abbrev pub IsNeeded : Option Statement → Bool → Type 0
-IsNeeded None needed = Unit {0}
-IsNeeded (Some x) needed = needed ≡ has_deed (ownership_of x)
-
--- the deed of a statement is ready, and there is room for a body
-pub record IsReady (g : GroundView) (x : Statement) (used : List (Option ℕ)) : Type 0 where
-  pub deed : g.ready ≡ Some (deed_of g.script (state_of g) x used)
-  pub room : 0 < g.body_room
-
-abbrev pub ReadyIf : GroundView → Option Statement → List (Option ℕ) → Type 0
-ReadyIf g None used = Unit {0}
-ReadyIf g (Some x) used = NeedsDeed (ownership_of x) (IsReady g x used)
-
-abbrev pub IsReadyFor : GroundView → Found → Type 0
-IsReadyFor g (kept.Says b n used) = ReadyIf g (statement_at g.script b n) (objects_of used)
-IsReadyFor g _ = Unit {0}
+-- the ground is ready for what a thread does
+abbrev pub IsReadyFor : GroundView → (t : ℕ) → Found → Type 0
+IsReadyFor g t (kept.Says b n used) = ReadyIf g (statement_at g.script b n) (objects_of used)
+IsReadyFor g t (kept.Deals b n used) = PlaceIf g t (statement_at g.script b n)
+IsReadyFor g t _ = Unit {0}
 
 -- what was found is what its thread does next, and it may do it
 pub record IsFound (g : GroundView) (r : Reserved) : Type 0 where
@@ -116,7 +89,7 @@ standing_at frames t = slice_index_or frames t nobody
 pub record IsReserved (g : GroundView) (frames : List Standing) (r : Reserved) : Type 0 where
   pub found : IsFound g r
   pub room : HasRoomFor r.action (most_listed r.action) (standing_at frames r.thread)
-  pub ready : IsReadyFor g r.found
+  pub ready : IsReadyFor g r.thread r.found
 
 abbrev pub ReservedIf : GroundView → List Standing → Option Reserved → Type 0
 ReservedIf g frames None = Unit {0}
@@ -148,10 +121,15 @@ pub record HasGone (r : Reserved) (g g' : GroundView) (standings : List Standing
   pub entered : HasEntered r.thread r.action g g'
   pub frames : AreFrames g'.script (state_of g') standings
 
--- what was found is a statement
+-- what was found is a statement that acts on no run loop
 abbrev pub IsSays : Found → Type 0
 IsSays (kept.Says b n used) = Unit {0}
 IsSays _ = ⊥
+
+-- what was found is a statement over run loops
+abbrev pub IsDeals : Found → Type 0
+IsDeals (kept.Deals b n used) = Unit {0}
+IsDeals _ = ⊥
 
 -- what was found is the claim of this place
 abbrev pub IsClaims : Found → ℕ → Type 0
@@ -177,6 +155,7 @@ IsDrops _ = ⊥
 abbrev pub IsRoundFound : Found → Type 0
 IsRoundFound (kept.Claims k v) = ⊥
 IsRoundFound (kept.Says b n used) = ⊥
+IsRoundFound (kept.Deals b n used) = ⊥
 IsRoundFound (kept.Packs u k v) = ⊥
 IsRoundFound kept.Ends = ⊥
 IsRoundFound (kept.Owes o left) = ⊥
@@ -222,16 +201,16 @@ abbrev pub FitsPhase : State → ℕ → ℕ → Phase → Option Turn → Type 
 FitsPhase st t more phases.Sources run = FitsItems st t more run
 FitsPhase st t more _ run = Unit {0}
 
--- an entry may list more than two: that of a phase which collects, and an item that leaves its places
-abbrev pub is_many : Found → Bool
-is_many (kept.Enters phases.Sources) = true
-is_many (kept.Spends i left) = true
-is_many _ = false
+-- a statement over run loops moves so many references at most, if there is a statement
+abbrev pub MovesIf : GroundView → (t : ℕ) → List (Option ℕ) → (more : ℕ) → Option Statement → Type 0
+MovesIf g t used more None = Unit {0}
+MovesIf g t used more (Some x) = MovesAtMost g.script t (state_of g) x used more
 
--- so many are as many as it lists at most
+-- so many are as many as it lists at most, and as it gains where that may be more than two
 abbrev pub AreMost : GroundView → ℕ → ℕ → Found → Type 0
 AreMost g t more (kept.Enters p) =
     FitsPhase (state_of g) t more p (innermost_run (stand_at t (state_of g).stands).frames)
+AreMost g t more (kept.Deals b n used) = MovesIf g t (objects_of used) more (statement_at g.script b n)
 AreMost g t more (kept.Spends i left) = length (spending g.script (state_of g) i).leaves ≤ more
 AreMost g t more _ = Unit {0}
 
@@ -243,13 +222,10 @@ pub record HasLists (g : GroundView) (frames : List Standing) (gained_room list_
   pub list_fits : more ≤ list_room
   pub most : AreMost g r.thread more r.found
 
-abbrev pub ListsIf : GroundView → List Standing → (gained_room list_room : ℕ) → Reserved → Type 0
-ListsIf g frames m n r = cond (is_many r.found) (HasLists g frames m n r) (Unit {0})
-
 -- the same of what was reserved, if something was
 abbrev pub ListsFit : GroundView → List Standing → (gained_room list_room : ℕ) → Option Reserved → Type 0
 ListsFit g frames m n None = Unit {0}
-ListsFit g frames m n (Some r) = ListsIf g frames m n r
+ListsFit g frames m n (Some r) = HasLists g frames m n r
 
 -- what was finalised, by what a cut leaves
 abbrev pub finals_of_cut : Ended → ℕ → List ℕ
@@ -263,7 +239,6 @@ pub record IsBegun (w : Inside) : Type 0 where
   pub most : w.limit ≤ 4000000
   pub room : w.limit ≤ length w.ground.journal + w.ground.journal_room
   pub gained_room : 2 ≤ vec_capacity w.gained
-  pub few : length w.gained.items ≤ 2
   pub list_room : 2 ≤ vec_capacity w.list
   pub reserved : ReservedIf w.ground w.frames.items (reserved_of w)
   pub lists : ListsFit w.ground w.frames.items (vec_capacity w.gained) (vec_capacity w.list) (reserved_of w)

@@ -1,5 +1,5 @@
 -- What the entries of a thread ask of the ground of a world, and what they leave. This project's own.
-use Rattle.std.specs.Prelude.{◌≡◌, ℕ, ◌+◌, ◌<◌, ◌⊎◌, true, IsTrue, List, [], ◌∷◌, ◌++◌, length, Option, Some, None, slice_index_or, slice_set, ◌==◌, if◌then◌else◌}
+use Rattle.std.specs.Prelude.{◌≡◌, ℕ, ◌+◌, ◌<◌, ◌⊎◌, Bool, true, false, IsTrue, List, [], ◌∷◌, ◌++◌, length, Option, Some, None, slice_index_or, slice_set, ◌==◌, if◌then◌else◌}
 use Rattle.cf_ids.specs.declared.limits.TheConstants.{OBJECTS}
 use Rattle.cf_ids.specs.declared.answer.Answer.{Answer}
 use Rattle.cf_ids.specs.declared.answer.Answer.TheVariants as answers
@@ -8,21 +8,28 @@ use Rattle.cf_ids.specs.declared.answer.Ended.TheVariants.{More, Last}
 use Rattle.cf_syntax.specs.declared.script.Script.{Script}
 use Rattle.cf_syntax.specs.declared.statement.Statement.{Statement}
 use Rattle.cf_syntax.specs.declared.mention.Ownership.TheVariants.{Keeps, Binds, Retains, Releases}
+use Rattle.cf_syntax.specs.declared.statement.Statement.TheVariants as forms
 use Rattle.cf_syntax.specs.Mentions.{ownership_of, first_of}
 use Rattle.rl_turn.specs.declared.phases.Phase.TheVariants as phases
 use Rattle.cf_syntax.specs.BlockLines.{begins, claims, says, packs}
 use Rattle.cf_graph.specs.Flows.{gained_by}
+use Rattle.cf_contents.specs.Contents.{Object, item_content}
+use Rattle.cf_contents.specs.Items.{class_of}
 use Rattle.cf_contents.specs.Stores.{Held, with_body, body_finalised}
 use Rattle.cf_next.specs.declared.action.Action.{Action}
 use Rattle.cf_next.specs.Facts.{Callout}
-use Rattle.cf_next.specs.Stands.{Callee, Turn, item_of, of_run}
+use Rattle.cf_next.specs.Stands.{Callee, Stand, Turn, has_run, item_of, of_run}
 use Rattle.cf_next.specs.Advance.{top_kind}
 use Rattle.cf_next.specs.Demands.{Demand, does, ends, returns, owes, spends, drops, calls, enters, closes}
 use Rattle.cf_next.specs.Next.{used_objects, object_at}
 use Rattle.cf_model.specs.declared.entry.Entry.{Entry}
 use Rattle.cf_model.specs.State as states
-use Rattle.cf_model.specs.State.{State}
-use Rattle.cf_model.specs.Steps.{demanded, start_all, activity, call_answer, step_of, frames_at, bindings_of}
+use Rattle.cf_model.specs.State.{State, stand_at}
+use Rattle.cf_model.specs.Deals.{thread_in}
+use Rattle.cf_body.specs.Items.{ItemView}
+use Rattle.cf_scene.specs.Needs.{HasPlaceFor, acts_on_loops}
+use Rattle.cf_scene.specs.Acts.{TellsRun}
+use Rattle.cf_model.specs.Steps.{Made, demanded, item_made, start_all, activity, call_answer, step_of, frames_at, bindings_of}
 use Rattle.cf_model.specs.Things.{is_valid_thing, thing_at}
 use Rattle.cf_model.specs.Flowing.{flow_if}
 use Rattle.cf_model.specs.Journals.{Next, makes}
@@ -61,27 +68,66 @@ listed_if s t st (Some d) = (step_of s t st (frames_at t st) d).list
 abbrev pub listed_in : GroundView → ℕ → List ℕ
 listed_in g t = listed_if g.script t (state_of g) (demand_in g t)
 
+-- a new item as it is seen, with its info, if one is made
+abbrev pub item_new : Option ℕ → Option Made → Option ItemView
+item_new info None = None
+item_new info (Some m) = Some (record { handler = m.handler; info = info; valid = true; item = m.item })
+
+-- the object that an item is
+abbrev pub item_body : ItemView → Object
+item_body x = record { class = class_of x.item; content = item_content x.handler x.info x.valid x.item }
+
 -- ---- what an entry is of
 
 -- the objects that a statement of a thread uses
 abbrev pub used_in : GroundView → ℕ → Statement → List (Option ℕ)
 used_in g t x = used_objects (bindings_of (frames_at t (state_of g))) (says x)
 
--- a statement that neither binds a variable nor counts its references; its deed is ready
+-- a statement that neither binds a variable nor counts its references, and acts on no run loop; its deed is ready
 pub record IsDeed (g : GroundView) (t : ℕ) : Type 0 where
   pub statement : Statement
   pub demands : demand_in g t ≡ Some (does (says statement))
+  pub apart : acts_on_loops statement ≡ false
   pub keeps : ownership_of statement ≡ Keeps
   pub ready : g.ready ≡ Some (deed_of g.script (state_of g) statement (used_in g t statement))
 
--- a statement that binds a variable; its deed is ready, and there is room for a body
+-- a statement that binds a variable and makes no item; its deed is ready, and there is room for a body
 pub record IsBinding (g : GroundView) (t : ℕ) : Type 0 where
   pub statement : Statement
   pub var : ℕ
   pub demands : demand_in g t ≡ Some (does (says statement))
   pub binds : ownership_of statement ≡ Binds var
+  pub itemless : item_made statement ≡ None
   pub ready : g.ready ≡ Some (deed_of g.script (state_of g) statement (used_in g t statement))
   pub room : 0 < g.body_room
+
+-- a statement that makes this item of a run loop; there is room for its body
+pub record IsMaking (g : GroundView) (t : ℕ) (item : ItemView) : Type 0 where
+  pub statement : Statement
+  pub var : ℕ
+  pub demands : demand_in g t ≡ Some (does (says statement))
+  pub binds : ownership_of statement ≡ Binds var
+  pub made : item_new (first_of (used_in g t statement)) (item_made statement) ≡ Some item
+  pub room : 0 < g.body_room
+
+-- a thread that is named, if it has a run
+abbrev pub stop_named : List Stand → Option ℕ → Option ℕ
+stop_named stands None = None
+stop_named stands (Some u) = if has_run (stand_at u stands).frames then Some u else None
+
+-- the thread whose run a statement of a thread stops, if it stops one
+abbrev pub stops_of : (t : ℕ) → List Stand → Statement → Option ℕ
+stops_of t stands (forms.Stop thread) = stop_named stands (thread_in t thread)
+stops_of t stands _ = None
+
+-- a statement over run loops of a thread, by the object of its variable and by whether the thread that it tells to stop
+-- has a run; there is room in the loop that it names
+pub record IsDealing (g : GroundView) (t : ℕ) (object : Option ℕ) (runs : Bool) (x : Statement) : Type 0 where
+  pub demands : demand_in g t ≡ Some (does (says x))
+  pub acts : acts_on_loops x ≡ true
+  pub object_is : first_of (used_in g t x) ≡ object
+  pub runs_is : TellsRun (state_of g) t runs x
+  pub place : HasPlaceFor t g.loops x
 
 -- a statement that retains the object of a variable
 pub record IsRetain (g : GroundView) (t : ℕ) (object : Option ℕ) : Type 0 where

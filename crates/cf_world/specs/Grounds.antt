@@ -1,8 +1,11 @@
 -- The ground of a world: what it keeps beside where its threads stand. This project's own.
-use Rattle.std.specs.Prelude.{◌≡◌, ℕ, ◌-◌, ◌<◌, ◌≤◌, List, [], length, map, Option, None, slice_get, slice_index_or, vec_len, vec_capacity}
+use Rattle.std.specs.Prelude.{◌≡◌, ℕ, ◌-◌, ◌<◌, ◌≤◌, List, [], length, map, Option, None, Some, slice_get, slice_index_or, vec_len, vec_capacity}
 use Rattle.cf_ids.specs.declared.answer.Ended.{Ended}
 use Rattle.cf_syntax.specs.declared.script.Script.{Script}
 use Rattle.cf_syntax.specs.declared.statement.Statement.{Statement}
+use Rattle.cf_syntax.specs.declared.mention.Ownership.{Ownership}
+use Rattle.cf_syntax.specs.declared.mention.Ownership.TheVariants.{Keeps, Binds, Retains, Releases}
+use Rattle.cf_syntax.specs.Mentions.{ownership_of}
 use Rattle.cf_syntax.specs.BlockLines.{uses_in, thread_block, statements_in}
 use Rattle.cf_syntax.specs.Owned.{Owned}
 use Rattle.cf_syntax.specs.Stage.{IsOfStage}
@@ -19,18 +22,21 @@ use Rattle.cf_model.specs.State.{State, first_held, start}
 use Rattle.cf_model.specs.Known.{facts_of}
 use Rattle.cf_model.specs.Journals.{After, IsLegal}
 use Rattle.cf_scene.specs.declared.flags.Flags.{Flags}
+use Rattle.cf_scene.specs.Needs.{HasPlaceFor}
 pub use Rattle.cf_scene.specs.Scenes.{Mirrors, sleeping_of, flags_of}
 use Rattle.cf_world.specs.declared.ground.Ground.TheInside.{Inside}
 use Rattle.cf_world.specs.Worlds.{ended_at}
 
 -- what a ground is to its callers: its script and its journal, how many more entries there is room for, the deed that is
--- ready, and for how many more bodies there is room. What it knows is the state after the journal
+-- ready, for how many more bodies there is room, and the loops with their room. What it knows is the state after the
+-- journal
 pub record GroundView : Type 0 where
   pub script : Script
   pub journal : List Entry
   pub journal_room : ℕ
   pub ready : Option Ready
   pub body_room : ℕ
+  pub loops : List Loop
 
 -- the state after its journal
 abbrev pub state_of : GroundView → State
@@ -96,6 +102,7 @@ view_of g = record {
   journal_room = vec_capacity g.journal - vec_len g.journal;
   ready = g.store.ready;
   body_room = g.store.room;
+  loops = g.loops;
 }
 
 -- the deed of a statement in a state, on the first object that it uses
@@ -109,3 +116,27 @@ ends_in g o ended = ended ≡ ended_at (degree o (state_of g).edges)
 -- the statement with a number in a block
 abbrev pub statement_at : Script → (block number : ℕ) → Option Statement
 statement_at s b n = slice_get (statements_in (slice_get s.blocks b)) n
+
+-- ---- what it is ready for
+
+-- a statement's deed is ready where it has one: where it binds a variable, or keeps the counts as they are
+abbrev pub NeedsDeed : Ownership → Type 0 → Type 0
+NeedsDeed Keeps p = p
+NeedsDeed (Binds v) p = p
+NeedsDeed (Retains v) p = Unit {0}
+NeedsDeed (Releases v) p = Unit {0}
+
+-- the deed of a statement is ready, and there is room for a body
+pub record IsReady (g : GroundView) (x : Statement) (used : List (Option ℕ)) : Type 0 where
+  pub deed : g.ready ≡ Some (deed_of g.script (state_of g) x used)
+  pub room : 0 < g.body_room
+
+-- so it is, if there is a statement
+abbrev pub ReadyIf : GroundView → Option Statement → List (Option ℕ) → Type 0
+ReadyIf g None used = Unit {0}
+ReadyIf g (Some x) used = NeedsDeed (ownership_of x) (IsReady g x used)
+
+-- there is room in the loop that a statement names, if there is a statement
+abbrev pub PlaceIf : GroundView → (t : ℕ) → Option Statement → Type 0
+PlaceIf g t None = Unit {0}
+PlaceIf g t (Some x) = HasPlaceFor t g.loops x

@@ -1,6 +1,6 @@
 -- What was found of a thread's next entry, as it is kept from the room that is made for it to the entry. This project's
 -- own.
-use Rattle.std.specs.Prelude.{◌≡◌, ℕ, Option, Some, None}
+use Rattle.std.specs.Prelude.{◌≡◌, ℕ, Bool, true, false, Option, Some, None}
 use Rattle.cf_syntax.specs.declared.script.Script.{Script}
 use Rattle.cf_syntax.specs.declared.statement.Statement.{Statement}
 use Rattle.cf_syntax.specs.BlockLines.{says}
@@ -13,13 +13,15 @@ use Rattle.cf_next.specs.Demands.{demand, does}
 use Rattle.cf_next.specs.Next.{top_frame, used_objects}
 use Rattle.cf_next.specs.Steps.{IsStep, IsLine}
 use Rattle.cf_next.specs.Views.{objects_of}
+use Rattle.cf_scene.specs.Needs.{acts_on_loops}
 use Rattle.cf_world.specs.declared.found.Found.{Found}
 use Rattle.cf_world.specs.declared.found.Found.TheVariants as kept
 use Rattle.cf_world.specs.Grounds.{statement_at}
 
--- a statement that a thread demands: its place, and the objects that it uses
-pub record IsSaid (s : Script) (facts : Facts) (t : ℕ) (stand : Stand) (block number : ℕ) (used : Used) : Type 0 where
+-- a statement that a thread demands, which acts on run loops or does not: its place, and the objects that it uses
+pub record IsSaid (s : Script) (facts : Facts) (t : ℕ) (stand : Stand) (loops : Bool) (block number : ℕ) (used : Used) : Type 0 where
   pub statement : Statement
+  pub acts : acts_on_loops statement ≡ loops
   pub demands : demand s facts t stand ≡ Some (does (says statement))
   pub line : IsLine s (says statement) stand.frames
   pub objects : objects_of used ≡ used_objects (top_frame stand.frames).bindings (says statement)
@@ -29,7 +31,8 @@ pub record IsSaid (s : Script) (facts : Facts) (t : ℕ) (stand : Stand) (block 
 abbrev pub IsKept : Script → Facts → ℕ → Stand → Found → Type 0
 IsKept s facts t stand kept.Begins = IsStep s facts t stand steps.Begins
 IsKept s facts t stand (kept.Claims k v) = IsStep s facts t stand (steps.Claims k v)
-IsKept s facts t stand (kept.Says b n used) = IsSaid s facts t stand b n used
+IsKept s facts t stand (kept.Says b n used) = IsSaid s facts t stand false b n used
+IsKept s facts t stand (kept.Deals b n used) = IsSaid s facts t stand true b n used
 IsKept s facts t stand (kept.Packs u k v) = IsStep s facts t stand (steps.Packs u k v)
 IsKept s facts t stand kept.Ends = IsStep s facts t stand steps.Ends
 IsKept s facts t stand kept.Returns = IsStep s facts t stand steps.Returns
@@ -50,6 +53,7 @@ abbrev pub step_kept : Found → Option Step
 step_kept kept.Begins = Some steps.Begins
 step_kept (kept.Claims k v) = Some (steps.Claims k v)
 step_kept (kept.Says b n used) = None
+step_kept (kept.Deals b n used) = None
 step_kept (kept.Packs u k v) = Some (steps.Packs u k v)
 step_kept kept.Ends = Some steps.Ends
 step_kept kept.Returns = Some steps.Returns

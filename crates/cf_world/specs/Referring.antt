@@ -5,13 +5,14 @@ use Rattle.cf_ids.specs.declared.limits.TheConstants.{VARIABLES}
 use Rattle.cf_syntax.specs.declared.script.Script.{Script}
 use Rattle.cf_graph.specs.declared.edge.Edge.{Edge}
 use Rattle.cf_graph.specs.Holders.{variable, callout, owed, parcel, slot}
-use Rattle.cf_graph.specs.Edges.{Reference, held_by, held_if, edge_of, edges_of}
+use Rattle.cf_graph.specs.Edges.{Reference, held_by, held_if, edge_of, edges_of, weigh, one}
 use Rattle.cf_contents.specs.Stores.{Held, left_in}
 use Rattle.cf_next.specs.Advance.{kind_item}
 use Rattle.cf_next.specs.Stands.{Frame, Stand}
 use Rattle.cf_next.specs.Standing.{Standing}
 use Rattle.cf_next.specs.Held.{HasVariables, below, copies, frame_at, passed_lines, variable_objects, owed_objects}
 use Rattle.cf_model.specs.State.{stand_at}
+use Rattle.cf_loops.specs.Following.{IsPlaceOfLoop, SamePlaces}
 use Rattle.cf_world.specs.Grounds.{GroundView, HoldsParcels, Mirrors, parcel_at, state_of}
 
 -- the references of a variable of a thread's frame, by how many are below it, as many as the lines done leave to it
@@ -64,11 +65,14 @@ AllHaveVariables stands n = (t : ℕ) → t < n → HasVariables (stand_at t sta
 abbrev pub stands_of : List Standing → List Stand
 stands_of frames = map (λ (f : Standing). f.stand) frames
 
--- edges to which those of parcels and of slots are added, by the rows and the bodies of a ground
+-- edges to which those of parcels, of slots and of places of loops are added, by the rows and the bodies of a ground
 pub record AddsGround (g : GroundView) (before after : List Edge) : Type 0 where
   pub rows : List (List (Option ℕ))
   pub bodies : List Held
   pub mirrors : Mirrors (state_of g).parts bodies
   pub places : HoldsParcels g.script (state_of g) rows
-  pub added : after ≡ (before ++ edges_of (below (parcel_references rows) (length rows)))
-      ++ edges_of (below (slot_references bodies) (length bodies))
+  pub loops : List Reference
+  pub of_loops : SamePlaces (state_of g).edges loops
+  pub of_no_other : (r : Reference) → (IsPlaceOfLoop r.holder → ⊥) → weigh (one r) loops ≡ 0
+  pub added : after ≡ ((before ++ edges_of (below (parcel_references rows) (length rows)))
+      ++ edges_of (below (slot_references bodies) (length bodies))) ++ edges_of loops

@@ -17,7 +17,7 @@ ghost use Rattle.cf_next.specs.Steps.{IsStep, SaysList, SaysRoom};
 ghost use Rattle.cf_next.specs.Views.{objects_of};
 ghost use Rattle.cf_model.specs.Known.{facts_of};
 ghost use Rattle.cf_model.specs.State.{stand_at};
-ghost use Rattle.cf_world.specs.Begun.{AreFrames, HasGone, HasMoved, MovesBy, IsFound, IsReadyFor, IsClaims, IsDrops, IsOwes, IsPacks, IsReserved, IsSays, ListsIf, StandSo, finals_of_cut, standing_at};
+ghost use Rattle.cf_world.specs.Begun.{AreFrames, HasGone, HasMoved, MovesBy, IsFound, IsReadyFor, IsClaims, IsDrops, IsOwes, IsPacks, IsReserved, IsSays, HasLists, StandSo, finals_of_cut, standing_at};
 ghost use Rattle.cf_world.specs.Entering.{HasEntered, IsLastAnswer, gained_in, listed_in};
 ghost use Rattle.cf_world.specs.Grounds.{ends_in, state_of};
 ghost use Rattle.cf_world.specs.Kept.{step_kept};
@@ -29,8 +29,9 @@ use crate::counts::answer_for;
 use crate::found::{Found, Reserved};
 use crate::ground::Ground;
 use crate::looking::look;
+use crate::loops::deal;
 use crate::running::go_round;
-use crate::statements::put_all;
+use crate::statements::{item_made, put_all};
 use cf_ids::{Answer, Ended, ObjId, ThreadId, VarId};
 use cf_next::{Facts, Frames, Step, Used};
 use cf_syntax::{Ownership, Statement};
@@ -110,15 +111,15 @@ fn enter(
     requires gained_room { 2 ≤ vec_capacity gained.old }
     requires no_list { list.old.items ≡ [] }
     requires list_room { 2 ≤ vec_capacity list.old }
-    requires lists { ListsIf ground.old frames.old.items (vec_capacity gained.old) (vec_capacity list.old) reserved.now }
+    requires lists { HasLists ground.old frames.old.items (vec_capacity gained.old) (vec_capacity list.old) reserved.now }
     ensures gone { HasGone reserved.now ground.old ground.new frames.new.items }
     ensures gained { gained.new.items ≡ gained_in ground.old reserved.now.thread }
     ensures gained_room { vec_capacity gained.new ≡ vec_capacity gained.old }
-    ensures few { vec_len gained.new ≤ 2 }
     ensures list_room { vec_capacity list.new ≡ vec_capacity list.old }
 {
     match reserved.found {
         Found::Says { .. } => say(ground, frames, gained, list, reserved),
+        Found::Deals { .. } => deal(ground, frames, gained, list, reserved),
         Found::Claims { place, .. } => claim(ground, frames, reserved, place),
         Found::Packs { .. } => pack(ground, frames, reserved),
         Found::Ends => end(ground, frames, reserved),
@@ -146,7 +147,6 @@ fn say(
     ensures gone { HasGone reserved.now ground.old ground.new frames.new.items }
     ensures gained { gained.new.items ≡ gained_in ground.old reserved.now.thread }
     ensures gained_room { vec_capacity gained.new ≡ vec_capacity gained.old }
-    ensures few { vec_len gained.new ≤ 2 }
     ensures list_room { vec_capacity list.new ≡ vec_capacity list.old }
 {
     let Found::Says { block, number, .. } = reserved.found else {
@@ -165,7 +165,7 @@ fn say(
     }
 }
 
-/// A statement that takes no reference away is entered.
+/// A statement that acts on no run loop and takes no reference away is entered.
 fn enter_statement(
     ground: &mut Ground,
     gained: &mut Vec<ObjId>,
@@ -173,7 +173,7 @@ fn enter_statement(
     reserved: &Reserved,
 )
     requires found { IsFound ground.old reserved.now }
-    requires ready { IsReadyFor ground.old reserved.now.found }
+    requires ready { IsReadyFor ground.old reserved.now.thread reserved.now.found }
     requires says { IsSays reserved.now.found }
     requires keeps { cut_of reserved.now.action ≡ None }
     requires no_gained { gained.old.items ≡ [] }
@@ -183,7 +183,6 @@ fn enter_statement(
     ensures entered { HasEntered reserved.now.thread reserved.now.action ground.old ground.new }
     ensures gained { gained.new.items ≡ gained_in ground.old reserved.now.thread }
     ensures gained_room { vec_capacity gained.new ≡ vec_capacity gained.old }
-    ensures few { vec_len gained.new ≤ 2 }
     ensures list { list.new.items ≡ listed_in ground.old reserved.now.thread }
     ensures list_room { vec_capacity list.new ≡ vec_capacity list.old }
     ensures few_listed { vec_len list.new ≤ 2 }
@@ -204,7 +203,10 @@ fn enter_statement(
     let action = reserved.action;
     match statement.ownership() {
         Ownership::Keeps => ground.enter_deed(t, action, gained, list),
-        Ownership::Binds(_) => ground.enter_binding(t, action, gained),
+        Ownership::Binds(_) => match item_made(statement, first(&used)) {
+            Some(item) => ground.enter_item(t, action, item, gained),
+            None => ground.enter_binding(t, action, gained),
+        },
         Ownership::Retains(_) => {
             put_all(gained, &[first(&used), None]);
             ground.enter_retain(t, action, first(&used));
@@ -214,7 +216,7 @@ fn enter_statement(
 }
 
 /// The first object that a statement uses.
-fn first(used: &Used) -> Option<ObjId>
+pub(crate) fn first(used: &Used) -> Option<ObjId>
     ensures { result ≡ first_of (objects_of used.now) }
 {
     let [object, _, _] = used.objects();
@@ -425,6 +427,7 @@ fn step_of<'g>(ground: &'g Ground, found: &Found) -> Option<Step<'g>>
             }),
             None => None,
         },
+        Found::Deals { .. } => None,
         Found::Packs {
             thread,
             place,
@@ -496,7 +499,7 @@ pub(crate) fn go_on(
 }
 
 /// A thread moves on by the entry of a statement, which is the last of the journal.
-fn say_on(
+pub(crate) fn say_on(
     frames: &mut Vec<Frames>,
     ground: &Ground,
     t: ThreadId,

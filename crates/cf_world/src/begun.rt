@@ -5,12 +5,12 @@ ghost use Rattle.cf_graph.specs.declared.edge.Edge.{Edge};
 ghost use Rattle.cf_graph.specs.Edges.{edges_of};
 ghost use Rattle.cf_next.specs.Actions.{cut_of};
 ghost use Rattle.cf_model.specs.State.{start};
-ghost use Rattle.cf_world.specs.Grounds.{MayRun, state_of, statement_at};
+ghost use Rattle.cf_world.specs.Grounds.{MayRun, state_of};
 ghost use Rattle.cf_next.specs.Standing.{HasRoomFor, innermost_run};
 ghost use Rattle.cf_next.specs.Stands.{Stand};
 ghost use Rattle.cf_next.specs.declared.action.Action.{Action as ActionValue};
 ghost use Rattle.cf_syntax.specs.declared.script.Script.{Script as ScriptValue};
-ghost use Rattle.cf_world.specs.Begun.{AreFrames, AreMost, FitsItems, FitsPhase, IsFound, IsNeeded, IsReadyFor, IsReserved, ListsIf, StandSo, most_listed, standing_at};
+ghost use Rattle.cf_world.specs.Begun.{AreFrames, AreMost, FitsItems, FitsPhase, IsFound, IsReadyFor, IsReserved, HasLists, StandSo, most_listed, standing_at};
 ghost use Rattle.cf_world.specs.declared.found.Found.{Found as FoundValue};
 ghost use Rattle.cf_world.specs.declared.found.Reserved.{Reserved};
 ghost use Rattle.cf_world.specs.Worlds.{IsLegalWorld, IsThread, acting, applied, edges_in, ended_in, entered, lead_in, led, made_in, next_in, prepared, retained_by, retains_in, IsTick};
@@ -27,7 +27,7 @@ use cf_ids::{Answer, Ended, ObjId, ThreadId};
 use cf_model::{Action, Entry};
 use cf_next::{Frames, Step};
 use cf_owncheck::Checked;
-use cf_syntax::{Ownership, Script};
+use cf_syntax::Script;
 use rl_turn::Phase;
 use std::alloc::{AllocError as NoMemory, Global};
 use std::marker::Model;
@@ -119,8 +119,7 @@ impl Begun {
 
     /// The object of each reference that the last `apply` added.
     pub fn gained(&self) -> &[ObjId]
-        ensures objects { result.now ≡ self.now.gained }
-        ensures few { length self.now.gained ≤ 2 }
+        ensures { result.now ≡ self.now.gained }
     {
         self.gained.as_slice()
     }
@@ -242,17 +241,17 @@ fn reserve_for(
     ensures list_room { vec_capacity list.old ≤ vec_capacity list.new }
     ensures reserved { OnOk result (IsReserved ground.new frames.new.items reserved.now) }
     ensures lists { OnOk result
-        (ListsIf ground.new frames.new.items (vec_capacity gained.new) (vec_capacity list.new) reserved.now) }
+        (HasLists ground.new frames.new.items (vec_capacity gained.new) (vec_capacity list.new) reserved.now) }
     ensures refused { OnErr result ((r : Reserved) → IsReserved ground.old frames.old.items r
         → IsReserved ground.new frames.new.items r) }
     ensures kept { OnErr result ((r : Reserved)
-        → ListsIf ground.old frames.old.items (vec_capacity gained.old) (vec_capacity list.old) r
-        → ListsIf ground.new frames.new.items (vec_capacity gained.new) (vec_capacity list.new) r) }
+        → HasLists ground.old frames.old.items (vec_capacity gained.old) (vec_capacity list.old) r
+        → HasLists ground.new frames.new.items (vec_capacity gained.new) (vec_capacity list.new) r) }
 {
     let more = most_listed(ground, frames.as_slice(), reserved);
     reserve_frames(frames, reserved.thread, &reserved.action, more)?;
     reserve_lists(gained, list, more)?;
-    reserve_ground(alloc, ground, &reserved.found)
+    reserve_ground(alloc, ground, reserved)
 }
 
 /// Makes room in the frames of a thread for the entry of an action that lists so many numbers at most.
@@ -289,39 +288,44 @@ fn reserve_lists(gained: &mut Vec<ObjId>, list: &mut Vec<u32>, more: usize) -> R
     list.reserve(more)
 }
 
-/// Makes room for the deed of what was found, if it has one.
-fn reserve_ground(alloc: Global, ground: &mut Ground, found: &Found) -> Result<(), NoMemory>
+/// Makes room in the ground for the entry of what was found of a thread.
+fn reserve_ground(alloc: Global, ground: &mut Ground, reserved: &Reserved) -> Result<(), NoMemory>
+    requires { IsFound ground.old reserved.now }
     ensures script { ground.new.script ≡ ground.old.script }
     ensures journal { ground.new.journal ≡ ground.old.journal }
     ensures room { ground.new.journal_room ≡ ground.old.journal_room }
-    ensures ready { OnOk result (IsReadyFor ground.new found.now) }
-    ensures refused { OnErr result ((f : FoundValue) → IsReadyFor ground.old f → IsReadyFor ground.new f) }
+    ensures ready { OnOk result (IsReadyFor ground.new reserved.now.thread reserved.now.found) }
+    ensures refused { OnErr result ((t : ℕ) (f : FoundValue) → IsReadyFor ground.old t f → IsReadyFor ground.new t f) }
 {
-    let Found::Says {
-        block,
-        number,
-        used,
-    } = found
-    else {
-        return Ok(());
-    };
-    if !needs_deed(ground, *block, *number) {
-        return Ok(());
+    match &reserved.found {
+        Found::Says {
+            block,
+            number,
+            used,
+        } => ground.reserve_for(alloc, *block, *number, used),
+        Found::Deals { block, number, .. } => {
+            ground.reserve_place(reserved.thread, *block, *number)
+        }
+        _ => Ok(()),
     }
-    ground.reserve_for(alloc, *block, *number, used)
 }
 
 /// How many numbers the entry of what was found lists at most.
 fn most_listed(ground: &Ground, frames: &[Frames], reserved: &Reserved) -> usize
-    requires thread { reserved.now.thread < length frames.now }
+    requires found { IsFound ground.now reserved.now }
     requires frames { AreFrames ground.now.script (state_of ground.now) frames.now }
     ensures least { most_listed reserved.now.action ≤ result }
     ensures most { AreMost ground.now reserved.now.thread result reserved.now.found }
 {
     let t = reserved.thread;
-    match reserved.found {
-        Found::Enters(phase) => most_collected(ground, &frames[t.0 as usize], t, phase).max(2),
-        Found::Spends { item, .. } => ground.places_of(item).max(2),
+    match &reserved.found {
+        Found::Enters(phase) => most_collected(ground, &frames[t.0 as usize], t, *phase).max(2),
+        Found::Spends { item, .. } => ground.places_of(*item).max(2),
+        Found::Deals {
+            block,
+            number,
+            used,
+        } => ground.most_moved(t, *block, *number, used).max(2),
         _ => few_listed(&reserved.action),
     }
 }
@@ -353,18 +357,5 @@ fn few_listed(action: &Action) -> usize
     match action {
         Action::Retain { .. } => 0,
         _ => 2,
-    }
-}
-
-/// Whether a statement has a deed: where it binds a variable, or keeps the counts as they are.
-fn needs_deed(ground: &Ground, block: u16, number: u32) -> bool
-    ensures { IsNeeded (statement_at ground.now.script block number) result }
-{
-    match ground.statement(block, number) {
-        Some(statement) => match statement.ownership() {
-            Ownership::Keeps | Ownership::Binds(_) => true,
-            Ownership::Retains(_) | Ownership::Releases(_) => false,
-        },
-        None => false,
     }
 }

@@ -38,12 +38,13 @@ impl Begun {
     }
 }
 
-/// Adds the edges of parcels and of slots.
+/// Adds the edges of parcels, of slots and of places of loops.
 fn add_ground(edges: &mut Vec<Edge>, ground: &Ground) -> Result<(), NoMemory>
     ensures { OnOk result (AddsGround ground.now edges.old.items edges.new.items) }
 {
     add_parcels(edges, ground.script(), &ground.parcels)?;
-    add_bodies(edges, &ground.store)
+    add_bodies(edges, &ground.store)?;
+    ground.loops.add_edges(edges)
 }
 
 /// Adds an edge from a thread to each of some objects.

@@ -5,7 +5,7 @@ use cf_next::{Callee, MaybeObject, Step, Used};
 use rl_turn::Phase;
 
 /// What a thread does next, as it is kept: what a `Step` has, but that a statement is named by its block and its number
-/// there.
+/// there, and that those over run loops stand apart.
 #[derive(Clone, Copy)]
 pub(crate) enum Found {
     Begins,
@@ -14,6 +14,12 @@ pub(crate) enum Found {
         variable: VarId,
     },
     Says {
+        block: u16,
+        number: u32,
+        used: Used,
+    },
+    /// A statement over run loops.
+    Deals {
         block: u16,
         number: u32,
         used: Used,

@@ -1,14 +1,13 @@
 //! What a world keeps beside where its threads stand.
-ghost use Rattle.std.specs.Prelude.{◌≡◌, ℕ, ◌+◌, ◌<◌, ◌≤◌, [], None, Some, length, nat_le, IfOk, IfSome, OnOk, OnErr};
+ghost use Rattle.std.specs.Prelude.{◌≡◌, ℕ, ◌+◌, ◌<◌, ◌≤◌, [], None, Some, length, nat_le, IfOk, OnOk, OnErr};
 ghost use Rattle.std.specs.Option.{option_copied};
 ghost use Rattle.cf_ids.specs.declared.limits.TheConstants.{OBJECTS};
 ghost use Rattle.cf_syntax.specs.BlockLines.{thread_block, uses_in};
-ghost use Rattle.cf_contents.specs.Stores.{Ready};
 ghost use Rattle.cf_next.specs.Views.{objects_of};
 ghost use Rattle.cf_model.specs.State.{flags_at};
 ghost use Rattle.cf_model.specs.Steps.{type_in};
 ghost use Rattle.cf_model.specs.Known.{facts_of as facts_in};
-ghost use Rattle.cf_world.specs.Grounds.{AreFirst, MayRun, deed_of, flags_of, state_of, statement_at};
+ghost use Rattle.cf_world.specs.Grounds.{AreFirst, MayRun, ReadyIf, flags_of, state_of, statement_at};
 ghost use Rattle.cf_world.specs.Entering.{IsLastAnswer, answer_of_cut};
 ghost use Rattle.std.specs.Prelude.{slice_get};
 
@@ -21,7 +20,7 @@ use cf_next::{Facts, Used};
 use cf_owncheck::Checked;
 use cf_scene::Flags;
 use cf_store::Store;
-use cf_syntax::{Script, Statement};
+use cf_syntax::{Ownership, Script, Statement};
 use std::alloc::{AllocError as NoMemory, Global};
 use std::marker::Model;
 
@@ -183,8 +182,8 @@ impl Ground {
         statement_in(self.script.script(), block, number)
     }
 
-    /// Makes room for the deed of a statement, by the objects that it uses. It is refused only for want of memory; that
-    /// changes nothing but that there may be more room.
+    /// Makes room for the deed of a statement, if it has one, by the objects that it uses. It is refused only for want of
+    /// memory; that changes nothing but that there may be more room.
     pub fn reserve_for(
         &mut self,
         alloc: Global,
@@ -195,9 +194,8 @@ impl Ground {
         ensures script { self.new.script ≡ self.old.script }
         ensures journal { self.new.journal ≡ self.old.journal }
         ensures journal_room { self.new.journal_room ≡ self.old.journal_room }
-        ensures ready { OnOk result (IfSome (statement_at self.old.script block number)
-            (λ x. self.new.ready ≡ Some (deed_of self.old.script (state_of self.old) x (objects_of used.now)))) }
-        ensures body_room { OnOk result (IfSome (statement_at self.old.script block number) (λ x. 0 < self.new.body_room)) }
+        ensures loops { self.new.loops ≡ self.old.loops }
+        ensures ready { OnOk result (ReadyIf self.new (statement_at self.new.script block number) (objects_of used.now)) }
         ensures kept { self.old.body_room ≤ self.new.body_room }
         ensures refused { OnErr result (self.new.ready ≡ self.old.ready) }
     {
@@ -205,8 +203,13 @@ impl Ground {
         let Some(statement) = statement_in(script, block, number) else {
             return Ok(());
         };
-        self.store
-            .reserve_for(alloc, script.classes(), statement, &used.objects())
+        match statement.ownership() {
+            Ownership::Keeps | Ownership::Binds(_) => {
+                self.store
+                    .reserve_for(alloc, script.classes(), statement, &used.objects())
+            }
+            Ownership::Retains(_) | Ownership::Releases(_) => Ok(()),
+        }
     }
 
     /// The answer of an entry that takes a reference to an object away, by what is left.
@@ -246,7 +249,7 @@ fn first_flags(alloc: Global, script: &Script) -> Result<Vec<Flags>, NoMemory>
 }
 
 /// The statement with a number in a block of a script.
-fn statement_in(script: &Script, block: u16, number: u32) -> Option<&Statement>
+pub(crate) fn statement_in(script: &Script, block: u16, number: u32) -> Option<&Statement>
     ensures { option_copied result ≡ statement_at script.now block number }
 {
     let block = script.block(usize::from(block))?;

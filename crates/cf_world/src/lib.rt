@@ -9,6 +9,7 @@ mod found;
 mod ground;
 mod leading;
 mod looking;
+mod loops;
 mod next;
 mod parcels;
 mod running;

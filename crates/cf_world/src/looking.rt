@@ -1,5 +1,5 @@
 //! What a thread of a world does next is found.
-ghost use Rattle.std.specs.Prelude.{◌≡◌, ℕ, ◌+◌, ◌<◌, ◌≤◌, Some, length};
+ghost use Rattle.std.specs.Prelude.{◌≡◌, ℕ, ◌+◌, ◌<◌, ◌≤◌, Some, length, if◌then◌else◌};
 ghost use Rattle.cf_ids.specs.declared.limits.TheConstants.{LARGEST_LIMIT};
 ghost use Rattle.cf_next.specs.Facts.{Facts as Known};
 ghost use Rattle.cf_next.specs.Stands.{Stand};
@@ -8,13 +8,17 @@ ghost use Rattle.cf_syntax.specs.declared.script.Script.{Script as ScriptValue};
 ghost use Rattle.cf_model.specs.Journals.{makes_line};
 ghost use Rattle.cf_world.specs.Grounds.{state_of};
 ghost use Rattle.cf_world.specs.Begun.{AreFrames, IsLooked};
+ghost use Rattle.cf_scene.specs.Needs.{acts_on_loops};
 ghost use Rattle.cf_world.specs.Kept.{IsKept, IsPlaced};
+ghost use Rattle.cf_world.specs.declared.found.Found.TheVariants as kept;
 
 use crate::found::{Found, Reserved};
 use crate::ground::Ground;
 use crate::next::Halt;
 use cf_ids::ThreadId;
-use cf_next::{Frames, Step};
+use cf_next::{Frames, Step, Used};
+use cf_scene::acts_on_loops;
+use cf_syntax::Statement;
 
 /// Looks at what a thread does next, and keeps it, or tells why it has no action that it may do. `limit` is that of the
 /// journal.
@@ -81,11 +85,11 @@ fn found_of(step: &Step, block: u16) -> Found
             place: *place,
             variable: *variable,
         },
-        Step::Says { used, number, .. } => Found::Says {
-            block,
-            number: *number,
-            used: *used,
-        },
+        Step::Says {
+            statement,
+            used,
+            number,
+        } => said(statement, block, *number, *used),
         Step::Packs {
             thread,
             place,
@@ -129,5 +133,24 @@ fn found_of(step: &Step, block: u16) -> Found
         },
         Step::Enters(phase) => Found::Enters(*phase),
         Step::Closes => Found::Closes,
+    }
+}
+
+/// A statement, as it is kept.
+fn said(statement: &Statement, block: u16, number: u32, used: Used) -> Found
+    ensures { result ≡ (if acts_on_loops statement.now then kept.Deals block number used else kept.Says block number used) }
+{
+    if acts_on_loops(statement) {
+        Found::Deals {
+            block,
+            number,
+            used,
+        }
+    } else {
+        Found::Says {
+            block,
+            number,
+            used,
+        }
     }
 }

@@ -9,7 +9,7 @@ ghost use Rattle.cf_next.specs.Turns.{test_result};
 ghost use Rattle.cf_next.specs.Views.{callee_of};
 ghost use Rattle.cf_model.specs.Known.{facts_of};
 ghost use Rattle.cf_model.specs.Steps.{activity_of, call_answer, result_answer};
-ghost use Rattle.cf_world.specs.Begun.{AreFrames, FitsItems, HasGone, IsCallOf, IsRoundFound, IsReserved, IsSpends, IsStillFound, ListsIf, still_answer, sources_of_run, standing_at};
+ghost use Rattle.cf_world.specs.Begun.{AreFrames, FitsItems, HasGone, IsCallOf, IsRoundFound, IsReserved, IsSpends, IsStillFound, HasLists, still_answer, sources_of_run, standing_at};
 ghost use Rattle.std.specs.Option.{option_and_then};
 ghost use Rattle.cf_world.specs.Entering.{IsPass, gained_in};
 ghost use Rattle.cf_world.specs.Grounds.{state_of};
@@ -58,11 +58,10 @@ pub(crate) fn go_round(
     requires no_gained { gained.old.items ≡ [] }
     requires gained_room { 2 ≤ vec_capacity gained.old }
     requires no_list { list.old.items ≡ [] }
-    requires lists { ListsIf ground.old frames.old.items (vec_capacity gained.old) (vec_capacity list.old) reserved.now }
+    requires lists { HasLists ground.old frames.old.items (vec_capacity gained.old) (vec_capacity list.old) reserved.now }
     ensures gone { HasGone reserved.now ground.old ground.new frames.new.items }
     ensures gained { gained.new.items ≡ gained_in ground.old reserved.now.thread }
     ensures gained_room { vec_capacity gained.new ≡ vec_capacity gained.old }
-    ensures few { vec_len gained.new ≤ 2 }
     ensures list_room { vec_capacity list.new ≡ vec_capacity list.old }
 {
     match reserved.found {
@@ -121,7 +120,7 @@ fn turn(
     requires enters { reserved.now.found ≡ kept.Enters phase }
     requires no_gained { gained.old.items ≡ [] }
     requires no_list { list.old.items ≡ [] }
-    requires lists { ListsIf ground.old frames.old.items (vec_capacity gained.old) (vec_capacity list.old) reserved.now }
+    requires lists { HasLists ground.old frames.old.items (vec_capacity gained.old) (vec_capacity list.old) reserved.now }
     ensures gone { HasGone reserved.now ground.old ground.new frames.new.items }
     ensures gained { gained.new.items ≡ gained_in ground.old reserved.now.thread }
     ensures none { gained.new.items ≡ [] }
@@ -235,7 +234,7 @@ fn spend(
     requires frames { AreFrames ground.old.script (state_of ground.old) frames.old.items }
     requires spends { IsSpends reserved.now.found item }
     requires no_list { list.old.items ≡ [] }
-    requires lists { ListsIf ground.old frames.old.items (vec_capacity list.old) (vec_capacity list.old) reserved.now }
+    requires lists { HasLists ground.old frames.old.items (vec_capacity list.old) (vec_capacity list.old) reserved.now }
     ensures gone { HasGone reserved.now ground.old ground.new frames.new.items }
     ensures gained { gained_in ground.old reserved.now.thread ≡ [] }
     ensures list_room { vec_capacity list.new ≡ vec_capacity list.old }
@@ -255,7 +254,7 @@ fn spend(
 }
 
 /// A list gets the number of an object so often.
-fn push_copies(list: &mut Vec<u32>, object: ObjId, times: usize)
+pub(crate) fn push_copies(list: &mut Vec<u32>, object: ObjId, times: usize)
     requires empty { list.old.items ≡ [] }
     requires room { times ≤ vec_capacity list.old }
     ensures items { list.new.items ≡ replicate times object }
@@ -283,7 +282,6 @@ fn call(
     requires gained_room { 2 ≤ vec_capacity gained.old }
     ensures gone { HasGone reserved.now ground.old ground.new frames.new.items }
     ensures gained { gained.new.items ≡ gained_in ground.old reserved.now.thread }
-    ensures few { vec_len gained.new ≤ 2 }
     ensures gained_room { vec_capacity gained.new ≡ vec_capacity gained.old }
 {
     let t = reserved.thread;

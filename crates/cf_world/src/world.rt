@@ -91,8 +91,7 @@ impl World {
 
     /// The object of each reference that the last `apply` added, one for each.
     pub fn gained(&self) -> &[ObjId]
-        ensures objects { result.now ≡ self.now.gained }
-        ensures few { length self.now.gained ≤ 2 }
+        ensures { result.now ≡ self.now.gained }
     {
         match &self.begun {
             Some(begun) => begun.gained(),

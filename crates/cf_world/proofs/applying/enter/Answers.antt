@@ -12,4 +12,4 @@ returns-in-Owes-clause-gained c = absurd (nothing_cut c.args.ground.now c.args.r
 pub go_round-requires-clause-round : goal.go_round-requires-clause-round
 go_round-requires-clause-round c =
     let n = c.in_default in
-    else_round c.args.reserved.now.found n.not-Claims n.not-Says n.not-Packs n.not-Ends n.not-Owes n.not-Drops
+    else_round c.args.reserved.now.found n.not-Claims n.not-Says n.not-Deals n.not-Packs n.not-Ends n.not-Owes n.not-Drops

@@ -1,5 +1,5 @@
 -- Answers to the goals of `applying::let_go`.
-use Rattle.std.proofs.Common.{[], arith, inl}
+use Rattle.std.proofs.Common.{[], arith, false, inl}
 use Rattle.cf_world.specs.declared.found.Found.TheVariants as kept
 use Rattle.cf_world.proofs.Going.{kept_as, list_here, no_retain, number_fits, release_gone, release_is, room_here, there_before}
 use Rattle.cf_world.proofs.applying.let_go.Goals as goal
@@ -9,14 +9,14 @@ enter_cut-requires-clause-cut c =
     let g = c.args.ground.now in
     let r = c.args.reserved.now in
     let w = c.in-Says in
-    inl (release_is g r c.requires.reserved.found w.block w.number w.used (kept_as g r (kept.Says w.block w.number w.used) c.requires.reserved.found w.is) c.args.object c.requires.cuts)
+    inl (release_is g r c.requires.reserved.found w.block w.number w.used false (kept_as g r (kept.Says w.block w.number w.used) c.requires.reserved.found w.is) c.args.object c.requires.cuts)
 
 pub say_on-requires-clause-number : goal.say_on-requires-clause-number
 say_on-requires-clause-number c =
     let g = c.args.ground.now in
     let r = c.args.reserved.now in
     let w = c.in-Says in
-    number_fits g r c.requires.reserved.found w.block w.number w.used (kept_as g r (kept.Says w.block w.number w.used) c.requires.reserved.found w.is) c.args.frames.now.items c.requires.frames
+    number_fits g r c.requires.reserved.found w.block w.number w.used false (kept_as g r (kept.Says w.block w.number w.used) c.requires.reserved.found w.is) c.args.frames.now.items c.requires.frames
 
 pub say_on-requires-clause-room : goal.say_on-requires-clause-room
 say_on-requires-clause-room c =

@@ -1,5 +1,5 @@
 -- Answers to the goals of `applying::say`.
-use Rattle.std.proofs.Common.{◌∙◌, length, None, arith, ap, sym, subst}
+use Rattle.std.proofs.Common.{◌∙◌, false, length, None, arith, ap, sym, subst}
 use Rattle.std.specs.List.{All}
 use Rattle.cf_ids.specs.Ranges.{IsObjectNumber}
 use Rattle.cf_world.specs.declared.found.Found.TheVariants as kept
@@ -11,7 +11,7 @@ say_on-requires-clause-number c =
     let g = c.args.ground.now in
     let r = c.args.reserved.now in
     let w = c.in-Says in
-    number_fits g r c.requires.reserved.found w.block w.number w.used (kept_as g r (kept.Says w.block w.number w.used) c.requires.reserved.found w.is) c.args.frames.now.items c.requires.frames
+    number_fits g r c.requires.reserved.found w.block w.number w.used false (kept_as g r (kept.Says w.block w.number w.used) c.requires.reserved.found w.is) c.args.frames.now.items c.requires.frames
 
 pub say_on-requires-clause-room : goal.say_on-requires-clause-room
 say_on-requires-clause-room c =

@@ -16,7 +16,7 @@ returns-in-Enters-clause-most c =
     let fs = c.args.frames.now in
     let t = c.args.reserved.now.thread in
     let p = c.in-Enters.phase in
-    let lent = lent_here fs t c.t.inside.0 c.index-frames-t.result _ c.index-frames-t.is c.t.view_is c.requires.thread in
+    let lent = lent_here fs t c.t.inside.0 c.index-frames-t.result _ c.index-frames-t.is c.t.view_is (omega (arith, c.requires.frames.count, c.requires.found.acts.thread)) in
     let run = ap (λ (s : Stand). innermost_run s.frames) (stand_told g fs t c.index-frames-t.result c.requires.frames lent) in
     subst (AreMost g t c.max.result) (sym c.in-Enters.is)
     (phase_more st t c.most_collected.result c.max.result p _ (omega (arith, c.max.ensures)) (subst (FitsPhase st t c.most_collected.result p) run c.most_collected.ensures))

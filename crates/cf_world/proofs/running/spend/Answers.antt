@@ -1,11 +1,10 @@
 -- Answers to the goals of `running::spend`.
 use Rattle.std.proofs.Common.{◌∙◌, length, refl, sym, ap, arith}
 use Rattle.std.proofs.lemmas.List.{length-replicate}
-use Rattle.cf_world.specs.Begun.{is_many}
 use Rattle.cf_next.specs.declared.step.Step.TheVariants as steps
 use Rattle.cf_world.specs.declared.found.Found.TheVariants as kept
 use Rattle.cf_world.proofs.Going.{kept_as, step_as}
-use Rattle.cf_world.proofs.Rounds.{as_spent, leaves_fit, many_lists, spend_gone, spends_room, spent_few}
+use Rattle.cf_world.proofs.Rounds.{as_spent, leaves_fit, spend_gone, spends_room, spent_few}
 use Rattle.cf_world.proofs.running.spend.Goals as goal
 
 pub push_copies-requires-clause-room : goal.push_copies-requires-clause-room
@@ -13,7 +12,7 @@ push_copies-requires-clause-room c =
     let g = c.args.ground.now in
     let r = c.args.reserved.now in
     let found = as_spent r.found c.args.item c.requires.spends in
-    let lists = many_lists g c.args.frames.now.items _ _ r (ap is_many found.1) c.requires.lists in
+    let lists = c.requires.lists in
     omega (arith, spent_few g c.args.item c.places_of-went.result lists.more c.places_of-went.ensures (leaves_fit g r c.args.item found.0 lists.more found.1 lists.most), lists.list_fits)
 
 pub go_on-requires-clause-step : goal.go_on-requires-clause-step
@@ -28,7 +27,7 @@ go_on-requires-clause-room c =
     let g = c.args.ground.now in
     let r = c.args.reserved.now in
     let found = as_spent r.found c.args.item c.requires.spends in
-    let lists = many_lists g c.args.frames.now.items _ _ r (ap is_many found.1) c.requires.lists in
+    let lists = c.requires.lists in
     spends_room g c.args.frames.now.items r c.requires.reserved c.args.item found.0 _ found.1 lists.more lists.room
     (omega (arith, ap length (c.as_slice.ensures.value ∙ c.push_copies.ensures.items), length-replicate c.places_of-went.result c.args.item, spent_few g c.args.item c.places_of-went.result lists.more c.places_of-went.ensures (leaves_fit g r c.args.item found.0 lists.more found.1 lists.most)))
 

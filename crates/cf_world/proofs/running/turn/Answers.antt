@@ -7,11 +7,11 @@ use Rattle.cf_next.specs.Stands.{Stand}
 use Rattle.cf_next.specs.Standing.{Standing, innermost_run}
 use Rattle.cf_model.specs.Steps.{frames_at}
 use Rattle.cf_world.specs.Grounds.{state_of}
-use Rattle.cf_world.specs.Begun.{FitsItems, is_many, sources_of_run, standing_at}
+use Rattle.cf_world.specs.Begun.{FitsItems, sources_of_run, standing_at}
 use Rattle.cf_world.specs.declared.found.Found.TheVariants as kept
 use Rattle.cf_world.proofs.Collecting.{few_collected, fits_more}
 use Rattle.cf_world.proofs.Going.{kept_as}
-use Rattle.cf_world.proofs.Rounds.{enters_room, mode_fits, many_lists, phase_passes, plain_phase, sources_room, stand_told}
+use Rattle.cf_world.proofs.Rounds.{enters_room, mode_fits, phase_passes, plain_phase, sources_room, stand_told}
 use Rattle.cf_world.proofs.running.turn.Goals as goal
 
 pub collect-requires-clause-room : goal.collect-requires-clause-room
@@ -20,7 +20,7 @@ collect-requires-clause-room c =
     let r = c.args.reserved.now in
     let t = r.thread in
     let e = c.requires.enters ∙ ap (λ (p : Phase). kept.Enters p) c.in-Sources.is in
-    let lists = many_lists g c.args.frames.now.items _ _ r (ap is_many e) c.requires.lists in
+    let lists = c.requires.lists in
     let run = ap (λ (s : Stand). innermost_run s.frames) (stand_told g c.args.frames.now.items t _ c.requires.frames (ap (λ (fs : List Standing). standing_at fs t) c.as_slice.ensures.value)) in
     subst (FitsItems (state_of g) t _) (sym run) (fits_more (state_of g) t lists.more _ _ lists.gained_fits (mode_fits g r lists.more e lists.most))
 
@@ -30,7 +30,7 @@ collect-requires-clause-list_room c =
     let r = c.args.reserved.now in
     let t = r.thread in
     let e = c.requires.enters ∙ ap (λ (p : Phase). kept.Enters p) c.in-Sources.is in
-    let lists = many_lists g c.args.frames.now.items _ _ r (ap is_many e) c.requires.lists in
+    let lists = c.requires.lists in
     let run = ap (λ (s : Stand). innermost_run s.frames) (stand_told g c.args.frames.now.items t _ c.requires.frames (ap (λ (fs : List Standing). standing_at fs t) c.as_slice.ensures.value)) in
     subst (FitsItems (state_of g) t _) (sym run) (fits_more (state_of g) t lists.more _ _ lists.list_fits (mode_fits g r lists.more e lists.most))
 
@@ -51,7 +51,7 @@ pass-requires-clause-room c =
     let t = r.thread in
     let fs = c.args.frames.now.items in
     let e = c.requires.enters ∙ ap (λ (p : Phase). kept.Enters p) c.in-Sources.is in
-    let lists = many_lists g fs _ _ r (ap is_many e) c.requires.lists in
+    let lists = c.requires.lists in
     let run = ap (λ (s : Stand). innermost_run s.frames) (stand_told g fs t _ c.requires.frames (ap (λ (xs : List Standing). standing_at xs t) c.as_slice.ensures.value)) in
     let told = c.as_slice-in-Sources.ensures.value ∙ c.collect.ensures.list ∙ ap (sources_of_run (state_of g) t) run in
     sources_room g fs r c.requires.reserved _ e lists.more lists.room

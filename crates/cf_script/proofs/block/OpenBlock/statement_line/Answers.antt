@@ -17,9 +17,9 @@ returns-in-Some c =
     let r = form_word_of c.in_ok-form_word.form_word.now in
     let h = c.is_handler-in_handler.result in
     let form = sym c.form_of.ensures.form ∙ ap found_row c.in_ok-form_word.was in
-    let line = line_by c.args.classes.now c.args.names.now c.form_of.new.self b c.args.line ws r h form c.form_of.ensures.names c.is_handler-in_handler.ensures in
-    line_gives b c.args.line (statement_in c.args.classes.now h c.form_of.new.self r ws) (with_line c.args.classes.now c.args.names.now b c.args.line ws) c.form_of.new.self c.in-Some.statement (open_block_of c.push.new.self) c.push.result
-    line (c.in-Some.ensures c.args.classes.now r form refl) c.push.ensures
+    let line = line_by c.args.classes.now c.args.threads.now c.args.names.now c.form_of.new.self b c.args.line ws r h form c.form_of.ensures.names c.is_handler-in_handler.ensures in
+    line_gives b c.args.line (statement_in c.args.classes.now c.args.threads.now h c.form_of.new.self r ws) (with_line c.args.classes.now c.args.threads.now c.args.names.now b c.args.line ws) c.form_of.new.self c.in-Some.statement (open_block_of c.push.new.self) c.push.result
+    line (c.in-Some.ensures c.args.classes.now c.args.threads.now r form refl) c.push.ensures
 
 pub returns-in-Ok : goal.returns-in-Ok
 returns-in-Ok c =
@@ -28,8 +28,8 @@ returns-in-Ok c =
     let r = form_word_of c.in_ok-form_word.form_word.now in
     let h = c.is_handler-in_handler.result in
     let form = sym c.form_of.ensures.form ∙ ap found_row c.in_ok-form_word.was in
-    let line = line_by c.args.classes.now c.args.names.now c.form_of.new.self b c.args.line ws r h form c.form_of.ensures.names c.is_handler-in_handler.ensures in
-    line_gives b c.args.line (statement_in c.args.classes.now h c.form_of.new.self r ws) (with_line c.args.classes.now c.args.names.now b c.args.line ws) c.read_statement.new.names c.in-Ok.statement (open_block_of c.push-in-Ok.new.self) c.push-in-Ok.result
+    let line = line_by c.args.classes.now c.args.threads.now c.args.names.now c.form_of.new.self b c.args.line ws r h form c.form_of.ensures.names c.is_handler-in_handler.ensures in
+    line_gives b c.args.line (statement_in c.args.classes.now c.args.threads.now h c.form_of.new.self r ws) (with_line c.args.classes.now c.args.threads.now c.args.names.now b c.args.line ws) c.read_statement.new.names c.in-Ok.statement (open_block_of c.push-in-Ok.new.self) c.push-in-Ok.result
     line c.in-Ok.ensures c.push-in-Ok.ensures
 
 pub returns-in-Err : goal.returns-in-Err
@@ -39,5 +39,5 @@ returns-in-Err c =
     let r = form_word_of c.in_ok-form_word.form_word.now in
     let h = c.is_handler-in_handler.result in
     let form = sym c.form_of.ensures.form ∙ ap found_row c.in_ok-form_word.was in
-    let line = line_by c.args.classes.now c.args.names.now c.form_of.new.self b c.args.line ws r h form c.form_of.ensures.names c.is_handler-in_handler.ensures in
-    line_fails b c.args.line (statement_in c.args.classes.now h c.form_of.new.self r ws) (with_line c.args.classes.now c.args.names.now b c.args.line ws) c.in-Err.fault line c.in-Err.ensures
+    let line = line_by c.args.classes.now c.args.threads.now c.args.names.now c.form_of.new.self b c.args.line ws r h form c.form_of.ensures.names c.is_handler-in_handler.ensures in
+    line_fails b c.args.line (statement_in c.args.classes.now c.args.threads.now h c.form_of.new.self r ws) (with_line c.args.classes.now c.args.threads.now c.args.names.now b c.args.line ws) c.in-Err.fault line c.in-Err.ensures

@@ -11,5 +11,5 @@ use Rattle.cf_script.proofs.block.Reader.place_line.Goals as goal
 pub returns-in-Some-2 : goal.returns-in-Some-2
 returns-in-Some-2 c =
     let word = ap (λ (w : List ℕ). bytes_eq w (codes "end")) (sym c.word_at.ensures) ∙ sym c.is.ensures ∙ c.if-is.false in
-    let line = line_placed (reading_of c.args.self.now) (open_block_of c.in-Some.field-0) (lent c.args.words.now) c.statement_line.result c.statement_line.new.names (open_block_of c.statement_line.new.self) c.statement_line.ensures in
-    placed (reading_of c.args.self.now) _ _ (open_block_of c.in-Some.field-0) (lent c.args.words.now) c.statement_line.result (ap (option_map open_block_of) c.in-Some.is) word line
+    let line = line_placed c.args.threads.now (reading_of c.args.self.now) (open_block_of c.in-Some.field-0) (lent c.args.words.now) c.statement_line.result c.statement_line.new.names (open_block_of c.statement_line.new.self) c.statement_line.ensures in
+    placed c.args.threads.now (reading_of c.args.self.now) _ _ (open_block_of c.in-Some.field-0) (lent c.args.words.now) c.statement_line.result (ap (option_map open_block_of) c.in-Some.is) word line

@@ -33,7 +33,7 @@ raise-requires-clause-made c =
     let w = c.apply.new.self in
     let is = entered_is r run c.args.t p.action pick p.acts w (λ before gained. gained) c.apply.ensures.entered in
     let made = c.made.ensures ∙ made_is r run c.args.t p.action pick p.acts p.cut_is w _ is in
-    rw (c.gained.ensures.objects, is)
+    rw (c.gained.ensures, is)
     (gain_made r run c.args.t p.action pick p.acts p.cut_is c.grow.new.self.items (c.grow.ensures.size ∙ made) c.grow.ensures.old
     (λ o least most. c.grow.ensures.new o least (omega (arith, made, most))))
 
@@ -46,9 +46,9 @@ raise-requires-clause-fits c =
     let w = c.apply.new.self in
     let is = entered_is r run c.args.t p.action pick p.acts w (λ before gained. gained) c.apply.ensures.entered in
     let made = c.made.ensures ∙ made_is r run c.args.t p.action pick p.acts p.cut_is w _ is in
-    rw (c.gained.ensures.objects, is)
+    rw (c.gained.ensures, is)
     (gain_fits r run c.args.t p.action pick p.acts p.cut_is c.grow.new.self.items (c.grow.ensures.size ∙ made) c.grow.ensures.old
-    (λ o least most. c.grow.ensures.new o least (omega (arith, made, most))) (rw is at c.gained.ensures.few))
+    (λ o least most. c.grow.ensures.new o least (omega (arith, made, most))))
 
 pub returns-clause-step : goal.returns-clause-step
 returns-clause-step c =
@@ -62,7 +62,7 @@ returns-clause-step c =
     subst (λ (p : ℕ). IsStep r (record { world = w; threads = r.threads; pointer = p + 1; numbers = c.raise.new.self; stalled = r.stalled })) (sym c.t.view_is)
     (run_gained r run c.args.t p.action pick p.acts p.cut_is c.grow.new.self.items (c.grow.ensures.size ∙ made) c.grow.ensures.old
     (λ o least most. c.grow.ensures.new o least (omega (arith, made, most)))
-    w c.raise.new.self is (rw is at c.gained.ensures.few) c.raise.ensures.size (rw (c.gained.ensures.objects, is) at c.raise.ensures.at))
+    w c.raise.new.self is c.raise.ensures.size (rw (c.gained.ensures, is) at c.raise.ensures.at))
 
 pub returns-clause-clock : goal.returns-clause-clock
 returns-clause-clock c = λ now.

@@ -25,7 +25,7 @@ invariant_of-self c =
     let same = thread_here w c.args.self.now c.args.t c.self.view_is c.self.invariant r (room_here w c.args.self.now c.args.t c.self.view_is c.requires.room) c.requires.room in
     let has = reserved_here w c.args.self.now c.args.t c.self.view_is c.self.invariant r (room_here w c.args.self.now c.args.t c.self.view_is c.requires.room) in
     let acts = acts_here w c.args.self.now c.args.t c.self.view_is c.self.invariant r (λ a. cut_of a ≡ None) same c.requires.acts in
-    begun_after w c.self.invariant r has.found (λ a. cut_of a ≡ None) acts _ refl c.enter.ensures.gone refl (omega arith) (omega arith) (omega arith)
+    begun_after w c.self.invariant r has.found (λ a. cut_of a ≡ None) acts _ refl c.enter.ensures.gone refl (omega arith) (omega arith)
 
 pub returns-clause-entered : goal.returns-clause-entered
 returns-clause-entered c =
@@ -36,4 +36,4 @@ returns-clause-entered c =
     let acts = acts_here w c.args.self.now c.args.t c.self.view_is c.self.invariant r (λ a. cut_of a ≡ None) same c.requires.acts in
     let after : Inside = record { ground = c.enter.new.ground; frames = c.enter.new.frames; limit = w.limit; gained = c.enter.new.gained; list = c.enter.new.list; looked = w.looked; reserved = w.reserved; has_room = false } in
     applied_here w c.args.self.now c.args.t c.self.view_is c.self.invariant r (view_of after) same
-    (applied_view w c.self.invariant r has.found (λ a. cut_of a ≡ None) acts after refl c.enter.ensures.gone refl (omega arith) (omega arith) (omega arith) c.enter.ensures.gained)
+    (applied_view w c.self.invariant r has.found (λ a. cut_of a ≡ None) acts after refl c.enter.ensures.gone refl (omega arith) (omega arith) c.enter.ensures.gained)

@@ -23,7 +23,7 @@ invariant_of-self c =
     let r = c.look.new.kept in
     let h = c.in-Ok.ensures in
     let acts = acts_here w c.args.self.now c.args.t c.self.view_is c.self.invariant r (λ a. retained_by a ≡ Some c.args.o) h.1 c.requires.acts in
-    begun_after w c.self.invariant r h.0 (λ a. retained_by a ≡ Some c.args.o) acts _ refl c.retain.ensures.gone refl (omega arith) (omega arith) (omega arith)
+    begun_after w c.self.invariant r h.0 (λ a. retained_by a ≡ Some c.args.o) acts _ refl c.retain.ensures.gone refl (omega arith) (omega arith)
 
 pub returns-clause-entered : goal.returns-clause-entered
 returns-clause-entered c =
@@ -33,4 +33,4 @@ returns-clause-entered c =
     let acts = acts_here w c.args.self.now c.args.t c.self.view_is c.self.invariant r (λ a. retained_by a ≡ Some c.args.o) h.1 c.requires.acts in
     let after : Inside = record { ground = c.retain.new.ground; frames = c.retain.new.frames; limit = w.limit; gained = w.gained; list = w.list; looked = c.look.new.kept; reserved = w.reserved; has_room = false } in
     entered_here w c.args.self.now c.args.t c.self.view_is c.self.invariant r (view_of after) h.1
-    (entered_view w c.self.invariant r h.0 (λ a. retained_by a ≡ Some c.args.o) acts after refl c.retain.ensures.gone refl (omega arith) (omega arith) (omega arith) refl)
+    (entered_view w c.self.invariant r h.0 (λ a. retained_by a ≡ Some c.args.o) acts after refl c.retain.ensures.gone refl (omega arith) (omega arith) refl)

@@ -29,7 +29,7 @@ invariant_of-self c =
     let same = thread_here w c.args.self.now c.args.t c.self.view_is c.self.invariant r (room_here w c.args.self.now c.args.t c.self.view_is c.requires.room) c.requires.room in
     let has = reserved_here w c.args.self.now c.args.t c.self.view_is c.self.invariant r (room_here w c.args.self.now c.args.t c.self.view_is c.requires.room) in
     let acts = acts_here w c.args.self.now c.args.t c.self.view_is c.self.invariant r (λ a. cut_of a ≡ Some c.args.o) same c.requires.acts in
-    begun_after w c.self.invariant r has.found (λ a. cut_of a ≡ Some c.args.o) acts _ refl c.cut.ensures.gone refl (omega arith) (omega arith) (omega arith)
+    begun_after w c.self.invariant r has.found (λ a. cut_of a ≡ Some c.args.o) acts _ refl c.cut.ensures.gone refl (omega arith) (omega arith)
 
 pub returns-clause-entered : goal.returns-clause-entered
 returns-clause-entered c =
@@ -40,4 +40,4 @@ returns-clause-entered c =
     let acts = acts_here w c.args.self.now c.args.t c.self.view_is c.self.invariant r (λ a. cut_of a ≡ Some c.args.o) same c.requires.acts in
     let after : Inside = record { ground = c.cut.new.ground; frames = c.cut.new.frames; limit = w.limit; gained = w.gained; list = w.list; looked = w.looked; reserved = w.reserved; has_room = false } in
     entered_here w c.args.self.now c.args.t c.self.view_is c.self.invariant r (view_of after) same
-    (entered_view w c.self.invariant r has.found (λ a. cut_of a ≡ Some c.args.o) acts after refl c.cut.ensures.gone refl (omega arith) (omega arith) (omega arith) refl)
+    (entered_view w c.self.invariant r has.found (λ a. cut_of a ≡ Some c.args.o) acts after refl c.cut.ensures.gone refl (omega arith) (omega arith) refl)

@@ -33,7 +33,7 @@ pub returns-clause-entered : goal.returns-clause-entered
 returns-clause-entered c =
     let acts = rw (← c.self.view_is) at c.requires.acts in
     let binding = rw (← c.self.view_is) at c.requires.binding in
-    rw (← c.self.view_is) (has_written c.self.inside c.args.t c.args.action acts c.push_reserved.new.self _ _
+    rw (← c.self.view_is) (has_written c.self.inside c.args.t c.args.action acts c.push_reserved.new.self _ _ _
     (c.push_reserved.ensures.items ∙ ap (λ e. c.self.inside.journal.items ++ e ∷ []) (bound_entry c.self.inside c.args.t c.args.action c.self.invariant acts binding
     c.apply-otherwise.result c.apply-otherwise.new.self.bodies c.apply-otherwise.ensures.deed c.apply-otherwise.ensures.bodies _ _ c.found-object.ensures.object c.answer_of_binding-answer.ensures))
     c.push_reserved.ensures.capacity)

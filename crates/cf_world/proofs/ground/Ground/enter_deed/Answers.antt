@@ -19,7 +19,7 @@ invariant_of-self c =
 pub returns-clause-entered : goal.returns-clause-entered
 returns-clause-entered c =
     let deed = rw (← c.self.view_is) at c.requires.deed in
-    rw (← c.self.view_is) (has_written c.self.inside c.args.t c.args.action (rw (← c.self.view_is) at c.requires.acts) c.push_reserved.new.self _ _
+    rw (← c.self.view_is) (has_written c.self.inside c.args.t c.args.action (rw (← c.self.view_is) at c.requires.acts) c.push_reserved.new.self _ _ _
     (c.push_reserved.ensures.items ∙ ap (λ e. c.self.inside.journal.items ++ e ∷ []) (dealt_entry c.self.inside c.args.t c.self.invariant deed c.args.action c.apply-answer.result c.apply-answer.ensures.deed))
     c.push_reserved.ensures.capacity)
 

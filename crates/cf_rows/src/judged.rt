@@ -9,7 +9,7 @@ use cf_syntax::Script;
 use std::alloc::{AllocError, Global};
 use std::io;
 
-// A longer journal is not judged.
+// A longer journal is cut there before it is judged.
 const LONGEST: usize = 10_000;
 
 // A longer journal is judged as it is, and not changed.
@@ -85,12 +85,12 @@ struct Trial<'a> {
     change: Change,
 }
 
-/// Judges the journal of a case, if its script is run to the end in few enough entries, and changes of it.
+/// Judges the journal of a case, its first entries if it is a long one, and changes of it.
 pub fn judge(rt: &HostRuntime, file: &str, case: &Case, judged: &mut Judged) -> io::Result<()> {
     let Some(ran) = run_of_script(rt.alloc(), &case.script, LONGEST as u64)? else {
         return Ok(());
     };
-    if !matches!(ran.ending, Ending::Done) {
+    if !matches!(ran.ending, Ending::Done | Ending::Limit) {
         return Ok(());
     }
     let mut entries = ran.journal;
